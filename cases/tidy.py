@@ -41,11 +41,50 @@ fn show(mut place: &mut u32, row: &[u8]) {
     let place: u64 = 0;
 }
 """
+GIVEN = """fn place_of(text: &str) -> Option<Span> {
+    text.find()
+}
+
+fn nearest_place(text: &str) -> Result<Place<'_>, Memory>
+    ensures { IfOk result (λ p. p ≡ place_in text.now) }
+{
+    text.place()
+}
+
+fn is_place(text: &str) -> bool {
+    false
+}
+
+fn judge_places(text: &str) -> Mistake {
+    text.mistake()
+}
+
+fn pair_of_places(text: &str) -> (Span, Span) {
+    text.two()
+}
+"""
+GIVES = """abbrev pub place_in : List ℕ → (Span → ℕ)
+    → Span
+place_in text f = first text
+
+places : List ℕ → List PlaceModel
+places text = []
+
+row_at : List ℕ → ℕ → Option ℕ
+row_at row k = slice_get row k
+
+rows : List Kind → List Symbol
+rows kinds = []
+
+in_a_list : List Kind → Symbol
+in_a_list kinds = kinds
+"""
 PAGE = 'See `low/src/lib.rt`, `low/src/gone.rt`, `old/src/lib.rt`, `low::sum`, `low::missing`, `out/program` and `NAME/src/lib.rt`.\n'
 FILES = {'crates.txt': 'low:\nhigh: low\n', 'README.md': PAGE, 'docs/ARCHITECTURE.md': GLOSSARY,
-         'crates/low/src/lib.rt': CODE, 'crates/low/src/named.rt': NAMED, 'crates/high/src/lib.rt': OTHER,
-         'crates/low/specs/Wide.antt': DEFINITION, 'crates/high/specs/Long.antt': '-- A line.\n' * 401,
-         'bench/times.py': '# %s\n' % ('ä' * 139), 'crates/low/proofs/Lemmas.antt': LEMMAS, 'crates/high/proofs/Lemmas.antt': AGAIN}
+         'crates/low/src/lib.rt': CODE, 'crates/low/src/named.rt': NAMED, 'crates/low/src/given.rt': GIVEN, 'crates/high/src/lib.rt': OTHER,
+         'crates/low/specs/Wide.antt': DEFINITION, 'crates/low/specs/Gives.antt': GIVES,
+         'crates/high/specs/Long.antt': '-- A line.\n' * 401, 'bench/times.py': '# %s\n' % ('ä' * 139),
+         'crates/low/proofs/Lemmas.antt': LEMMAS, 'crates/high/proofs/Lemmas.antt': AGAIN}
 FOUND = ['crates/low/src/lib.rt:3 no doc comment on Bare, it is public',
          'crates/low/src/lib.rt:8 long function told, 43 lines', 'crates/low/src/lib.rt:8 many arguments of told, 7 arguments',
          'crates/low/src/lib.rt:8 bare participle told, name it by a verb or by what it returns',
@@ -54,6 +93,8 @@ FOUND = ['crates/low/src/lib.rt:3 no doc comment on Bare, it is public',
          'crates/high/proofs/Lemmas.antt:1 lemma second twice, also crates/low/proofs/Lemmas.antt:1',
          'crates/low/src/named.rt:4 list of type usize, the glossary has u8',
          'crates/low/src/named.rt:8 place of type u32, the glossary has Place',
+         'crates/low/src/given.rt:1 place_of gives Option<Span>, the glossary has Place',
+         'crates/low/specs/Gives.antt:1 place_in gives Span, the glossary has Place',
          'bench/times.py:1 wide line in a script, 141 columns', 'README.md:1 unknown name low/src/gone.rt, nothing here is called so',
          'README.md:1 unknown name old/src/lib.rt, nothing here is called so',
          'README.md:1 unknown name low::missing, nothing here is called so']

@@ -137,7 +137,7 @@ fn is_each_once(done: &[Done<u32>]) -> bool {
 }
 
 /// Seats that tell their places: they count from a thousand times their place on.
-fn numbered_seats(alloc: Global, count: u64) -> Result<Vec<u64>, Fail> {
+fn numbers_of_seats(alloc: Global, count: u64) -> Result<Vec<u64>, Fail> {
     let mut seats = Vec::new(alloc);
     for place in 0..count {
         seats.push(place.wrapping_mul(1000))?;
@@ -164,7 +164,7 @@ fn each_task_is_run_once(rt: HostRuntime) -> Result<(), Fail> {
             entered: AtomicU64::new(0),
         };
         let job = Numbers { refused: NONE };
-        let begun = numbered_seats(rt.alloc(), count as u64)?;
+        let begun = numbers_of_seats(rt.alloc(), count as u64)?;
         let tasks = seven(rt.alloc())?;
         let Ok((seats, done)) = share_out(&rt, rt.alloc(), tasks, begun, &job, &gate) else {
             return Err(Fail::from("not shared out"));

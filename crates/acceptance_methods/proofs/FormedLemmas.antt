@@ -4,9 +4,9 @@ use Rattle.std.specs.Prelude.{IfSome}
 use Rattle.std.specs.Global.{Vec}
 use Rattle.program.specs.Methods.{MethodModel, VariableModel, method_model}
 use Rattle.program.specs.Parts.{contract_model}
-use Rattle.program.specs.Programs.{rows}
+use Rattle.program.specs.Programs.{kind_lists}
 use Rattle.program.specs.Scopes.{Grows}
-use Rattle.program.specs.Statements.{statement_row}
+use Rattle.program.specs.Statements.{statement_sequence}
 use Rattle.program.specs.WellFormed.{AreStatements, AreWellFormed, Setting, in_loop, is_parameter, reached, setting}
 use Rattle.program.specs.declared.contract.Contract.{Contract}
 use Rattle.program.specs.declared.kind.HeapKind.{HeapKind}
@@ -32,7 +32,7 @@ stays = record { count = 0; by = refl }
 abbrev inside : Setting
 inside = in_loop (reached (setting [] [] structs (method ∷ []) method None) (Some record { 0 = 1 }))
 
-turn : AreStatements inside (statement_row (new 0 [] ∷ exchange ∷ deletes 0 ∷ [])) (Some record { 0 = 1 })
+turn : AreStatements inside (statement_sequence (new 0 [] ∷ exchange ∷ deletes 0 ∷ [])) (Some record { 0 = 1 })
 turn = (
   Some record { 0 = 1 },
   (
@@ -101,11 +101,11 @@ is_well_formed = record {
 }
 
 -- the same of what lies in memory
-pub made_well_formed : (contracts : List Contract) (messages fields : List (Vec HeapKind)) (methods : List Method) → contracts ≡ [] → messages ≡ [] → rows fields ≡ structs
-    → map method_model methods ≡ method ∷ [] → AreWellFormed (map contract_model contracts) (rows messages) (rows fields) (map method_model methods)
+pub made_well_formed : (contracts : List Contract) (messages fields : List (Vec HeapKind)) (methods : List Method) → contracts ≡ [] → messages ≡ [] → kind_lists fields ≡ structs
+    → map method_model methods ≡ method ∷ [] → AreWellFormed (map contract_model contracts) (kind_lists messages) (kind_lists fields) (map method_model methods)
 made_well_formed contracts messages fields methods no_contract no_message told is =
-    subst (λ (cs : List Contract). AreWellFormed (map contract_model cs) (rows messages) (rows fields) (map method_model methods)) (sym no_contract)
-    (subst (λ (ms : List (Vec HeapKind)). AreWellFormed [] (rows ms) (rows fields) (map method_model methods)) (sym no_message)
+    subst (λ (cs : List Contract). AreWellFormed (map contract_model cs) (kind_lists messages) (kind_lists fields) (map method_model methods)) (sym no_contract)
+    (subst (λ (ms : List (Vec HeapKind)). AreWellFormed [] (kind_lists ms) (kind_lists fields) (map method_model methods)) (sym no_message)
     (subst (λ (ks : List (List HeapKind)). AreWellFormed [] [] ks (map method_model methods)) (sym told)
     (subst (λ (ms : List MethodModel). AreWellFormed [] [] structs ms) (sym is) is_well_formed)))
 

@@ -2,7 +2,7 @@
 use Rattle.std.specs.Prelude.{ℕ, List, [], ◌∷◌, Option, Some, None, false}
 use Rattle.source.specs.declared.place.Place.{Place}
 use Rattle.program.specs.Methods.{MethodModel, VariableModel}
-use Rattle.program.specs.Statements.{StatementModel, Simple, New, While, Test, Braces, statement_row}
+use Rattle.program.specs.Statements.{StatementModel, Simple, New, While, Test, Braces, statement_sequence}
 use Rattle.program.specs.declared.kind.HeapKind.{HeapKind}
 use Rattle.program.specs.declared.kind.HeapKind.TheVariants.{Struct}
 use Rattle.program.specs.declared.method.Role.TheVariants.{Local}
@@ -41,7 +41,7 @@ exchange = acts (does.Exchange record { place = at; holder = mention 1; field = 
 
 -- A new block goes into the field, and the one that comes out of it is deleted.
 abbrev pub turns : StatementModel
-turns = While (Test at [] Either (Braces (statement_row (new 0 [] ∷ exchange ∷ deletes 0 ∷ [])) None))
+turns = While (Test at [] Either (Braces (statement_sequence (new 0 [] ∷ exchange ∷ deletes 0 ∷ [])) None))
 
 abbrev pub method : MethodModel
 method = record {
@@ -50,7 +50,7 @@ method = record {
   gives = false;
   result = None;
   variables = variable 0 None ∷ variable 1 (Some record { 0 = 0 }) ∷ [];
-  statements = statement_row (new 0 [] ∷ new 1 (mention 0 ∷ []) ∷ turns ∷ deletes 1 ∷ []);
+  statements = statement_sequence (new 0 [] ∷ new 1 (mention 0 ∷ []) ∷ turns ∷ deletes 1 ∷ []);
   scope = Some record { 0 = 1 };
   close = at;
 }

@@ -3,10 +3,10 @@
 ghost use Rattle.std.specs.Prelude.{◌≡◌, IfOk, length};
 ghost use Rattle.rules.specs.Programs.{model_of};
 
-use contracts::{Judged, Sound, edges};
+use contracts::{Judged, Sound, contract_at};
 use names::resolve;
 use program::{ContractId, MessageId, MethodId, Side, StateId};
-use rules::{Leaf, Onward, Outcome, Program, Row, Spare, entry, step, step_in_place};
+use rules::{Leaf, Onward, Outcome, Program, Row, Spare, entry_pair, step, step_in_place};
 use source::lex;
 use std::alloc::Global;
 use std::test::Fail;
@@ -35,7 +35,7 @@ fn with_contract(alloc: Global, text: &str) -> Result<Program, Fail>
     if resolved.contracts.len() != 1 {
         return Err(Fail::from("not one contract"));
     }
-    let contract = edges(&resolved, ContractId(0));
+    let contract = contract_at(&resolved, ContractId(0));
     let Judged::Sound(sound) = Sound::judge(alloc, contract)? else {
         return Err(Fail::from("not sound"));
     };
@@ -57,7 +57,7 @@ fn sends_by_the_contract(rt: HostRuntime) -> Result<(), Fail> {
         sound.state_after_send(Side::Imp, sound.first(), MessageId(0)),
         Some(StateId(1))
     );
-    let (point, row) = entry(rt.alloc(), &program, MethodId(0))?;
+    let (point, row) = entry_pair(rt.alloc(), &program, MethodId(0))?;
     assert!(rt; point == 2);
     assert!(rt; row.leaves() == [Leaf::State(0)].as_slice());
     match step(rt.alloc(), &program, MethodId(0), point, &row)? {
@@ -88,7 +88,7 @@ fn are_ways(ways: &[(usize, Row)]) -> bool {
 #[test]
 fn a_switch_goes_the_same_ways_with_rows_to_spare(rt: HostRuntime) -> Result<(), Fail> {
     let program = with_contract(rt.alloc(), WAITS)?;
-    let (point, mut row) = entry(rt.alloc(), &program, MethodId(0))?;
+    let (point, mut row) = entry_pair(rt.alloc(), &program, MethodId(0))?;
     let mut spare = Spare::new(rt.alloc());
     for _ in 0..2 {
         let onward = step_in_place(&program, MethodId(0), point, &mut row, &mut spare)?;

@@ -3,7 +3,7 @@
 
 ghost use Rattle.std.specs.Prelude.{◌≡◌, [], ◌∷◌, IfOk, length, map};
 ghost use Rattle.program.specs.Methods.{method_model, variable_model};
-ghost use Rattle.program.specs.Programs.{contracts_model, methods_model, rows, structs_model};
+ghost use Rattle.program.specs.Programs.{contracts_model, methods_model, kind_lists, structs_model};
 ghost use Rattle.program.specs.Statements.{statement_model};
 ghost use Rattle.rules.specs.Programs.{model_of};
 ghost use Rattle.acceptance_methods.specs.Exchanges as told;
@@ -36,7 +36,7 @@ fn mention(variable: usize) -> Mention
 
 /// What each struct has in its fields that own.
 fn structs(alloc: Global) -> Result<Vec<Vec<HeapKind>>, Memory>
-    ensures { IfOk result (λ structs. rows structs.items ≡ told.structs) }
+    ensures { IfOk result (λ structs. kind_lists structs.items ≡ told.structs) }
 {
     let mut fields = Vec::new(alloc);
     fields.push(HeapKind::Struct(StructId(0)))?;

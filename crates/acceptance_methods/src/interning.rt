@@ -3,8 +3,8 @@
 ghost use Rattle.std.specs.Prelude.{◌≡◌, IfOk, IfSome};
 ghost use Rattle.intern.specs.Seats.{IsSeatOf};
 
-use intern::laws::a_token_names_its_row_for_good;
-use intern::{InternFault, InternNew, Rows, Seat, Token, word_of};
+use intern::laws::an_id_names_its_row_for_good;
+use intern::{InternFault, InternNew, RowId, Rows, Seat, word_of};
 use rules::{Leaf, Row};
 use std::alloc::Global;
 use std::test::Fail;
@@ -41,29 +41,29 @@ fn row_of_two(alloc: Global, first: Leaf, second: Leaf) -> Result<Row, Fail> {
 }
 
 /// Interns all 81 rows, in an order of its own: first the row 0, then each row that is `by` further, in a ring.
-fn intern_all(alloc: Global, rows: &Rows, mut seat: Seat, by: usize) -> Option<(Seat, Vec<Token>)>
+fn intern_all(alloc: Global, rows: &Rows, mut seat: Seat, by: usize) -> Option<(Seat, Vec<RowId>)>
     requires { IsSeatOf rows.now seat }
     ensures { IfSome result (λ r. IsSeatOf rows.now r.0) }
 {
-    let mut tokens = vec![in alloc; Token::Empty; 81].ok()?;
-    if by > 1000 || tokens.len() != 81 {
+    let mut ids = vec![in alloc; RowId::Empty; 81].ok()?;
+    if by > 1000 || ids.len() != 81 {
         return None;
     }
     for k in 0..81 {
         let number = k * by % 81;
         let row = row_of_four(alloc, number)?;
-        let Ok(token) = rows.intern(&mut seat, &row) else {
+        let Ok(row_id) = rows.intern(&mut seat, &row) else {
             return None;
         };
-        if number < tokens.len() {
-            tokens[number] = token;
+        if number < ids.len() {
+            ids[number] = row_id;
         }
     }
-    Some((seat, tokens))
+    Some((seat, ids))
 }
 
-/// A seat that knows what two threads know, and the tokens that each gave.
-type OfTwo = (Seat, Vec<Token>, Vec<Token>);
+/// A seat that knows what two threads know, and the ids that each gave.
+type OfTwo = (Seat, Vec<RowId>, Vec<RowId>);
 
 /// Two threads intern all rows, each in an order of its own.
 fn in_two<R: Threads>(
@@ -93,13 +93,13 @@ fn in_two<R: Threads>(
     Some((whole, first, second))
 }
 
-/// The tokens that four threads give.
+/// The ids that four threads give.
 fn in_four<R: Threads + Sync>(
     rt: &R,
     alloc: Global,
     rows: &Rows,
     seat: Seat,
-) -> Option<[Vec<Token>; 4]>
+) -> Option<[Vec<RowId>; 4]>
     requires { IsSeatOf rows.now seat }
 {
     let Ok((left, right)) = rows.split(seat) else {
@@ -129,13 +129,13 @@ fn a_full_table_refuses_and_keeps(rt: HostRuntime) -> Result<(), Fail> {
     let Ok((rows, mut seat)) = Rows::new(alloc, 2) else {
         return Err(Fail::from("no table"));
     };
-    let Ok(token) = rows.intern(&mut seat, &first) else {
+    let Ok(row_id) = rows.intern(&mut seat, &first) else {
         return Err(Fail::from("no room"));
     };
     assert!(rt; rows.intern(&mut seat, &second) == Err(InternFault::Full));
-    assert!(rt; rows.intern(&mut seat, &first) == Ok(token));
-    a_token_names_its_row_for_good();
-    let read = rows.row_of(alloc, &mut seat, token)?;
+    assert!(rt; rows.intern(&mut seat, &first) == Ok(row_id));
+    an_id_names_its_row_for_good();
+    let read = rows.row_of(alloc, &mut seat, row_id)?;
     assert!(rt; read == first);
     Ok(())
 }
@@ -158,7 +158,7 @@ fn seats_that_are_joined_agree(rt: HostRuntime) -> Result<(), Fail> {
     let Ok(mut whole) = rows.join(left, right) else {
         return Err(Fail::from("not joined"));
     };
-    a_token_names_its_row_for_good();
+    an_id_names_its_row_for_good();
     let read = rows.row_of(alloc, &mut whole, second)?;
     assert!(rt; read == row);
     Ok(())
@@ -183,7 +183,7 @@ fn a_table_has_its_limits(rt: HostRuntime) {
     assert!(rt; table(alloc, 1).is_ok());
 }
 
-/// This is run with each growth of memory refused in turn: a token stands as before, and its row is read once more.
+/// This is run with each growth of memory refused in turn: an id stands as before, and its row is read once more.
 #[test]
 fn a_row_is_read_again_where_memory_was_refused(rt: HostRuntime) -> Result<(), Fail> {
     let alloc = rt.alloc();
@@ -191,21 +191,21 @@ fn a_row_is_read_again_where_memory_was_refused(rt: HostRuntime) -> Result<(), F
     let Ok((rows, mut seat)) = table(alloc, 4) else {
         return Err(Fail::from("no table"));
     };
-    let Ok(token) = rows.intern_near(&mut seat, &row) else {
+    let Ok(row_id) = rows.intern_near(&mut seat, &row) else {
         return Err(Fail::from("no room"));
     };
-    a_token_names_its_row_for_good();
-    let read = match rows.row_of(alloc, &mut seat, token) {
+    an_id_names_its_row_for_good();
+    let read = match rows.row_of(alloc, &mut seat, row_id) {
         Ok(read) => read,
-        Err(_) => rows.row_of(alloc, &mut seat, token)?,
+        Err(_) => rows.row_of(alloc, &mut seat, row_id)?,
     };
     assert!(rt; read == row);
     let mut over = Row::empty(alloc);
-    if rows.read(&mut seat, token, &mut over).is_err() {
-        rows.read(&mut seat, token, &mut over)?;
+    if rows.read(&mut seat, row_id, &mut over).is_err() {
+        rows.read(&mut seat, row_id, &mut over)?;
     }
     assert!(rt; over == row);
-    assert!(rt; rows.intern(&mut seat, &row) == Ok(token));
+    assert!(rt; rows.intern(&mut seat, &row) == Ok(row_id));
     Ok(())
 }
 

@@ -10,7 +10,7 @@ use program::{
     Action, HeapKind, MOST_STATES, MOST_VARIABLES, Mention, Method, MethodId, Methods, Role,
     Simple, Statement, StructId, VarId, Variable,
 };
-use rules::{Leaf, Outcome, Program, Row, entry, step};
+use rules::{Leaf, Outcome, Program, Row, entry_pair, step};
 use source::{Memory, Place, lex};
 use std::alloc::Global;
 use std::test::Fail;
@@ -153,7 +153,7 @@ fn steps_by_the_rule_table(rt: HostRuntime) -> Result<(), Fail> {
     let program = only(rt.alloc(), FREED_AND_READ)?;
     assert!(rt; program.methods().len() == 1);
     assert!(rt; program.graph(MethodId(0)).first == 3);
-    let (point, row) = entry(rt.alloc(), &program, MethodId(0))?;
+    let (point, row) = entry_pair(rt.alloc(), &program, MethodId(0))?;
     assert!(rt; point == 3);
     assert!(rt; row.leaves() == [Leaf::Block, Leaf::Nothing].as_slice());
     match step(rt.alloc(), &program, MethodId(0), point, &row)? {

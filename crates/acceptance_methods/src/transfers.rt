@@ -3,7 +3,9 @@
 use crate::steps::{FREED_AND_READ, only};
 use intern::{code_of, leaf_at};
 use program::{MethodId, VarId};
-use rules::{Leaf, Onward, Outcome, Row, Spare, Transfer, entry, step, step_in_place, transfer_at};
+use rules::{
+    Leaf, Onward, Outcome, Row, Spare, Transfer, entry_pair, step, step_in_place, transfer_at,
+};
 use source::{Code, Place};
 use std::alloc::Global;
 use std::test::Fail;
@@ -70,7 +72,7 @@ fn a_transfer_is_not_allowed_to_all_rows(rt: HostRuntime) -> Result<(), Fail> {
 #[test]
 fn a_step_in_place_changes_its_row(rt: HostRuntime) -> Result<(), Fail> {
     let program = only(rt.alloc(), FREED_AND_READ)?;
-    let (point, mut row) = entry(rt.alloc(), &program, MethodId(0))?;
+    let (point, mut row) = entry_pair(rt.alloc(), &program, MethodId(0))?;
     let mut spare = Spare::new(rt.alloc());
     match step_in_place(&program, MethodId(0), point, &mut row, &mut spare)? {
         Onward::Changed(behind) => assert!(rt; behind == 2),

@@ -3,7 +3,7 @@
 ghost use Rattle.std.specs.Prelude.{◌≡◌, ◌<◌, IfOk, length};
 ghost use Rattle.rules.specs.Programs.{model_of};
 
-use contracts::{Judged, Sound, edges};
+use contracts::{Judged, Sound, contract_at};
 use machine::{Event, Fault, Halt, Owner, Replayed, World, replay};
 use names::resolve;
 use program::{ContractId, MethodId};
@@ -89,7 +89,7 @@ fn with_one_contract(alloc: Global, text: &str) -> Result<Program, Fail>
     if resolved.contracts.len() != 1 {
         return Err(Fail::from("not one contract"));
     }
-    let contract = edges(&resolved, ContractId(0));
+    let contract = contract_at(&resolved, ContractId(0));
     let Judged::Sound(sound) = Sound::judge(alloc, contract)? else {
         return Err(Fail::from("not sound"));
     };

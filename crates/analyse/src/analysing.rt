@@ -2,13 +2,13 @@
 
 ghost use Rattle.std.specs.Prelude.{◌≡◌, IfOk, IfErr, map};
 ghost use Rattle.std.specs.List.Sorted.{IsStrictlySortedBy};
-ghost use Rattle.source.specs.Findings.{finding_parts};
+ghost use Rattle.source.specs.Findings.{finding_model};
 ghost use Rattle.reports.specs.Orders.{report_cmp};
 ghost use Rattle.intern.specs.View.{Grows};
 ghost use Rattle.rules.specs.Programs.{model_of};
 ghost use Rattle.analyse.specs.Tasks.{findings_of, number_of, program_of, task_program, verdict_number};
 ghost use Rattle.analyse.specs.Verdicts.{HasTooMany, IsMethodVerdict};
-ghost use Rattle.analyse.specs.Workers.{HasLeftTable, HasTokens, IsAtTable, IsWorkerOf, ReachesFar, view_of};
+ghost use Rattle.analyse.specs.Workers.{HasLeftTable, HaveIds, IsAtTable, IsWorkerOf, ReachesFar, view_of};
 
 use crate::searching::verdict_of;
 use crate::task::Task;
@@ -43,13 +43,13 @@ pub fn analyse(
     ensures grows { Grows (view_of worker.old) (view_of worker.new) }
     ensures program { IfOk result (λ v. program_of v ≡ program.now) }
     ensures method { IfOk result (λ v. verdict_number v ≡ number_of task) }
-    ensures found { IfOk result (λ v. IsMethodVerdict (model_of program.now) (number_of task) (map finding_parts (findings_of v))) }
-    ensures ordered { IfOk result (λ v. IsStrictlySortedBy report_cmp (map finding_parts (findings_of v))) }
+    ensures found { IfOk result (λ v. IsMethodVerdict (model_of program.now) (number_of task) (map finding_model (findings_of v))) }
+    ensures ordered { IfOk result (λ v. IsStrictlySortedBy report_cmp (map finding_model (findings_of v))) }
     ensures left { HasLeftTable worker.old → HasLeftTable worker.new }
     ensures given_up { IsAtTable worker.old → HasLeftTable worker.new
         → ReachesFar (model_of program.now) (number_of task) rows.now worker.new }
     ensures named { IfOk result (λ v. IsAtTable worker.new → (HasTooMany (model_of program.now) (number_of task) → ⊥)
-        → HasTokens (model_of program.now) (number_of task) (view_of worker.new)) }
+        → HaveIds (model_of program.now) (number_of task) (view_of worker.new)) }
     ensures kept { IfErr result (λ e. e.0 ≡ task) }
 {
     match verdict_of(alloc, program, task.method, rows, worker) {

@@ -2,7 +2,7 @@
 
 ghost use Rattle.std.specs.Prelude.{◌≡◌, ◌<◌, ◌↔◌, ◌∷◌, [], Contains, IfOk, length, map};
 ghost use Rattle.std.specs.List.Sorted.{IsStrictlySortedBy};
-ghost use Rattle.source.specs.Findings.{FindingParts, finding_parts};
+ghost use Rattle.source.specs.Findings.{FindingModel, finding_model};
 ghost use Rattle.reports.specs.Orders.{report_cmp};
 ghost use Rattle.rules.specs.Breaches.{breach_in};
 ghost use Rattle.rules.specs.Programs.{model_of};
@@ -26,9 +26,9 @@ pub(crate) fn findings_of(
     found: Breaches,
 ) -> Result<Vec<Finding>, Memory>
     requires there { method.0 < length (model_of program.now).methods }
-    ensures same { IfOk result (λ findings. (f : FindingParts) → Contains (map finding_parts findings.items) f
+    ensures same { IfOk result (λ findings. (f : FindingModel) → Contains (map finding_model findings.items) f
         ↔ Contains (map (breach_in (model_of program.now) method.0) (breaches_of found)) f) }
-    ensures ordered { IfOk result (λ findings. IsStrictlySortedBy report_cmp (map finding_parts findings.items)) }
+    ensures ordered { IfOk result (λ findings. IsStrictlySortedBy report_cmp (map finding_model findings.items)) }
 {
     let mut findings = Vec::new(alloc);
     for breach in &found.into_different()? {
@@ -44,7 +44,7 @@ pub(crate) fn too_many(
     method: MethodId,
 ) -> Result<Vec<Finding>, Memory>
     requires there { method.0 < length (model_of program.now).methods }
-    ensures { IfOk result (λ findings. map finding_parts findings.items
+    ensures { IfOk result (λ findings. map finding_model findings.items
         ≡ too_many_pairs (place_of_method (model_of program.now) method.0) ∷ []) }
 {
     let mut alone = Vec::new(alloc);

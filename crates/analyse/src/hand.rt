@@ -1,6 +1,6 @@
 //! The row that a search works on.
 
-use intern::Token;
+use intern::RowId;
 use rules::Row;
 
 /// The row that a search works on, and its name while it is known. The next pair has the same row more often than not, and then
@@ -8,5 +8,5 @@ use rules::Row;
 #[derive(Drop)]
 pub(crate) struct Hand {
     pub(crate) row: Row,
-    pub(crate) name: Option<Token>,
+    pub(crate) name: Option<RowId>,
 }

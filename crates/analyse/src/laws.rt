@@ -1,7 +1,7 @@
 //! Laws of the search: they hold of every program.
 
 ghost use Rattle.std.specs.Prelude.{◌≡◌, ℕ, List, Some, slice_get};
-ghost use Rattle.source.specs.Findings.{FindingParts};
+ghost use Rattle.source.specs.Findings.{FindingModel};
 ghost use Rattle.program.specs.Methods.{MethodModel};
 ghost use Rattle.program.specs.Programs.{ProgramModel};
 ghost use Rattle.rules.specs.Outcomes.{Pair};
@@ -28,5 +28,5 @@ pub fn reached_rows_are_whole()
 
 /// Each method has a verdict: its findings are a list, so there is always an answer beside `Memory`.
 pub fn each_method_has_a_verdict()
-    ensures { (p : ProgramModel) (n : ℕ) → ((found : List FindingParts) → IsMethodVerdict p n found → ⊥) → ⊥ }
+    ensures { (p : ProgramModel) (n : ℕ) → ((found : List FindingModel) → IsMethodVerdict p n found → ⊥) → ⊥ }
 {}

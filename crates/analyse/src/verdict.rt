@@ -2,7 +2,7 @@
 
 ghost use Rattle.std.specs.Prelude.{◌≡◌, map};
 ghost use Rattle.std.specs.List.Sorted.{IsStrictlySortedBy};
-ghost use Rattle.source.specs.Findings.{finding_parts};
+ghost use Rattle.source.specs.Findings.{finding_model};
 ghost use Rattle.reports.specs.Orders.{report_cmp};
 ghost use Rattle.rules.specs.Programs.{model_of};
 ghost use Rattle.analyse.specs.Verdicts.{IsMethodVerdict, listed_once};
@@ -19,8 +19,8 @@ pub struct Verdict {
     pub(crate) method: MethodId,
     pub(crate) program: Snapshot<Program>,
     pub(crate) findings: Vec<Finding>,
-    ghost judged: { ∥ IsMethodVerdict (model_of program.value) method.0 (map finding_parts findings.items) ∥₁ },
-    ghost ordered: { IsStrictlySortedBy report_cmp (map finding_parts findings.items) } by { listed_once findings.items },
+    ghost judged: { ∥ IsMethodVerdict (model_of program.value) method.0 (map finding_model findings.items) ∥₁ },
+    ghost ordered: { IsStrictlySortedBy report_cmp (map finding_model findings.items) } by { listed_once findings.items },
 }
 
 impl Verdict {
@@ -36,8 +36,8 @@ impl Verdict {
     /// What is found in it, each finding once, in the order of a report.
     pub fn findings(&self) -> &[Finding]
         ensures findings { result.now ≡ findings_of self.now }
-        ensures judged { ∥ IsMethodVerdict (model_of (program_of self.now)) (verdict_number self.now) (map finding_parts result.now) ∥₁ }
-        ensures ordered { IsStrictlySortedBy report_cmp (map finding_parts result.now) }
+        ensures judged { ∥ IsMethodVerdict (model_of (program_of self.now)) (verdict_number self.now) (map finding_model result.now) ∥₁ }
+        ensures ordered { IsStrictlySortedBy report_cmp (map finding_model result.now) }
     {
         &self.findings
     }
@@ -45,8 +45,8 @@ impl Verdict {
     /// What is found in it, each finding once, in the order of a report.
     pub fn into_findings(self) -> Vec<Finding>
         ensures findings { result.items ≡ findings_of self }
-        ensures judged { ∥ IsMethodVerdict (model_of (program_of self)) (verdict_number self) (map finding_parts result.items) ∥₁ }
-        ensures ordered { IsStrictlySortedBy report_cmp (map finding_parts result.items) }
+        ensures judged { ∥ IsMethodVerdict (model_of (program_of self)) (verdict_number self) (map finding_model result.items) ∥₁ }
+        ensures ordered { IsStrictlySortedBy report_cmp (map finding_model result.items) }
     {
         self.findings
     }

@@ -15,7 +15,7 @@ pub struct Worker {
     pub(crate) alone: bool,
     pub(crate) own: OwnRows,
     pub(crate) seen: Seen,
-    /// What came of transfers: of tokens from method to method, since these name their rows for good.
+    /// What came of transfers: of ids from method to method, since these name their rows for good.
     pub(crate) remembered: Remembered,
     /// What a switch makes its rows of.
     pub(crate) spare: Spare,

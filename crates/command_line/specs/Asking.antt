@@ -14,8 +14,8 @@ abbrev pub text_rule : Text → Rule
 text_rule name = record (new_rule name) { required = true; action = Some Set }
 
 -- a text that need not be given
-abbrev pub spare_rule : Text → Rule
-spare_rule name = record (new_rule name) { action = Some Set }
+abbrev pub optional_rule : Text → Rule
+optional_rule name = record (new_rule name) { action = Some Set }
 
 -- an option with a number, which need not be given
 abbrev pub number_rule : Text → Rule
@@ -39,7 +39,7 @@ replay_command = with_rule (with_rule (file_command (codes "replay")) (text_rule
 
 -- `why FILE [LINE:COL]`
 abbrev pub why_command : App
-why_command = with_rule (file_command (codes "why")) (spare_rule (codes "LINE:COL"))
+why_command = with_rule (file_command (codes "why")) (optional_rule (codes "LINE:COL"))
 
 -- `singcheck` with nothing yet, where a subcommand has to be given; it has a version
 abbrev pub bare_command : App

@@ -2,7 +2,7 @@
 
 ghost use Rattle.std.specs.Prelude.{◌≡◌, codes, false, IfOk};
 ghost use Rattle.clap.specs.Words.{rule_of};
-ghost use Rattle.command_line.specs.Asking.{IsCommand, number_rule, spare_rule, text_rule};
+ghost use Rattle.command_line.specs.Asking.{IsCommand, number_rule, optional_rule, text_rule};
 ghost use Rattle.command_line.specs.Asking.{bounds_command, check_command, replay_command, whole_command, why_command};
 
 use clap::{Arg, ArgAction, Command};
@@ -47,8 +47,8 @@ fn text_of<'a>(alloc: Global, name: &'a str, help: &'a str) -> Arg<'a>
 }
 
 /// A text that need not be given.
-fn spare_of<'a>(alloc: Global, name: &'a str, help: &'a str) -> Arg<'a>
-    ensures rule { rule_of result ≡ spare_rule name.now }
+fn optional_of<'a>(alloc: Global, name: &'a str, help: &'a str) -> Arg<'a>
+    ensures rule { rule_of result ≡ optional_rule name.now }
     ensures local { result.global ≡ false }
 {
     Arg::new(alloc, name).help(help).action(ArgAction::Set)
@@ -132,7 +132,7 @@ fn why_of<'a>(alloc: Global) -> Result<Command<'a>, AllocError>
         .about("Prints what is wrong in a program, and how each method gets there")
         .after_help(WHY_EXAMPLE)
         .arg(file_of(alloc))?
-        .arg(spare_of(
+        .arg(optional_of(
             alloc,
             "LINE:COL",
             "A place: only findings there get a trace",

@@ -5,7 +5,7 @@ use Rattle.std.proofs.lemmas.List.Elements.{All-weaker, Contains-push_cases, Con
 use Rattle.contracts.specs.declared.arcs.Arc.{Arc}
 use Rattle.program.specs.declared.contract.Sign.{Sign}
 use Rattle.program.specs.declared.contract.Edge.{Edge}
-use Rattle.contracts.specs.Arcs.{AllWithin, AreRows, AreArcs, Joins, IsDrawn, arc}
+use Rattle.contracts.specs.Arcs.{AllWithin, AreGroups, AreArcs, Joins, IsDrawn, arc}
 use Rattle.contracts.proofs.PartLemmas.{all_from}
 
 -- nothing is in an empty list
@@ -47,16 +47,16 @@ pub arcs_within : (numbers : List ℕ) (edges : List Edge) (sign : Sign) (arcs :
 arcs_within numbers edges sign arcs h = all_from (λ a. (a.from < length numbers) × (a.to < length numbers)) arcs (λ a c. let j = (h.right a c).3 in (j.v_in, j.w_in))
 
 -- the rows of such arcs are the graph of the edges
-pub drawn : (numbers : List ℕ) (edges : List Edge) (sign : Sign) (arcs : List Arc) (graph : List (List ℕ)) → AreArcs numbers edges sign arcs → AreRows (length numbers) arcs graph → IsDrawn numbers edges (λ e. e.sign ≡ sign) graph
-drawn numbers edges sign arcs graph h rows = record {
-  long = rows.long;
-  right = λ v w edge. h.right (arc v w) (rows.right v w edge);
-  all = λ e c s. let r = h.all e c s in (r.0.from, (r.0.to, rows.all r.0.from r.0.to r.1, r.2));
+pub drawn : (numbers : List ℕ) (edges : List Edge) (sign : Sign) (arcs : List Arc) (graph : List (List ℕ)) → AreArcs numbers edges sign arcs → AreGroups (length numbers) arcs graph → IsDrawn numbers edges (λ e. e.sign ≡ sign) graph
+drawn numbers edges sign arcs graph h groups = record {
+  long = groups.long;
+  right = λ v w edge. h.right (arc v w) (groups.right v w edge);
+  all = λ e c s. let r = h.all e c s in (r.0.from, (r.0.to, groups.all r.0.from r.0.to r.1, r.2));
 }
 
 -- rows that have arcs of so many vertices have those of the edges
 pub arcs_made : (numbers : List ℕ) (edges : List Edge) (sign : Sign) (arcs seen : List Arc) (count : ℕ) (graph : List (List ℕ)) → AreArcs numbers edges sign arcs → seen ≡ arcs → count ≡ length numbers
-    → (AllWithin count seen → AreRows count seen graph) → AreRows (length numbers) arcs graph
+    → (AllWithin count seen → AreGroups count seen graph) → AreGroups (length numbers) arcs graph
 arcs_made numbers edges sign arcs seen count graph are same long made =
-    subst (λ n. AreRows n arcs graph) long (subst (λ l. AreRows count l graph) same
+    subst (λ n. AreGroups n arcs graph) long (subst (λ l. AreGroups count l graph) same
     (made (subst (λ n. AllWithin n seen) (sym long) (subst (AllWithin (length numbers)) (sym same) (arcs_within numbers edges sign arcs are)))))

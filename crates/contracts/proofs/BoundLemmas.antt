@@ -8,7 +8,7 @@ use Rattle.program.specs.declared.contract.Edge.{Edge}
 use Rattle.program.specs.declared.number.StateId.{StateId}
 use Rattle.contracts.specs.Arcs.{IsDrawn, Joins}
 use Rattle.contracts.specs.Bounds.{IsBound}
-use Rattle.contracts.specs.Graphs.{HasEdge, row_at}
+use Rattle.contracts.specs.Graphs.{HasEdge, group_at}
 use Rattle.contracts.specs.Reached.{AreReached, IsLongest, joined}
 use Rattle.contracts.proofs.JoinLemmas.{joined_length, joined_row}
 use Rattle.contracts.proofs.PartLemmas.{IsOnce}
@@ -30,10 +30,10 @@ any_drawn numbers edges sends receives drawn_a drawn_b = record {
   right = λ v w edge. ⊎_elim
       (λ x. let r = drawn_a.right v w x in (r.0, r.1, tt, r.3))
       (λ x. let r = drawn_b.right v w x in (r.0, r.1, tt, r.3))
-      (Contains-append_cases (row_at sends v) (row_at receives v) w (subst (λ l. Contains l w) (joined_row sends receives v) edge));
+      (Contains-append_cases (group_at sends v) (group_at receives v) w (subst (λ l. Contains l w) (joined_row sends receives v) edge));
   all = λ e c _. each_sign (λ s. e.sign ≡ s → Leaves numbers e (joined sends receives))
-      (λ is. let r = drawn_a.all e c is in (r.0, (r.1.0, subst (λ l. Contains l r.1.0) (sym (joined_row sends receives r.0)) (Contains-append_left (row_at sends r.0) (row_at receives r.0) r.1.0 r.1.1), r.1.2)))
-      (λ is. let r = drawn_b.all e c is in (r.0, (r.1.0, subst (λ l. Contains l r.1.0) (sym (joined_row sends receives r.0)) (Contains-append_right (row_at sends r.0) (row_at receives r.0) r.1.0 r.1.1), r.1.2)))
+      (λ is. let r = drawn_a.all e c is in (r.0, (r.1.0, subst (λ l. Contains l r.1.0) (sym (joined_row sends receives r.0)) (Contains-append_left (group_at sends r.0) (group_at receives r.0) r.1.0 r.1.1), r.1.2)))
+      (λ is. let r = drawn_b.all e c is in (r.0, (r.1.0, subst (λ l. Contains l r.1.0) (sym (joined_row sends receives r.0)) (Contains-append_right (group_at sends r.0) (group_at receives r.0) r.1.0 r.1.1), r.1.2)))
       e.sign refl;
 }
 

@@ -6,8 +6,8 @@ use Rattle.std.proofs.lemmas.List.Elements.{Contains-append_left, Contains-appen
 use Rattle.std.proofs.lemmas.Map.Made.{Contains-tail}
 use Rattle.std.proofs.lemmas.Option.{slice_get_within, get_or_from_slice_get}
 use Rattle.program.specs.declared.contract.Edge.{Edge}
-use Rattle.contracts.specs.Conditions.{FindingParts, IsFault, AreExactly}
-use Rattle.contracts.specs.Parts.{Parts, StateParts, MessageParts}
+use Rattle.contracts.specs.Conditions.{FindingModel, IsFault, AreExactly}
+use Rattle.contracts.specs.Parts.{Parts, StateModel, MessageModel}
 use Rattle.contracts.proofs.ArcLemmas.{none_in}
 use Rattle.contracts.proofs.ConditionLemmas.{against, twice, both}
 use Rattle.contracts.proofs.ListLemmas.{contains_head, contains_tail, contains_either}
@@ -40,51 +40,51 @@ in_flat f (z ∷ zs) x y c d = contains_either (Contains (flat_map f (z ∷ zs))
     (λ later. Contains-append_right (f z) (flat_map f zs) y (in_flat f zs x y later d))
 
 -- what can be wrong at an edge of a message
-abbrev of_message : Edge → MessageParts → List FindingParts
+abbrev of_message : Edge → MessageModel → List FindingModel
 of_message e m = against e m ∷ twice e m ∷ []
 
 -- what can be wrong at an edge, whichever of the messages it names
-abbrev at_edge : List MessageParts → Edge → List FindingParts
+abbrev at_edge : List MessageModel → Edge → List FindingModel
 at_edge messages e = flat_map (of_message e) messages
 
 -- what can be wrong at a state
-abbrev at_state : StateParts → List FindingParts
+abbrev at_state : StateModel → List FindingModel
 at_state s = both s ∷ round s ∷ []
 
-abbrev at_edges : Parts → List FindingParts
+abbrev at_edges : Parts → List FindingModel
 at_edges parts = flat_map (at_edge parts.messages) parts.edges
 
-abbrev at_states : Parts → List FindingParts
+abbrev at_states : Parts → List FindingModel
 at_states parts = flat_map at_state parts.states
 
 -- all that can be wrong
-abbrev candidates : Parts → List FindingParts
+abbrev candidates : Parts → List FindingModel
 candidates parts = at_edges parts ++ at_states parts
 
-first_of : (f g : FindingParts) → Contains (f ∷ g ∷ []) f
+first_of : (f g : FindingModel) → Contains (f ∷ g ∷ []) f
 first_of f g = contains_head f (g ∷ [])
 
-second_of : (f g : FindingParts) → Contains (f ∷ g ∷ []) g
+second_of : (f g : FindingModel) → Contains (f ∷ g ∷ []) g
 second_of f g = contains_tail f g (g ∷ []) (contains_head g [])
 
 read_in : {X : Type 0} (xs : List X) (i : ℕ) (x : X) → slice_get xs i ≡ Some x → Contains xs x
 read_in xs i x at = (i, slice_get_within xs i x at, get_or_from_slice_get xs i x x at)
 
-edge_listed : (parts : Parts) (i : ℕ) (e : Edge) (m : MessageParts) (f g : FindingParts) → slice_get parts.edges i ≡ Some e
+edge_listed : (parts : Parts) (i : ℕ) (e : Edge) (m : MessageModel) (f g : FindingModel) → slice_get parts.edges i ≡ Some e
     → Contains parts.messages m → f ≡ g → Contains (of_message e m) g → Contains (candidates parts) f
 edge_listed parts i e m f g at listed is c =
     let here = in_flat (of_message e) parts.messages m g listed c in
     let there = in_flat (at_edge parts.messages) parts.edges e g (read_in parts.edges i e at) here in
     subst (Contains (candidates parts)) (sym is) (Contains-append_left (at_edges parts) (at_states parts) g there)
 
-state_listed : (parts : Parts) (i : ℕ) (s : StateParts) (f g : FindingParts) → slice_get parts.states i ≡ Some s
+state_listed : (parts : Parts) (i : ℕ) (s : StateModel) (f g : FindingModel) → slice_get parts.states i ≡ Some s
     → f ≡ g → Contains (at_state s) g → Contains (candidates parts) f
 state_listed parts i s f g at is c =
     let there = in_flat at_state parts.states s g (read_in parts.states i s at) c in
     subst (Contains (candidates parts)) (sym is) (Contains-append_right (at_edges parts) (at_states parts) g there)
 
 -- whatever is wrong is among all that can be
-fault_listed : (parts : Parts) (f : FindingParts) → IsFault parts f → Contains (candidates parts) f
+fault_listed : (parts : Parts) (f : FindingModel) → IsFault parts f → Contains (candidates parts) f
 fault_listed parts f (i, inl x) =
     let e = x.edge in
     let m = x.message in
@@ -101,6 +101,6 @@ fault_listed parts f (i, inr (inr (inr x))) =
     state_listed parts i s f (round s) x.at x.is (second_of (both s) (round s))
 
 -- It can't be that no list has all that is wrong.
-pub faults_listed : (parts : Parts) → ((found : List FindingParts) → AreExactly (IsFault parts) found → ⊥) → ⊥
+pub faults_listed : (parts : Parts) → ((found : List FindingModel) → AreExactly (IsFault parts) found → ⊥) → ⊥
 faults_listed parts none = chosen (IsFault parts) (candidates parts)
     (λ found right all. none found (record { right = right; all = λ f fault. all f fault (fault_listed parts f fault) }))

@@ -6,9 +6,9 @@ use Rattle.std.proofs.lemmas.Bool.{eq-eqb, eqb-true, cond-true, cond-false, case
 use Rattle.std.proofs.lemmas.List.{get_or-set_same, get_or-set_other, get_or-replicate, get_or_past, length-replicate, drop_more, drop_all, take_all, take_more_set}
 use Rattle.std.proofs.lemmas.List.Elements.{All-weaker, All-nil, All-map, All-filter, All-contains, Contains-append_cases}
 use Rattle.contracts.specs.declared.arcs.Arc.{Arc}
-use Rattle.contracts.specs.Arcs.{AllWithin, AreRows, arc, begins, ends_from}
+use Rattle.contracts.specs.Arcs.{AllWithin, AreGroups, arc, begins, ends_from}
 use Rattle.contracts.specs.Chains.{AreChained, AreEnds, IsFirst, start_at}
-use Rattle.contracts.specs.Graphs.{row_at}
+use Rattle.contracts.specs.Graphs.{group_at}
 use Rattle.contracts.specs.Spans.{AreWithin, cut, start_of}
 use Rattle.contracts.proofs.ArcLemmas.{none_in}
 use Rattle.contracts.proofs.PartLemmas.{contains_map}
@@ -95,7 +95,7 @@ pub filled_none : (arcs : List Arc) → AreFilled arcs 0 [] []
 filled_none arcs = record {
   within = λ v lt. absurd (omega (arith, lt));
   closed = refl;
-  made = record { long = refl; row = λ v lt. absurd (omega (arith, lt)) };
+  made = record { long = refl; group = λ v lt. absurd (omega (arith, lt)) };
   from = λ w c. absurd (none_in w c);
 }
 
@@ -106,9 +106,9 @@ filled_more arcs n items ends end is h = record {
   closed = closed_more ends end ∙ is;
   made = record {
     long = ap length rows_are ∙ length-append (cut items ends) (new ∷ []) ∙ ap (λ k. k + 1) h.made.long;
-    row = λ v lt. ap (λ l. row_at l v) rows_are ∙ ⊎_elim
-        (λ same. ap (row_at (cut items ends ++ new ∷ [])) (same ∙ sym h.made.long) ∙ last (cut items ends) new ∙ ap (ends_from arcs) (sym same))
-        (λ other. let less : v < n = grind (arith, lt, other) in before (cut items ends) new v (let size = h.made.long in omega (arith, less, size)) ∙ h.made.row v less)
+    group = λ v lt. ap (λ l. group_at l v) rows_are ∙ ⊎_elim
+        (λ same. ap (group_at (cut items ends ++ new ∷ [])) (same ∙ sym h.made.long) ∙ last (cut items ends) new ∙ ap (ends_from arcs) (sym same))
+        (λ other. let less : v < n = grind (arith, lt, other) in before (cut items ends) new v (let size = h.made.long in omega (arith, less, size)) ∙ h.made.group v less)
         (cases_eq v n);
   };
   from = λ w c. ⊎_elim
@@ -123,11 +123,11 @@ filled_more arcs n items ends end is h = record {
     rows_are : cut (items ++ new) (ends ++ end ∷ []) ≡ cut items ends ++ new ∷ []
     rows_are = cut_more items new ends end is h.closed h.within
 
-    last : (lists : List (List ℕ)) (l : List ℕ) → row_at (lists ++ l ∷ []) (length lists) ≡ l
+    last : (lists : List (List ℕ)) (l : List ℕ) → group_at (lists ++ l ∷ []) (length lists) ≡ l
     last [] l = refl
     last (x ∷ lists) l = last lists l
 
-    before : (lists : List (List ℕ)) (l : List ℕ) (v : ℕ) → v < length lists → row_at (lists ++ l ∷ []) v ≡ row_at lists v
+    before : (lists : List (List ℕ)) (l : List ℕ) (v : ℕ) → v < length lists → group_at (lists ++ l ∷ []) v ≡ group_at lists v
     before [] l v lt = absurd (omega (arith, lt))
     before (x ∷ lists) l zero lt = refl
     before (x ∷ lists) l (suc v) lt = before lists l v (omega (arith, lt))
@@ -145,23 +145,23 @@ arc_is : (a : Arc) (v w : ℕ) → a.from ≡ v → a.to ≡ w → a ≡ arc v w
 arc_is a v w from to = ap (λ x. arc x a.to) from ∙ ap (arc v) to
 
 -- such rows have exactly the arcs
-pub rows_are : (arcs : List Arc) (n : ℕ) (graph : List (List ℕ)) → AllWithin n arcs → AreEnds arcs n graph → AreRows n arcs graph
+pub rows_are : (arcs : List Arc) (n : ℕ) (graph : List (List ℕ)) → AllWithin n arcs → AreEnds arcs n graph → AreGroups n arcs graph
 rows_are arcs n graph range h = record {
   long = h.long;
   range = λ v. ⊎_elim
-      (λ within. subst (All (λ w. w < length graph)) (sym (h.row v within))
+      (λ within. subst (All (λ w. w < length graph)) (sym (h.group v within))
       (All-map (λ w. w < length graph) (λ (a : Arc). a.to) (filter (begins v) arcs)
       (All-filter (begins v) (λ (a : Arc). a.to < length graph) arcs
       (All-weaker (λ (a : Arc). (a.from < n) × (a.to < n)) (λ (a : Arc). a.to < length graph) (λ a both. let b = both.1 in let size = h.long in omega (arith, b, size)) arcs range))))
       (λ past. subst (All (λ w. w < length graph)) (sym (get_or_past graph v [] (let size = h.long in omega (arith, past, size)))) (All-nil (λ w. w < length graph)))
       (cases_lt v n);
   right = λ v w e. ⊎_elim
-      (λ within. let r = made_from (λ (a : Arc). a.to) (filter (begins v) arcs) w (subst (λ l. Contains l w) (h.row v within) e) in
+      (λ within. let r = made_from (λ (a : Arc). a.to) (filter (begins v) arcs) w (subst (λ l. Contains l w) (h.group v within) e) in
       let kept = kept_in (begins v) arcs r.0 r.1 in
       subst (Contains arcs) (arc_is r.0 v w (eqb-true r.0.from v kept.1) r.2) kept.0)
       (λ past. absurd (none_in w (subst (λ l. Contains l w) (get_or_past graph v [] (let size = h.long in omega (arith, past, size))) e)))
       (cases_lt v n);
   all = λ v w c.
       let fits = All-contains (λ (a : Arc). (a.from < n) × (a.to < n)) arcs (arc v w) range c in
-      subst (λ l. Contains l w) (sym (h.row v fits.0)) (contains_map (λ (a : Arc). a.to) (filter (begins v) arcs) (arc v w) (in_kept (begins v) arcs (arc v w) c (eq-eqb v v refl)));
+      subst (λ l. Contains l w) (sym (h.group v fits.0)) (contains_map (λ (a : Arc). a.to) (filter (begins v) arcs) (arc v w) (in_kept (begins v) arcs (arc v w) c (eq-eqb v v refl)));
 }

@@ -8,7 +8,7 @@ use Rattle.contracts.specs.declared.arcs.Arc.{Arc}
 use Rattle.contracts.specs.declared.components.Status.{Status}
 use Rattle.contracts.specs.declared.components.Status.TheVariants.{New, Pending, Complete}
 use Rattle.contracts.specs.Arcs.{arc}
-use Rattle.contracts.specs.Graphs.{HasEdge, InRange, row_at}
+use Rattle.contracts.specs.Graphs.{HasEdge, InRange, group_at}
 use Rattle.contracts.specs.Searches.{AreBoundsTo, AreFound, AreRising, IsNextEnd, IsSearch, IsFollowed, Leads, is_new, status_at}
 use Rattle.contracts.proofs.Rings.{walk_on}
 use Rattle.contracts.proofs.RisingLemmas.{rising_prefix, but_last}
@@ -112,7 +112,7 @@ module _ (graph : List (List ℕ)) (statuses : List Status) (pending bounds : Li
   edge = s.left (arc next.1.0 end) (subst (λ l. Contains l (arc next.1.0 end)) (sym next.1.1) (Contains-push next.0 (arc next.1.0 end)))
 
   pub next_within : InRange graph → end < length graph
-  next_within range = All-contains (λ w. w < length graph) (row_at graph (get_or pending next.1.0 0)) end (range (get_or pending next.1.0 0)) edge.1
+  next_within range = All-contains (λ w. w < length graph) (group_at graph (get_or pending next.1.0 0)) end (range (get_or pending next.1.0 0)) edge.1
 
   pub next_leads : (i : ℕ) → i < length pending → Leads graph (get_or pending i 0) end
   next_leads i lt = leads_along graph (get_or pending i 0) (get_or pending next.1.0 0) end (s.joined i next.1.0 lt edge.0 (λ b c _. next.1.2 b c)) edge.1

@@ -17,8 +17,8 @@ use Rattle.std.proofs.lemmas.Option.{slice_get_within, get_or_from_slice_get, sl
 use Rattle.contracts.specs.Orders.{HasEarlier, IsOrder, key_at}
 use Rattle.contracts.specs.Positions.{key_of}
 use Rattle.contracts.proofs.OrderLemmas.{key_here, order_within, place_of}
-use Rattle.contracts.specs.Parts.{StateParts, MessageParts}
-use Rattle.contracts.specs.Conditions.{FindingParts, finding_parts, sign_of, IsAgainst, IsTwice, IsBoth}
+use Rattle.contracts.specs.Parts.{StateModel, MessageModel}
+use Rattle.contracts.specs.Conditions.{FindingModel, finding_model, sign_of, IsAgainst, IsTwice, IsBoth}
 use Rattle.contracts.specs.Found.{FoundBelow}
 use Rattle.contracts.proofs.FoundLemmas.{found_same, found_more}
 use Rattle.contracts.proofs.PartLemmas.{get_again}
@@ -39,41 +39,41 @@ once key xs apart x y c d same =
     either)
     (cases_order c.0 d.0)
 
-abbrev made : Place → Code → List ℕ → FindingParts
+abbrev made : Place → Code → List ℕ → FindingModel
 made p c t = record { place = p; code = c; text = t }
 
 -- a finding from its three parts
-pub parts_are : (f : Finding) (place : Place) (code : Code) (text : List ℕ) → f.place ≡ place → f.code ≡ code → string_bytes f.text ≡ text → finding_parts f ≡ record { place = place; code = code; text = text }
+pub parts_are : (f : Finding) (place : Place) (code : Code) (text : List ℕ) → f.place ≡ place → f.code ≡ code → string_bytes f.text ≡ text → finding_model f ≡ record { place = place; code = code; text = text }
 parts_are f place code text p c t = ap (λ x. made x f.code (string_bytes f.text)) p ∙ ap (λ x. made place x (string_bytes f.text)) c ∙ ap (made place code) t
 
 pub one_of : {A : Type 0} (x y : A) → Some x ≡ Some y → x ≡ y
 one_of x y e = cc
 
-abbrev pub against : Edge → MessageParts → FindingParts
+abbrev pub against : Edge → MessageModel → FindingModel
 against e m = record { place = e.place; code = C01; text = utf8_lossy m.name ++ codes " against its direction" }
 
-pub against_more : (messages : List MessageParts) (edges : List Edge) (i : ℕ) (e : Edge) (m : MessageParts) (found : List FindingParts)
-    → AllPairs (λ x y. x ≢ y) (map (λ (m : MessageParts). m.id) messages) → slice_get edges i ≡ Some e → Contains messages m → m.id ≡ e.message → e.sign ≢ sign_of m.direction
+pub against_more : (messages : List MessageModel) (edges : List Edge) (i : ℕ) (e : Edge) (m : MessageModel) (found : List FindingModel)
+    → AllPairs (λ x y. x ≢ y) (map (λ (m : MessageModel). m.id) messages) → slice_get edges i ≡ Some e → Contains messages m → m.id ≡ e.message → e.sign ≢ sign_of m.direction
     → FoundBelow (IsAgainst messages edges) i found → FoundBelow (IsAgainst messages edges) (i + 1) (found ++ record { place = e.place; code = C01; text = utf8_lossy m.name ++ codes " against its direction" } ∷ [])
 against_more messages edges i e m found apart at listed its differs h = found_more (IsAgainst messages edges) i found (against e m) h
     (record { edge = e; at = at; message = m; listed = listed; its = its; differs = differs; is = refl })
     (λ f is. let same : e ≡ is.edge = one_of e is.edge (sym at ∙ is.at) in
-    let named : m ≡ is.message = once (λ (m : MessageParts). m.id) messages apart m is.message listed is.listed (its ∙ ap (λ (x : Edge). x.message) same ∙ sym is.its) in
+    let named : m ≡ is.message = once (λ (m : MessageModel). m.id) messages apart m is.message listed is.listed (its ∙ ap (λ (x : Edge). x.message) same ∙ sym is.its) in
     ap (λ x. against x m) same ∙ ap (against is.edge) named ∙ sym is.is)
 
-pub against_same : (messages : List MessageParts) (edges : List Edge) (i : ℕ) (e : Edge) (m : MessageParts) (found : List FindingParts)
-    → AllPairs (λ x y. x ≢ y) (map (λ (m : MessageParts). m.id) messages) → slice_get edges i ≡ Some e → Contains messages m → m.id ≡ e.message → e.sign ≡ sign_of m.direction
+pub against_same : (messages : List MessageModel) (edges : List Edge) (i : ℕ) (e : Edge) (m : MessageModel) (found : List FindingModel)
+    → AllPairs (λ x y. x ≢ y) (map (λ (m : MessageModel). m.id) messages) → slice_get edges i ≡ Some e → Contains messages m → m.id ≡ e.message → e.sign ≡ sign_of m.direction
     → FoundBelow (IsAgainst messages edges) i found → FoundBelow (IsAgainst messages edges) (i + 1) found
 against_same messages edges i e m found apart at listed its agrees h = found_same (IsAgainst messages edges) i found h
     (λ f is. let same : e ≡ is.edge = one_of e is.edge (sym at ∙ is.at) in
-    let named : m ≡ is.message = once (λ (m : MessageParts). m.id) messages apart m is.message listed is.listed (its ∙ ap (λ (x : Edge). x.message) same ∙ sym is.its) in
-    is.differs (ap (λ (x : Edge). x.sign) (sym same) ∙ agrees ∙ ap (λ (x : MessageParts). sign_of x.direction) named))
+    let named : m ≡ is.message = once (λ (m : MessageModel). m.id) messages apart m is.message listed is.listed (its ∙ ap (λ (x : Edge). x.message) same ∙ sym is.its) in
+    is.differs (ap (λ (x : Edge). x.sign) (sym same) ∙ agrees ∙ ap (λ (x : MessageModel). sign_of x.direction) named))
 
 -- one more finding
-pub pushed : (found new : List Finding) (f : Finding) (g : FindingParts) → new ≡ found ++ f ∷ [] → finding_parts f ≡ g → map finding_parts new ≡ map finding_parts found ++ g ∷ []
-pushed found new f g is same = ap (map finding_parts) is ∙ map-append finding_parts found (f ∷ []) ∙ ap (λ x. map finding_parts found ++ x ∷ []) same
+pub pushed : (found new : List Finding) (f : Finding) (g : FindingModel) → new ≡ found ++ f ∷ [] → finding_model f ≡ g → map finding_model new ≡ map finding_model found ++ g ∷ []
+pushed found new f g is same = ap (map finding_model) is ∙ map-append finding_model found (f ∷ []) ∙ ap (λ x. map finding_model found ++ x ∷ []) same
 
-abbrev pub twice : Edge → MessageParts → FindingParts
+abbrev pub twice : Edge → MessageModel → FindingModel
 twice e m = record { place = e.place; code = C02; text = utf8_lossy m.name ++ codes " twice in a state" }
 
 abbrev state_of : ℕ → StateId
@@ -89,19 +89,19 @@ keys_same d e state message = ap (λ (x : StateId). pair x.0 d.message.0) state 
     pair : ℕ → ℕ → ℕ × ℕ
     pair a b = (a, b)
 
--- what is to be found at the edge at the place k of the order
-abbrev pub TwiceAt : List MessageParts → List Edge → List ℕ → ℕ → FindingParts → Type 0
+-- what is to be found at the edge at the index k of the order
+abbrev pub TwiceAt : List MessageModel → List Edge → List ℕ → ℕ → FindingModel → Type 0
 TwiceAt messages edges order k = IsTwice messages edges (get_or order k 0)
 
-pub twice_more : (messages : List MessageParts) (edges : List Edge) (order : List ℕ) (k : ℕ) (e : Edge) (m : MessageParts) (found : List FindingParts)
-    → AllPairs (λ x y. x ≢ y) (map (λ (m : MessageParts). m.id) messages) → slice_get edges (get_or order k 0) ≡ Some e → Contains messages m → m.id ≡ e.message
+pub twice_more : (messages : List MessageModel) (edges : List Edge) (order : List ℕ) (k : ℕ) (e : Edge) (m : MessageModel) (found : List FindingModel)
+    → AllPairs (λ x y. x ≢ y) (map (λ (m : MessageModel). m.id) messages) → slice_get edges (get_or order k 0) ≡ Some e → Contains messages m → m.id ≡ e.message
     → HasEarlier edges (get_or order k 0)
     → FoundBelow (TwiceAt messages edges order) k found → FoundBelow (TwiceAt messages edges order) (k + 1) (found ++ record { place = e.place; code = C02; text = utf8_lossy m.name ++ codes " twice in a state" } ∷ [])
 twice_more messages edges order k e m found apart at listed its has h = found_more (TwiceAt messages edges order) k found (twice e m) h
     (record {
       edge = e;
       at = at;
-      place = before.0;
+      index = before.0;
       before = before.1.1;
       earlier = before.1.0;
       there = before.1.2;
@@ -113,7 +113,7 @@ twice_more messages edges order k e m found apart at listed its has h = found_mo
       is = refl;
     })
     (λ f is. let same : e ≡ is.edge = one_of e is.edge (sym at ∙ is.at) in
-    let named : m ≡ is.message = once (λ (m : MessageParts). m.id) messages apart m is.message listed is.listed (its ∙ ap (λ (x : Edge). x.message) same ∙ sym is.its) in
+    let named : m ≡ is.message = once (λ (m : MessageModel). m.id) messages apart m is.message listed is.listed (its ∙ ap (λ (x : Edge). x.message) same ∙ sym is.its) in
     ap (λ x. twice x m) same ∙ ap (twice is.edge) named ∙ sym is.is)
   where
     i : ℕ
@@ -126,26 +126,26 @@ twice_more messages edges order k e m found apart at listed its has h = found_mo
         let below : has.0 < length edges = omega (arith, less, lt) in
         (has.0, (get_or edges has.0 e, has.1, slice_get-get_or edges has.0 e below, sym (key_here edges has.0 e below) ∙ has.2 ∙ key_here edges i e lt ∙ ap key_of (get_or_from_slice_get edges i e e at)))
 
-pub twice_same : (messages : List MessageParts) (edges : List Edge) (order : List ℕ) (k : ℕ) (found : List FindingParts)
+pub twice_same : (messages : List MessageModel) (edges : List Edge) (order : List ℕ) (k : ℕ) (found : List FindingModel)
     → (HasEarlier edges (get_or order k 0) → ⊥) → FoundBelow (TwiceAt messages edges order) k found → FoundBelow (TwiceAt messages edges order) (k + 1) found
 twice_same messages edges order k found none h = found_same (TwiceAt messages edges order) k found h
-    (λ f is. none (is.place, is.before, key_is is.place is.earlier is.there ∙ keys_same is.earlier is.edge is.state is.same ∙ sym (key_is (get_or order k 0) is.edge is.at)))
+    (λ f is. none (is.index, is.before, key_is is.index is.earlier is.there ∙ keys_same is.earlier is.edge is.state is.same ∙ sym (key_is (get_or order k 0) is.edge is.at)))
   where
     key_is : (i : ℕ) (e : Edge) → slice_get edges i ≡ Some e → key_at edges i ≡ key_of e
     key_is i e at = key_here edges i e (slice_get_within edges i e at) ∙ ap key_of (get_or_from_slice_get edges i e e at)
 
--- the order has the place of each edge
-pub twice_all : (messages : List MessageParts) (edges : List Edge) (order : List ℕ) (found : List FindingParts) → IsOrder edges order
+-- the order has the index of each edge
+pub twice_all : (messages : List MessageModel) (edges : List Edge) (order : List ℕ) (found : List FindingModel) → IsOrder edges order
     → FoundBelow (TwiceAt messages edges order) (length order) found → FoundBelow (IsTwice messages edges) (length edges) found
 twice_all messages edges order found o h = record {
   right = λ f c. let r = h.right f c in (get_or order r.0 0, order_within edges order o r.0 r.1, r.2);
   all = λ i f lt is. let at = place_of edges order o i lt in h.all at.0 f at.1 (subst (λ x. IsTwice messages edges x f) (sym at.2) is);
 }
 
-abbrev pub both : StateParts → FindingParts
+abbrev pub both : StateModel → FindingModel
 both s = record { place = s.place; code = C03; text = codes "both directions in " ++ utf8_lossy s.name }
 
-pub both_more : (states : List StateParts) (edges : List Edge) (i : ℕ) (s : StateParts) (found : List FindingParts)
+pub both_more : (states : List StateModel) (edges : List Edge) (i : ℕ) (s : StateModel) (found : List FindingModel)
     → slice_get states i ≡ Some s
     → (e : Edge) × Contains edges e × (e.from ≡ s.id) × (e.sign ≡ Send)
     → (e : Edge) × Contains edges e × (e.from ≡ s.id) × (e.sign ≡ Receive)
@@ -170,8 +170,8 @@ both_more states edges i s found at a b h = found_more (IsBoth states edges) i f
 abbrev pub NoneFrom : List Edge → StateId → Sign → Type 0
 NoneFrom edges q sign = (e : Edge) → Contains edges e → e.sign ≡ sign → e.from ≡ q → ⊥
 
-pub both_same : (states : List StateParts) (edges : List Edge) (i : ℕ) (found : List FindingParts)
-    → ((s : StateParts) → slice_get states i ≡ Some s → NoneFrom edges s.id Send ⊎ NoneFrom edges s.id Receive)
+pub both_same : (states : List StateModel) (edges : List Edge) (i : ℕ) (found : List FindingModel)
+    → ((s : StateModel) → slice_get states i ≡ Some s → NoneFrom edges s.id Send ⊎ NoneFrom edges s.id Receive)
     → FoundBelow (IsBoth states edges) i found → FoundBelow (IsBoth states edges) (i + 1) found
 both_same states edges i found none h = found_same (IsBoth states edges) i found h
     (λ f is. ⊎_elim

@@ -10,7 +10,7 @@ use Rattle.contracts.specs.declared.arcs.Arc.{Arc}
 use Rattle.contracts.specs.declared.components.Status.{Status}
 use Rattle.contracts.specs.declared.components.Status.TheVariants.{New, Pending, Complete}
 use Rattle.contracts.specs.Arcs.{arc}
-use Rattle.contracts.specs.Graphs.{HasEdge, row_at}
+use Rattle.contracts.specs.Graphs.{HasEdge, group_at}
 use Rattle.contracts.specs.Searches.{AreFound, AreRising, IsSearch, IsFollowed, Leads, NotBefore, is_new, status_at}
 use Rattle.contracts.proofs.PartLemmas.{at_place, contains_map}
 use Rattle.contracts.proofs.ListLemmas.{made_from}
@@ -40,7 +40,7 @@ module _ (graph : List (List ℕ)) (statuses : List Status) (pending bounds : Li
   last i same = get_or_push pending v 0 i (sym same)
 
   abbrev ends : List Arc
-  ends = map (arc (length pending)) (row_at graph v)
+  ends = map (arc (length pending)) (group_at graph v)
 
   -- it leads to what follows in its own component
   met_leads : (i j : ℕ) → i < length (pending ++ v ∷ []) → j < length (pending ++ v ∷ []) → NotBefore (bounds ++ length pending ∷ []) i j
@@ -72,7 +72,7 @@ module _ (graph : List (List ℕ)) (statuses : List Status) (pending bounds : Li
       → Contains (arcs ++ ends) (arc i w) ⊎ IsFollowed more (bounds ++ length pending ∷ []) i w
   met_followed i w in_i edge = ⊎_elim
       (λ same. inl (subst (λ k. Contains (arcs ++ ends) (arc k w)) (sym same)
-      (Contains-append_right arcs ends (arc (length pending) w) (contains_map (arc (length pending)) (row_at graph v) w (subst (λ x. HasEdge graph x w) (last i same) edge)))))
+      (Contains-append_right arcs ends (arc (length pending) w) (contains_map (arc (length pending)) (group_at graph v) w (subst (λ x. HasEdge graph x w) (last i same) edge)))))
       (λ differ. let less : i < length pending = grind (arith, in_i, size, differ) in ⊎_elim
       (λ left. inl (Contains-append_left arcs ends (arc i w) left))
       (λ done. inr (followed_still i w less done))
@@ -84,7 +84,7 @@ module _ (graph : List (List ℕ)) (statuses : List Status) (pending bounds : Li
       (λ old. let r = s.left a old in
       let lt = r.0 in
       (omega (arith, lt, size), subst (λ x. HasEdge graph x a.to) (sym (before a.from lt)) r.1))
-      (λ added. let m = made_from (arc (length pending)) (row_at graph v) a added in
+      (λ added. let m = made_from (arc (length pending)) (group_at graph v) a added in
       let from : length pending ≡ a.from = ap (λ (x : Arc). x.from) m.2 in
       let to : m.0 ≡ a.to = ap (λ (x : Arc). x.to) m.2 in
       (omega (arith, from, size), subst (λ x. HasEdge graph x a.to) (sym (last a.from (sym from))) (subst (HasEdge graph v) to m.1)))
@@ -93,10 +93,10 @@ module _ (graph : List (List ℕ)) (statuses : List Status) (pending bounds : Li
   met_rise : AreRising (map (λ (a : Arc). a.from) (arcs ++ ends))
   met_rise = subst AreRising (sym (map-append (λ (a : Arc). a.from) arcs ends))
       (rising_append (map (λ (a : Arc). a.from) arcs) (map (λ (a : Arc). a.from) ends) s.arcs_rise
-      (λ j k le lt. let a = all_here (row_at graph v) k lt in let b = all_here (row_at graph v) j (omega (arith, le, lt)) in omega (arith, a, b))
-      (λ j k in_j in_k. let a = all_here (row_at graph v) k in_k in let b = ahead j in_j in omega (arith, a, b)))
+      (λ j k le lt. let a = all_here (group_at graph v) k lt in let b = all_here (group_at graph v) j (omega (arith, le, lt)) in omega (arith, a, b))
+      (λ j k in_j in_k. let a = all_here (group_at graph v) k in_k in let b = ahead j in_j in omega (arith, a, b)))
     where
-      all_here : (row : List ℕ) (k : ℕ) → k < length (map (λ (a : Arc). a.from) (map (arc (length pending)) row)) → get_or (map (λ (a : Arc). a.from) (map (arc (length pending)) row)) k 0 ≡ length pending
+      all_here : (group : List ℕ) (k : ℕ) → k < length (map (λ (a : Arc). a.from) (map (arc (length pending)) group)) → get_or (map (λ (a : Arc). a.from) (map (arc (length pending)) group)) k 0 ≡ length pending
       all_here [] k lt = absurd (omega (arith, lt))
       all_here (w ∷ ws) zero lt = refl
       all_here (w ∷ ws) (suc k) lt = all_here ws k (omega (arith, lt))

@@ -3,15 +3,15 @@ use Rattle.std.proofs.Common.{◌≡◌, ℕ, ◌+◌, List, [], ◌∷◌, ◌+
 use Rattle.std.specs.Prelude.{Contains}
 use Rattle.std.proofs.lemmas.List.Elements.{Contains-push_cases, Contains-append_left, Contains-push}
 use Rattle.std.proofs.lemmas.Bool.{cases_eq}
-use Rattle.contracts.specs.Conditions.{FindingParts}
+use Rattle.contracts.specs.Conditions.{FindingModel}
 use Rattle.contracts.specs.Found.{FoundBelow}
 use Rattle.contracts.proofs.ArcLemmas.{none_in}
 
-pub found_none : (At : ℕ → FindingParts → Type 0) → FoundBelow At 0 []
+pub found_none : (At : ℕ → FindingModel → Type 0) → FoundBelow At 0 []
 found_none At = record { right = λ f c. absurd (none_in f c); all = λ i f lt is. absurd (omega (arith, lt)) }
 
 -- nothing is to be found at the next place
-pub found_same : (At : ℕ → FindingParts → Type 0) (n : ℕ) (found : List FindingParts) → FoundBelow At n found → ((f : FindingParts) → At n f → ⊥) → FoundBelow At (n + 1) found
+pub found_same : (At : ℕ → FindingModel → Type 0) (n : ℕ) (found : List FindingModel) → FoundBelow At n found → ((f : FindingModel) → At n f → ⊥) → FoundBelow At (n + 1) found
 found_same At n found h nothing = record {
   right = λ f c. let r = h.right f c in let lt = r.1 in (r.0, omega (arith, lt), r.2);
   all = λ i f lt is. ⊎_elim
@@ -21,7 +21,7 @@ found_same At n found h nothing = record {
 }
 
 -- one thing is to be found at the next place
-pub found_more : (At : ℕ → FindingParts → Type 0) (n : ℕ) (found : List FindingParts) (g : FindingParts) → FoundBelow At n found → At n g → ((f : FindingParts) → At n f → g ≡ f) → FoundBelow At (n + 1) (found ++ g ∷ [])
+pub found_more : (At : ℕ → FindingModel → Type 0) (n : ℕ) (found : List FindingModel) (g : FindingModel) → FoundBelow At n found → At n g → ((f : FindingModel) → At n f → g ≡ f) → FoundBelow At (n + 1) (found ++ g ∷ [])
 found_more At n found g h here alone = record {
   right = λ f c. ⊎_elim
       (λ old. let r = h.right f old in let lt = r.1 in (r.0, omega (arith, lt), r.2))

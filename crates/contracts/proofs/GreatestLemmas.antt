@@ -15,7 +15,7 @@ use Rattle.program.specs.declared.contract.Edge.{Edge}
 use Rattle.program.specs.declared.number.StateId.{StateId}
 use Rattle.contracts.specs.Bounds.{IsBound}
 use Rattle.contracts.specs.Conditions.{IsSound}
-use Rattle.contracts.specs.Parts.{Parts, StateParts, IsWhole, state_ids}
+use Rattle.contracts.specs.Parts.{Parts, StateModel, IsWhole, state_ids}
 use Rattle.contracts.specs.Walks.{IsWalk, HasSign, IsRoundBy}
 use Rattle.contracts.proofs.ArcLemmas.{none_in}
 use Rattle.contracts.proofs.PartLemmas.{all_from, contains_map}
@@ -100,7 +100,7 @@ left_once edges sign quiet (e ∷ walk) p q leads signs = AllPairs-cons (λ x y.
 sound_quiet : (parts : Parts) → IsWhole parts → IsSound parts → (sign : Sign) (e : Edge) → Contains parts.edges e
     → IsRoundBy parts.edges sign e.from → ⊥
 sound_quiet parts whole sound sign e c by =
-    let s = made_from (λ (x : StateParts). x.id) parts.states e.from (whole.from e c) in
+    let s = made_from (λ (x : StateModel). x.id) parts.states e.from (whole.from e c) in
     let at = slice_get_read parts.states (length parts.states) s.1.0 s.0 refl s.1.1 (sym s.1.2) in
     let by_state : IsRoundBy parts.edges sign s.0.id = subst (IsRoundBy parts.edges sign) (sym s.2) by in
     sound (round s.0) (s.1.0, inr (inr (inr (record { state = s.0; at = at; sign = sign; round = by_state; is = refl }))))
@@ -112,7 +112,7 @@ walk_short parts whole sound sign walk p q leads signs =
     let apart = left_once parts.edges sign (sound_quiet parts whole sound sign) walk p q leads signs in
     let most = no_more (map left_number walk) (map number (state_ids parts)) apart listed in
     let long = length-map walk left_number in
-    let states = length-map parts.states (λ (s : StateParts). s.id) in
+    let states = length-map parts.states (λ (s : StateModel). s.id) in
     let numbers = length-map (state_ids parts) number in
     omega (arith, most, long, states, numbers)
   where

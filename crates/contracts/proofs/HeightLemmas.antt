@@ -5,7 +5,7 @@ use Rattle.std.proofs.Math.ListN.{set, length-set, replicate}
 use Rattle.std.proofs.lemmas.List.{get_or-replicate, get_or-set_other, length-replicate}
 use Rattle.std.proofs.lemmas.List.Elements.{All-contains}
 use Rattle.std.proofs.lemmas.Bool.{cases_eq, cases_Bool, true≢false}
-use Rattle.contracts.specs.Graphs.{Walk, HasEdge, InRange, OnRing, IsHeight, height_at, row_at}
+use Rattle.contracts.specs.Graphs.{Walk, HasEdge, InRange, OnRing, IsHeight, height_at, group_at}
 use Rattle.contracts.specs.Marking.{IsMarked, unmarked}
 use Rattle.contracts.specs.Rings.{AreRings}
 use Rattle.contracts.specs.Peeling.{AreHeights, Settled}
@@ -28,7 +28,7 @@ ring_from graph heights range settled (suc fuel) marks v long left lt none passe
     let fewer = unmarked_set marks v (omega (arith, lt, long)) free in
     ring_from graph heights range settled fuel (set marks v true) next.to
     (length-set marks v true ∙ long) (omega (arith, fewer, left))
-    (All-contains (λ x. x < length graph) (row_at graph v) next.to (range v) next.edge) next.none
+    (All-contains (λ x. x < length graph) (group_at graph v) next.to (range v) next.edge) next.none
     (λ u is. ⊎_elim
     (λ same. (0, (next.to, subst (λ x. HasEdge graph x next.to) (sym same) next.edge, refl)))
     (λ other. let before = passed u (sym (get_or-set_other marks v u true false other) ∙ is) in

@@ -17,7 +17,7 @@ use Rattle.program.specs.declared.number.MessageId.{MessageId}
 use Rattle.program.specs.declared.number.StateId.{StateId}
 use Rattle.contracts.specs.Conditions.{IsSound}
 use Rattle.contracts.specs.Leaving.{same_sign, leaves, all_from, edges_from, end_on, name_among}
-use Rattle.contracts.specs.Parts.{Parts, message_parts, state_ids, IsWhole}
+use Rattle.contracts.specs.Parts.{Parts, message_model, state_ids, IsWhole}
 use Rattle.contracts.specs.Positions.{listed}
 use Rattle.contracts.specs.Walks.{IsNext}
 use Rattle.contracts.proofs.ArcLemmas.{none_in}
@@ -166,29 +166,29 @@ ends_numbered parts whole s q = All-filter (leaves s q) (λ (e : Edge). e.to.0 <
     (each_from (λ (e : Edge). e.to.0 < MOST_STATES) parts.edges (to_numbered parts whole))
 
 -- the name of the first message of a number
-name_first : (messages : List Message) (x i : ℕ) (d : Message) → i < length messages → (get_or messages i d).id.0 ≡ x → ((k : ℕ) → k < i → (get_or messages k d).id.0 ≡ x → ⊥) → string_bytes (get_or messages i d).name ≡ name_among (map message_parts messages) x
+name_first : (messages : List Message) (x i : ℕ) (d : Message) → i < length messages → (get_or messages i d).id.0 ≡ x → ((k : ℕ) → k < i → (get_or messages k d).id.0 ≡ x → ⊥) → string_bytes (get_or messages i d).name ≡ name_among (map message_model messages) x
 name_first [] x i d lt is before = absurd (omega (arith, lt))
-name_first (m ∷ messages) x zero d lt is before = sym (cond-true (m.id.0 == x) (string_bytes m.name) (name_among (map message_parts messages) x) (eq-eqb m.id.0 x is))
+name_first (m ∷ messages) x zero d lt is before = sym (cond-true (m.id.0 == x) (string_bytes m.name) (name_among (map message_model messages) x) (eq-eqb m.id.0 x is))
 name_first (m ∷ messages) x (suc i) d lt is before =
     name_first messages x i d (omega (arith, lt)) is (λ k less. before (suc k) (omega (arith, less)))
-    ∙ sym (cond-false (m.id.0 == x) (string_bytes m.name) (name_among (map message_parts messages) x) (false_from_ne_true (m.id.0 == x) (λ e. before 0 (omega arith) (eqb-true m.id.0 x e))))
+    ∙ sym (cond-false (m.id.0 == x) (string_bytes m.name) (name_among (map message_model messages) x) (false_from_ne_true (m.id.0 == x) (λ e. before 0 (omega arith) (eqb-true m.id.0 x e))))
 
-name_nowhere : (messages : List Message) (x : ℕ) → ((m : Message) → Contains messages m → m.id.0 ≡ x → ⊥) → [] ≡ name_among (map message_parts messages) x
+name_nowhere : (messages : List Message) (x : ℕ) → ((m : Message) → Contains messages m → m.id.0 ≡ x → ⊥) → [] ≡ name_among (map message_model messages) x
 name_nowhere [] x none = refl
 name_nowhere (m ∷ messages) x none =
     name_nowhere messages x (λ n c. none n (contains_tail m n messages c))
-    ∙ sym (cond-false (m.id.0 == x) (string_bytes m.name) (name_among (map message_parts messages) x) (false_from_ne_true (m.id.0 == x) (λ e. none m (contains_head m messages) (eqb-true m.id.0 x e))))
+    ∙ sym (cond-false (m.id.0 == x) (string_bytes m.name) (name_among (map message_model messages) x) (false_from_ne_true (m.id.0 == x) (λ e. none m (contains_head m messages) (eqb-true m.id.0 x e))))
 
 -- at the position of a number stands the first message that has it
-pub name_there : (messages : List Message) (numbers : Listing) (x i : ℕ) (d : Message) → listed numbers ≡ map (λ (m : Message). m.id.0) messages → i < length (listed numbers) → get_or (listed numbers) i 0 ≡ x → string_bytes (get_or messages i d).name ≡ name_among (map message_parts messages) x
+pub name_there : (messages : List Message) (numbers : Listing) (x i : ℕ) (d : Message) → listed numbers ≡ map (λ (m : Message). m.id.0) messages → i < length (listed numbers) → get_or (listed numbers) i 0 ≡ x → string_bytes (get_or messages i d).name ≡ name_among (map message_model messages) x
 name_there messages numbers x i d named lt is = name_first messages x i d (below i lt) (at i lt ∙ is) (λ k less same.
-    let a = row k (omega (arith, less, lt)) in
-    let b = row i lt in
+    let a = group k (omega (arith, less, lt)) in
+    let b = group i lt in
     let e = at k (omega (arith, less, lt)) in
     absurd (omega (arith, a, b, e, same, is, less)))
   where
-    row : (k : ℕ) → k < length (listed numbers) → get_or (listed numbers) k 0 ≡ numbers.first + k
-    row k less = get_or-range_with_len numbers.first numbers.count k 0 (let size = length-range_with_len numbers.first numbers.count in omega (arith, less, size))
+    group : (k : ℕ) → k < length (listed numbers) → get_or (listed numbers) k 0 ≡ numbers.first + k
+    group k less = get_or-range_with_len numbers.first numbers.count k 0 (let size = length-range_with_len numbers.first numbers.count in omega (arith, less, size))
 
     below : (k : ℕ) → k < length (listed numbers) → k < length messages
     below k less = let size = ap length named in let same = length-map messages (λ (m : Message). m.id.0) in omega (arith, less, size, same)
@@ -197,6 +197,6 @@ name_there messages numbers x i d named lt is = name_first messages x i d (below
     at k less = sym (ap (λ l. get_or l k 0) named ∙ get_or-map (λ (m : Message). m.id.0) messages k d 0 (below k less))
 
 -- where a number is not listed, no message has it
-pub no_name : (messages : List Message) (numbers : List ℕ) (x : ℕ) → numbers ≡ map (λ (m : Message). m.id.0) messages → (Contains numbers x → ⊥) → [] ≡ name_among (map message_parts messages) x
+pub no_name : (messages : List Message) (numbers : List ℕ) (x : ℕ) → numbers ≡ map (λ (m : Message). m.id.0) messages → (Contains numbers x → ⊥) → [] ≡ name_among (map message_model messages) x
 no_name messages numbers x named other = name_nowhere messages x (λ m c is.
     other (subst (λ l. Contains l x) (sym named) (subst (Contains (map (λ (m : Message). m.id.0) messages)) is (contains_map (λ (m : Message). m.id.0) messages m c))))

@@ -11,7 +11,7 @@ use Rattle.program.specs.declared.contract.Message.{Message}
 use Rattle.program.specs.declared.number.MessageId.{MessageId}
 use Rattle.program.specs.declared.contract.Contract.{Contract}
 use Rattle.contracts.specs.Arcs.{EndsListed}
-use Rattle.contracts.specs.Parts.{StateParts, MessageParts, state_parts, message_parts, contract_parts, state_ids, IsWhole}
+use Rattle.contracts.specs.Parts.{StateModel, MessageModel, state_model, message_model, contract_parts, state_ids, IsWhole}
 
 pub get_again : {A : Type 0} (xs : List A) (k : ℕ) (d e : A) → k < length xs → get_or xs k e ≡ get_or xs k d
 get_again [] k d e lt = absurd (omega (arith, lt))
@@ -32,21 +32,21 @@ contains_map f xs x c =
     let below = c.1 in
     (c.0, omega (arith, size, below), get_or-map f xs c.0 x (f x) c.1 ∙ ap f c.2)
 
-pub state_numbers_are : (names : List ℕ) (states : List State) → map (λ (i : StateId). i.0) (map (λ (s : StateParts). s.id) (map (state_parts names) states)) ≡ map (λ (s : State). s.id.0) states
+pub state_numbers_are : (names : List ℕ) (states : List State) → map (λ (i : StateId). i.0) (map (λ (s : StateModel). s.id) (map (state_model names) states)) ≡ map (λ (s : State). s.id.0) states
 state_numbers_are names [] = refl
 state_numbers_are names (s ∷ rest) = ap (λ l. s.id.0 ∷ l) (state_numbers_are names rest)
 
-pub message_numbers_are : (messages : List Message) → map (λ (i : MessageId). i.0) (map (λ (m : MessageParts). m.id) (map message_parts messages)) ≡ map (λ (m : Message). m.id.0) messages
+pub message_numbers_are : (messages : List Message) → map (λ (i : MessageId). i.0) (map (λ (m : MessageModel). m.id) (map message_model messages)) ≡ map (λ (m : Message). m.id.0) messages
 message_numbers_are [] = refl
 message_numbers_are (m ∷ rest) = ap (λ l. m.id.0 ∷ l) (message_numbers_are rest)
 
 -- a state's number stands among the numbers
-pub state_number_in : (names : List ℕ) (states : List State) (id : StateId) → Contains (map (λ (s : StateParts). s.id) (map (state_parts names) states)) id → Contains (map (λ (s : State). s.id.0) states) id.0
-state_number_in names states id c = subst (λ l. Contains l id.0) (state_numbers_are names states) (contains_map (λ (i : StateId). i.0) (map (λ (s : StateParts). s.id) (map (state_parts names) states)) id c)
+pub state_number_in : (names : List ℕ) (states : List State) (id : StateId) → Contains (map (λ (s : StateModel). s.id) (map (state_model names) states)) id → Contains (map (λ (s : State). s.id.0) states) id.0
+state_number_in names states id c = subst (λ l. Contains l id.0) (state_numbers_are names states) (contains_map (λ (i : StateId). i.0) (map (λ (s : StateModel). s.id) (map (state_model names) states)) id c)
 
 -- a message's number stands among the numbers
-pub message_number_in : (messages : List Message) (id : MessageId) → Contains (map (λ (m : MessageParts). m.id) (map message_parts messages)) id → Contains (map (λ (m : Message). m.id.0) messages) id.0
-message_number_in messages id c = subst (λ l. Contains l id.0) (message_numbers_are messages) (contains_map (λ (i : MessageId). i.0) (map (λ (m : MessageParts). m.id) (map message_parts messages)) id c)
+pub message_number_in : (messages : List Message) (id : MessageId) → Contains (map (λ (m : MessageModel). m.id) (map message_model messages)) id → Contains (map (λ (m : Message). m.id.0) messages) id.0
+message_number_in messages id c = subst (λ l. Contains l id.0) (message_numbers_are messages) (contains_map (λ (i : MessageId). i.0) (map (λ (m : MessageModel). m.id) (map message_model messages)) id c)
 
 -- each number stands at one place
 pub record IsOnce (numbers : List ℕ) : Type 0 where
@@ -55,7 +55,7 @@ pub record IsOnce (numbers : List ℕ) : Type 0 where
 id_of : ℕ → StateId
 id_of n = record { 0 = n }
 
-pub numbers_once : (names : List ℕ) (states : List State) → AllPairs (λ x y. x ≢ y) (map (λ (s : StateParts). s.id) (map (state_parts names) states)) → IsOnce (map (λ (s : State). s.id.0) states)
+pub numbers_once : (names : List ℕ) (states : List State) → AllPairs (λ x y. x ≢ y) (map (λ (s : StateModel). s.id) (map (state_model names) states)) → IsOnce (map (λ (s : State). s.id.0) states)
 unfolding id_of
 numbers_once names states apart = record {
   same = λ v w lt_v lt_w equal. ⊎_elim
@@ -68,7 +68,7 @@ numbers_once names states apart = record {
 }
   where
     ids : List StateId
-    ids = map (λ (s : StateParts). s.id) (map (state_parts names) states)
+    ids = map (λ (s : StateModel). s.id) (map (state_model names) states)
 
     numbers : List ℕ
     numbers = map (λ (s : State). s.id.0) states
@@ -104,6 +104,6 @@ few_numbers e whole = walk e.states.items refl
     walk (s ∷ rest) is =
         let many = ap length is in
         let last : ℕ = length rest in
-        let at = whole.states_in_row last (omega (arith, many, size)) in
+        let at = whole.states_consecutive last (omega (arith, many, size)) in
         let below = All-get_or (λ q. q < MOST_STATES) numbers last 0 (omega (arith, many, size)) (All-map (λ q. q < MOST_STATES) (λ (i : StateId). i.0) (state_ids (contract_parts e)) whole.numbered) in
         omega (arith, at, below, many)

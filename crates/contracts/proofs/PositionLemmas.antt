@@ -9,17 +9,17 @@ use Rattle.std.proofs.lemmas.Bool.{cases_eq, leb-true, ltb-true, lt-ltb}
 use Rattle.std.proofs.lemmas.List.Quantifiers.{position-Some}
 use Rattle.std.proofs.lemmas.Map.Lookups.{exact_pairs, exact_unsigned}
 use Rattle.lemmas.proofs.FirstPlaces.{found_lt, first_by, is_equal}
-use Rattle.contracts.specs.Parts.{AreInRow}
+use Rattle.contracts.specs.Parts.{AreConsecutive}
 use Rattle.contracts.specs.declared.positions.Listing.{Listing}
 use Rattle.contracts.specs.Positions.{listed, pair_cmp}
 use Rattle.contracts.proofs.PartLemmas.{IsOnce, get_again}
 
 -- numbers that go up by one are known by the first and their count
-pub row_is : (first : ℕ) (numbers : List ℕ) → AreInRow first numbers → range_with_len first (length numbers) ≡ numbers
-row_is first [] row = refl
-row_is first (n ∷ ns) row =
-    let head : n ≡ first + 0 = row 0 (omega arith) in
-    let rest = row_is (first + 1) ns (λ i lt. let e = row (suc i) (omega (arith, lt)) in omega (arith, e)) in
+pub row_is : (first : ℕ) (numbers : List ℕ) → AreConsecutive first numbers → range_with_len first (length numbers) ≡ numbers
+row_is first [] group = refl
+row_is first (n ∷ ns) group =
+    let head : n ≡ first + 0 = group 0 (omega arith) in
+    let rest = row_is (first + 1) ns (λ i lt. let e = group (suc i) (omega (arith, lt)) in omega (arith, e)) in
     ap (λ l. first ∷ l) rest ∙ ap (λ k. k ∷ ns) (omega (arith, head))
 
 -- the numbers of a row
@@ -50,11 +50,11 @@ listed_once l = record {
 pub has_row : (first count n : ℕ) → first ≤ n → IsTrue (nat_lt (n - first) count) ↔ Contains (range_with_len first count) n
 has_row first count n low = (
   λ yes. in_row first count n low (let lt = ltb-true (n - first) count yes in omega (arith, lt, low)),
-  λ c. lt-ltb (n - first) count (let row = from_row first count n c in omega (arith, row.0, row.1)),
+  λ c. lt-ltb (n - first) count (let group = from_row first count n c in omega (arith, group.0, group.1)),
 )
 
 pub before_row : (first count n : ℕ) → n < first → IsTrue (leb first n) ↔ Contains (range_with_len first count) n
-before_row first count n less = (λ yes. let low = leb-true first n yes in absurd (omega (arith, low, less)), λ c. let row = from_row first count n c in absurd (omega (arith, row.0, less)))
+before_row first count n less = (λ yes. let low = leb-true first n yes in absurd (omega (arith, low, less)), λ c. let group = from_row first count n c in absurd (omega (arith, group.0, less)))
 
 -- an element that passes, where none before it does, is the first
 pub is_first : {X : Type 0} (p : X → Bool) (xs : List X) (i : ℕ) (d : X) → i < length xs → p (get_or xs i d) ≡ true → ((j : ℕ) → j < i → p (get_or xs j d) ≡ true → ⊥) → position p xs ≡ Some i

@@ -7,8 +7,8 @@ use Rattle.std.proofs.lemmas.List.Elements.{Contains-append_cases, Contains-appe
 use Rattle.source.specs.declared.finding.Code.TheVariants.{C04}
 use Rattle.program.specs.declared.contract.Sign.{Sign}
 use Rattle.program.specs.declared.contract.Edge.{Edge}
-use Rattle.contracts.specs.Parts.{Parts, StateParts, contract_parts, state_parts}
-use Rattle.contracts.specs.Conditions.{FindingParts, IsAgainst, IsTwice, IsBoth, IsRound, IsFault, AreExactly, IsSound}
+use Rattle.contracts.specs.Parts.{Parts, StateModel, contract_parts, state_model}
+use Rattle.contracts.specs.Conditions.{FindingModel, IsAgainst, IsTwice, IsBoth, IsRound, IsFault, AreExactly, IsSound}
 use Rattle.contracts.specs.Found.{FoundBelow}
 use Rattle.contracts.specs.Walks.{IsRoundBy}
 use Rattle.contracts.proofs.ConditionLemmas.{one_of}
@@ -22,23 +22,23 @@ use Rattle.contracts.proofs.GraphLemmas.{state_number}
 use Rattle.contracts.proofs.Rings.{in_row}
 use Rattle.contracts.proofs.WalkLemmas.{ring_round}
 
-abbrev pub round : StateParts → FindingParts
+abbrev pub round : StateModel → FindingModel
 round s = record { place = s.place; code = C04; text = codes "one direction round " ++ utf8_lossy s.name }
 
-pub round_more : (states : List StateParts) (edges : List Edge) (i : ℕ) (s : StateParts) (sign : Sign) (found : List FindingParts)
+pub round_more : (states : List StateModel) (edges : List Edge) (i : ℕ) (s : StateModel) (sign : Sign) (found : List FindingModel)
     → slice_get states i ≡ Some s → IsRoundBy edges sign s.id
     → FoundBelow (IsRound states edges) i found → FoundBelow (IsRound states edges) (i + 1) (found ++ record { place = s.place; code = C04; text = codes "one direction round " ++ utf8_lossy s.name } ∷ [])
 round_more states edges i s sign found at by h = found_more (IsRound states edges) i found (round s) h
     (record { state = s; at = at; sign = sign; round = by; is = refl })
     (λ f is. let same : s ≡ is.state = one_of s is.state (sym at ∙ is.at) in ap round same ∙ sym is.is)
 
-pub round_same : (states : List StateParts) (edges : List Edge) (i : ℕ) (found : List FindingParts)
-    → ((s : StateParts) (sign : Sign) → slice_get states i ≡ Some s → IsRoundBy edges sign s.id → ⊥)
+pub round_same : (states : List StateModel) (edges : List Edge) (i : ℕ) (found : List FindingModel)
+    → ((s : StateModel) (sign : Sign) → slice_get states i ≡ Some s → IsRoundBy edges sign s.id → ⊥)
     → FoundBelow (IsRound states edges) i found → FoundBelow (IsRound states edges) (i + 1) found
 round_same states edges i found none h = found_same (IsRound states edges) i found h (λ f is. none is.state is.sign is.at is.round)
 
 -- the four together
-pub all_found : (parts : Parts) (a b c d : List FindingParts)
+pub all_found : (parts : Parts) (a b c d : List FindingModel)
     → FoundBelow (IsAgainst parts.messages parts.edges) (length parts.edges) a
     → FoundBelow (IsTwice parts.messages parts.edges) (length parts.edges) b
     → FoundBelow (IsBoth parts.states parts.edges) (length parts.states) c
@@ -71,12 +71,12 @@ all_found parts a b c d in_a in_b in_c in_d = record {
 pub no_rings : (e : Contract) (sign : Sign) (graph : List (List ℕ)) → IsSound (contract_parts e) → IsDrawn (map (λ (s : State). s.id.0) e.states.items) e.edges.items (λ x. x.sign ≡ sign) graph → (v : ℕ) → OnRing graph v → ⊥
 no_rings e sign graph sound drawn v ring =
     let names = string_bytes e.state_names in
-    let states = map (state_parts names) e.states.items in
+    let states = map (state_model names) e.states.items in
     let numbers = map (λ (s : State). s.id.0) e.states.items in
     let lt = in_row graph v ring.1.0 ring.1.1 in
     let long = drawn.long in
     let size = length-map e.states.items (λ (s : State). s.id.0) in
-    let size_states = length-map e.states.items (state_parts names) in
+    let size_states = length-map e.states.items (state_model names) in
     ⊎_elim
     (λ there. let s = there.0 in
     let by = ring_round numbers e.edges.items sign graph drawn v s.id (state_number names e.states.items v s there.2) ring in

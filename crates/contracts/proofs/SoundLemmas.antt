@@ -9,7 +9,7 @@ use Rattle.program.specs.declared.contract.Edge.{Edge}
 use Rattle.program.specs.declared.number.MessageId.{MessageId}
 use Rattle.program.specs.declared.number.StateId.{StateId}
 use Rattle.contracts.specs.Conditions.{IsSound}
-use Rattle.contracts.specs.Parts.{Parts, StateParts, MessageParts, IsWhole}
+use Rattle.contracts.specs.Parts.{Parts, StateModel, MessageModel, IsWhole}
 use Rattle.contracts.specs.TwoEnds.{Leads}
 use Rattle.contracts.proofs.ConditionLemmas.{both, twice}
 use Rattle.contracts.proofs.PartLemmas.{get_again}
@@ -22,13 +22,13 @@ pub record IsDirected (edges : List Edge) : Type 0 where
 -- an edge before another with its state and its message
 repeats : (parts : Parts) → IsWhole parts → IsSound parts → (i j : ℕ) (d e : Edge) → i < j → slice_get parts.edges i ≡ Some d → slice_get parts.edges j ≡ Some e → Contains parts.edges e → d.from ≡ e.from → d.message ≡ e.message → ⊥
 repeats parts whole sound i j d e less at_d at_e c from message =
-    let m = made_from (λ (x : MessageParts). x.id) parts.messages e.message (whole.message e c) in
-    sound (twice e m.0) (j, inr (inl (record { edge = e; at = at_e; place = i; before = less; earlier = d; there = at_d; state = from; same = message; message = m.0; listed = m.1; its = m.2; is = refl })))
+    let m = made_from (λ (x : MessageModel). x.id) parts.messages e.message (whole.message e c) in
+    sound (twice e m.0) (j, inr (inl (record { edge = e; at = at_e; index = i; before = less; earlier = d; there = at_d; state = from; same = message; message = m.0; listed = m.1; its = m.2; is = refl })))
 
 -- a state with edges of both signs
 mixed : (parts : Parts) → IsWhole parts → IsSound parts → (d e : Edge) → Contains parts.edges d → Contains parts.edges e → d.from ≡ e.from → d.sign ≡ Send → e.sign ≡ Receive → ⊥
 mixed parts whole sound d e in_d in_e from send receive =
-    let s = made_from (λ (x : StateParts). x.id) parts.states e.from (whole.from e in_e) in
+    let s = made_from (λ (x : StateModel). x.id) parts.states e.from (whole.from e in_e) in
     let at = slice_get_read parts.states (length parts.states) s.1.0 s.0 refl s.1.1 (sym s.1.2) in
     sound (both s.0) (s.1.0, inr (inr (inl (record { state = s.0; at = at; sends = d; sends_in = in_d; sends_from = from ∙ sym s.2; sends_sign = send; receives = e; receives_in = in_e; receives_from = sym s.2; receives_sign = receive; is = refl }))))
 

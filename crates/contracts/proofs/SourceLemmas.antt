@@ -8,13 +8,13 @@ use Rattle.program.specs.declared.contract.Edge.{Edge}
 use Rattle.contracts.specs.declared.arcs.Arc.{Arc}
 use Rattle.contracts.specs.Arcs.{EndsListed, arc, begins, ends_from}
 use Rattle.contracts.specs.Chains.{AreEnds}
-use Rattle.contracts.specs.Graphs.{row_at}
+use Rattle.contracts.specs.Graphs.{group_at}
 use Rattle.contracts.specs.Leaving.{AreLeaving, AreSources, all_from, edge_at}
 use Rattle.contracts.proofs.LeavingLemmas.{none_pass}
 use Rattle.contracts.proofs.PartLemmas.{IsOnce, get_again}
 
 pub sources_none : (numbers : List ℕ) (edges : List Edge) → AreSources numbers edges 0 []
-sources_none numbers edges = record { within = All-nil (λ (a : Arc). (a.from < length numbers) × (a.to < length edges)); row = λ v lt. refl }
+sources_none numbers edges = record { within = All-nil (λ (a : Arc). (a.from < length numbers) × (a.to < length edges)); group = λ v lt. refl }
 
 one_more : (edges : List Edge) (n q : ℕ) → n < length edges → all_from (take (n + 1) edges) q ≡ all_from (take n edges) q ++ all_from (edge_at edges n ∷ []) q
 one_more edges n q lt = filter_more (λ (e : Edge). e.from.0 == q) edges n (edge_at edges n) lt ∙ ap (λ (e : Edge). all_from (take n edges) q ++ all_from (e ∷ []) q) (get_again edges n _ (edge_at edges n) lt)
@@ -24,9 +24,9 @@ pub sources_more : (numbers : List ℕ) (edges : List Edge) (n p : ℕ) (arcs : 
     → AreSources numbers edges n arcs → AreSources numbers edges (n + 1) (arcs ++ arc p n ∷ [])
 sources_more numbers edges n p arcs once lt within at h = record {
   within = All-push (λ (a : Arc). (a.from < length numbers) × (a.to < length edges)) arcs (arc p n) h.within (within, lt);
-  row = λ v less. ap (map (edge_at edges)) (ap (map (λ (a : Arc). a.to)) (filter-append (begins v) arcs (arc p n ∷ [])) ∙ map-append (λ (a : Arc). a.to) (filter (begins v) arcs) (filter (begins v) (arc p n ∷ [])))
+  group = λ v less. ap (map (edge_at edges)) (ap (map (λ (a : Arc). a.to)) (filter-append (begins v) arcs (arc p n ∷ [])) ∙ map-append (λ (a : Arc). a.to) (filter (begins v) arcs) (filter (begins v) (arc p n ∷ [])))
       ∙ map-append (edge_at edges) (ends_from arcs v) (ends_from (arc p n ∷ []) v)
-      ∙ ap (λ l. l ++ map (edge_at edges) (ends_from (arc p n ∷ []) v)) (h.row v less)
+      ∙ ap (λ l. l ++ map (edge_at edges) (ends_from (arc p n ∷ []) v)) (h.group v less)
       ∙ ap (λ l. all_from (take n edges) (get_or numbers v 0) ++ l) (last v less)
       ∙ sym (one_more edges n (get_or numbers v 0) lt);
 }
@@ -50,7 +50,7 @@ pub leaving_is : (numbers : List ℕ) (edges : List Edge) (arcs : List Arc) (gra
     → lists ≡ map (map (edge_at edges)) graph → AreLeaving numbers edges lists
 leaving_is numbers edges arcs graph lists ends h are is = (
   ap length is ∙ length-map graph (map (edge_at edges)) ∙ are.long,
-  λ v lt. ap (λ l. row_at l v) is ∙ get_or-map (map (edge_at edges)) graph v [] [] (let size = are.long in omega (arith, lt, size))
-      ∙ ap (map (edge_at edges)) (are.row v lt) ∙ h.row v lt ∙ ap (λ l. all_from l (get_or numbers v 0)) (take_all (length edges) edges (omega arith)),
+  λ v lt. ap (λ l. group_at l v) is ∙ get_or-map (map (edge_at edges)) graph v [] [] (let size = are.long in omega (arith, lt, size))
+      ∙ ap (map (edge_at edges)) (are.group v lt) ∙ h.group v lt ∙ ap (λ l. all_from l (get_or numbers v 0)) (take_all (length edges) edges (omega arith)),
   λ q other. none_pass (λ (e : Edge). e.from.0 == q) edges (λ e c here. other (subst (Contains numbers) (eqb-true e.from.0 q here) (ends e c).0)),
 )

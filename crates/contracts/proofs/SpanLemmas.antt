@@ -5,7 +5,7 @@ use Rattle.std.proofs.Math.ListN.{length-append}
 use Rattle.std.proofs.lemmas.Bool.{cases_eq}
 use Rattle.std.proofs.lemmas.List.{drop_at, get_or_append_left, get_or_push, take_all, take-append-le, take-map, drop-map}
 use Rattle.std.proofs.lemmas.Slice.{between_is}
-use Rattle.contracts.specs.Graphs.{row_at}
+use Rattle.contracts.specs.Graphs.{group_at}
 use Rattle.contracts.specs.Spans.{AreWithin, cut, cut_from, start_of}
 
 -- behind the first row another one is the first
@@ -23,7 +23,7 @@ start_is ends zero other = absurd (other refl)
 start_is ends (suc v) other = ap (λ k. get_or ends k 0) (let one : suc v - 1 ≡ v = omega arith in one)
 
 -- the row at a place
-pub cut_at : {T : Type 0} (start : ℕ) (items : List T) (ends : List ℕ) (v : ℕ) → v < length ends → between (start_of start ends v) (get_or ends v 0) items ≡ row_at (cut_from start items ends) v
+pub cut_at : {T : Type 0} (start : ℕ) (items : List T) (ends : List ℕ) (v : ℕ) → v < length ends → between (start_of start ends v) (get_or ends v 0) items ≡ group_at (cut_from start items ends) v
 cut_at start items [] v lt = absurd (omega (arith, lt))
 cut_at start items (end ∷ ends) zero lt = refl
 cut_at start items (end ∷ ends) (suc v) lt = ap (λ k. between k (get_or ends v 0) items) (shift start end ends v) ∙ cut_at end items ends v (omega (arith, lt))

@@ -2,13 +2,13 @@
 use Rattle.std.proofs.Common.{◌≡◌, ℕ, ◌+◌, ◌*◌, ◌<◌, ◌≤◌, length, take, get_or, sym, ap, ◌∙◌, arith}
 use Rattle.std.proofs.lemmas.List.{length-drop, length-take}
 use Rattle.std.proofs.lemmas.Slice.{between_is}
-use Rattle.contracts.specs.Graphs.{row_at, rows}
+use Rattle.contracts.specs.Graphs.{group_at, groups}
 use Rattle.contracts.specs.Spans.{start_of}
-use Rattle.contracts.specs.declared.rows.Rows.{Rows}
+use Rattle.contracts.specs.declared.groups.Groups.{Groups}
 use Rattle.contracts.proofs.SpanLemmas.{cut_at, cut_long}
 
 -- a row is no longer than all items
-pub row_short : (graph : Rows ℕ) (v : ℕ) → v < length (rows graph) → length (row_at (rows graph) v) ≤ length graph.items.items
+pub row_short : (graph : Groups ℕ) (v : ℕ) → v < length (groups graph) → length (group_at (groups graph) v) ≤ length graph.items.items
 row_short graph v lt =
     let items = graph.items.items in
     let ends = graph.ends.items in
@@ -21,8 +21,8 @@ row_short graph v lt =
     omega (arith, at, a, b)
 
 -- to enter a vertex is worth more steps than its row has
-pub enter_fewer : (before after size arcs bounds row : ℕ) → after + 1 ≡ before → row ≤ size → after * (size + 2) + (arcs + row) + (bounds + 1) < before * (size + 2) + arcs + bounds
-enter_fewer before after size arcs bounds row one short =
+pub enter_fewer : (before after size arcs bounds group : ℕ) → after + 1 ≡ before → group ≤ size → after * (size + 2) + (arcs + group) + (bounds + 1) < before * (size + 2) + arcs + bounds
+enter_fewer before after size arcs bounds group one short =
     let e : before * (size + 2) ≡ (after + 1) * (size + 2) = ap (λ n. n * (size + 2)) (sym one) in
     omega (arith, e, short)
 

@@ -2,18 +2,18 @@
 use Rattle.std.proofs.Common.{◌≡◌, ◌≢◌, ℕ, ◌<◌, List, length, map, sym, ap, ◌∙◌, subst, arith}
 use Rattle.std.specs.Prelude.{Contains, All, AllPairs}
 use Rattle.std.proofs.lemmas.List.{length-map, get_or-map}
-use Rattle.contracts.specs.Parts.{AreInRow}
+use Rattle.contracts.specs.Parts.{AreConsecutive}
 use Rattle.contracts.proofs.PartLemmas.{get_again, contains_map}
 use Rattle.contracts.proofs.ListLemmas.{made_from}
 
 -- numbers that go up by one differ
-pub row_once : (first : ℕ) (numbers : List ℕ) → AreInRow first numbers → AllPairs (λ x y. x ≢ y) numbers
-row_once first numbers row = λ i j d less lt same.
+pub row_once : (first : ℕ) (numbers : List ℕ) → AreConsecutive first numbers → AllPairs (λ x y. x ≢ y) numbers
+row_once first numbers group = λ i j d less lt same.
     let before : i < length numbers = omega (arith, less, lt) in
     let at_i = get_again numbers i 0 d before in
     let at_j = get_again numbers j 0 d lt in
-    let a = row i before in
-    let b = row j lt in
+    let a = group i before in
+    let b = group j lt in
     absurd (omega (arith, less, same, at_i, at_j, a, b))
 
 -- what is told apart by numbers that differ differs

@@ -20,7 +20,7 @@ abbrev pub AllWithin : ℕ → List Arc → Type 0
 AllWithin count arcs = All (λ a. (a.from < count) × (a.to < count)) arcs
 
 -- the rows have exactly the arcs
-pub record AreRows (count : ℕ) (arcs : List Arc) (graph : List (List ℕ)) : Type 0 where
+pub record AreGroups (count : ℕ) (arcs : List Arc) (graph : List (List ℕ)) : Type 0 where
   pub long : length graph ≡ count
   pub range : InRange graph
   pub right : (v w : ℕ) → HasEdge graph v w → Contains arcs (arc v w)

@@ -2,7 +2,7 @@
 use Rattle.std.specs.Prelude.{◌≡◌, ℕ, ◌+◌, ◌<◌, ◌≤◌, List, length, filter, drop, get_or}
 use Rattle.contracts.specs.declared.arcs.Arc.{Arc}
 use Rattle.contracts.specs.Arcs.{arc, begins, ends_from}
-use Rattle.contracts.specs.Graphs.{row_at}
+use Rattle.contracts.specs.Graphs.{group_at}
 
 abbrev pub start_at : List Arc → ℕ → ℕ
 start_at arcs i = (get_or arcs i (arc 0 0)).from
@@ -22,4 +22,4 @@ pub record AreChained (arcs : List Arc) (k : ℕ) (firsts nexts : List ℕ) : Ty
 -- so many rows, each with the ends of the arcs that begin at its vertex
 pub record AreEnds (arcs : List Arc) (count : ℕ) (graph : List (List ℕ)) : Type 0 where
   pub long : length graph ≡ count
-  pub row : (v : ℕ) → v < count → row_at graph v ≡ ends_from arcs v
+  pub group : (v : ℕ) → v < count → group_at graph v ≡ ends_from arcs v

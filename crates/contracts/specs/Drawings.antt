@@ -9,7 +9,7 @@ use Rattle.contracts.specs.declared.drawing.Drawing.{Drawing}
 use Rattle.contracts.specs.Arcs.{IsDrawn}
 use Rattle.contracts.specs.Bounds.{IsBound}
 use Rattle.contracts.specs.Conditions.{IsSound}
-use Rattle.contracts.specs.Graphs.{InRange, rows}
+use Rattle.contracts.specs.Graphs.{InRange, groups}
 use Rattle.contracts.specs.Rings.{AreRings}
 use Rattle.contracts.specs.Parts.{contract_parts}
 use Rattle.contracts.specs.Peeling.{AreHeights}
@@ -20,16 +20,16 @@ DrawsSign c sign graph = IsDrawn (map (λ s. s.id.0) c.states.items) c.edges.ite
 
 -- the graph is that of the edges of the sign, with what walks along them do
 pub record IsSignGraph (c : Contract) (sign : Sign) (graph : SignGraph) : Type 0 where
-  pub range : InRange (rows graph.rows)
-  pub heights : AreHeights (rows graph.rows) graph.heights.items
-  pub rings : AreRings (rows graph.rows) graph.rings.items
-  pub drawn : DrawsSign c sign (rows graph.rows)
+  pub range : InRange (groups graph.groups)
+  pub heights : AreHeights (groups graph.groups) graph.heights.items
+  pub rings : AreRings (groups graph.groups) graph.rings.items
+  pub drawn : DrawsSign c sign (groups graph.groups)
 
 -- a state is marked where an edge of the sign begins there, and where such edges lead from it back to it
 pub record AreMarks (c : Contract) (sign : Sign) (marks : Marks) : Type 0 where
   pub graph : List (List ℕ)
   pub drawn : DrawsSign c sign graph
-  pub leaves : marks.leaves.items ≡ map (λ row. not (length row == 0)) graph
+  pub leaves : marks.leaves.items ≡ map (λ group. not (length group == 0)) graph
   pub rings : AreRings graph marks.rings.items
 
 -- the marks are those of each sign, and the bounds are right where the contract is sound

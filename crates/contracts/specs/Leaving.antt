@@ -8,8 +8,8 @@ use Rattle.program.specs.declared.kind.Side.{Side}
 use Rattle.program.specs.declared.kind.Side.TheVariants.{Imp, Exp}
 use Rattle.contracts.specs.declared.arcs.Arc.{Arc}
 use Rattle.contracts.specs.Arcs.{ends_from}
-use Rattle.contracts.specs.Graphs.{row_at}
-use Rattle.contracts.specs.Parts.{MessageParts}
+use Rattle.contracts.specs.Graphs.{group_at}
+use Rattle.contracts.specs.Parts.{MessageModel}
 
 -- the sign of the edges along which an end sends; along those of the other sign it receives
 abbrev pub sign_from : Side → Sign
@@ -35,7 +35,7 @@ end_on [] message = None
 end_on (e ∷ edges) message = if e.message.0 == message then Some e.to.0 else end_on edges message
 
 -- the name of the first message of this number, if there is one
-abbrev pub name_among : List MessageParts → ℕ → List ℕ
+abbrev pub name_among : List MessageModel → ℕ → List ℕ
 name_among [] message = []
 name_among (m ∷ messages) message = if m.id.0 == message then m.name else name_among messages message
 
@@ -46,7 +46,7 @@ all_from edges q = filter (λ e. e.from.0 == q) edges
 -- a row for each of the numbers has the edges from that state, and other states have none
 abbrev pub AreLeaving : List ℕ → List Edge → List (List Edge) → Type 0
 AreLeaving numbers edges lists = (length lists ≡ length numbers)
-    × ((v : ℕ) → v < length numbers → row_at lists v ≡ all_from edges (get_or numbers v 0))
+    × ((v : ℕ) → v < length numbers → group_at lists v ≡ all_from edges (get_or numbers v 0))
     × ((q : ℕ) → (Contains numbers q → ⊥) → all_from edges q ≡ [])
 
 abbrev pub edge_at : List Edge → ℕ → Edge
@@ -61,4 +61,4 @@ edge_at edges i = get_or edges i record {
 -- for each of the first n edges an arc from the position of its state to its place
 pub record AreSources (numbers : List ℕ) (edges : List Edge) (n : ℕ) (arcs : List Arc) : Type 0 where
   pub within : All (λ a. (a.from < length numbers) × (a.to < length edges)) arcs
-  pub row : (v : ℕ) → v < length numbers → map (edge_at edges) (ends_from arcs v) ≡ all_from (take n edges) (get_or numbers v 0)
+  pub group : (v : ℕ) → v < length numbers → map (edge_at edges) (ends_from arcs v) ≡ all_from (take n edges) (get_or numbers v 0)

@@ -6,8 +6,8 @@ use Rattle.contracts.specs.Marking.{IsMarked}
 -- each vertex leads where it does in the one graph and in the other
 abbrev pub joined : List (List ℕ) → List (List ℕ) → List (List ℕ)
 joined [] more = more
-joined (row ∷ rows) [] = row ∷ rows
-joined (row ∷ rows) (other ∷ others) = (row ++ other) ∷ joined rows others
+joined (group ∷ groups) [] = group ∷ groups
+joined (group ∷ groups) (other ∷ others) = (group ++ other) ∷ joined groups others
 
 -- exactly what can be reached from the first vertex along edges of both graphs is marked
 pub record AreReached (sends receives : List (List ℕ)) (first : ℕ) (marks : List Bool) : Type 0 where

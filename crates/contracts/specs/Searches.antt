@@ -2,7 +2,7 @@
 use Rattle.std.specs.Prelude.{◌≡◌, ℕ, ◌+◌, ◌*◌, ◌<◌, ◌≤◌, List, [], ◌∷◌, ◌++◌, length, map, take, All, Contains}
 use Rattle.std.specs.Prelude.{Bool, true, false, ◌⊎◌, get_or, count_by, slice_set}
 use Rattle.contracts.specs.declared.arcs.Arc.{Arc}
-use Rattle.contracts.specs.declared.rows.Rows.{Rows}
+use Rattle.contracts.specs.declared.groups.Groups.{Groups}
 use Rattle.contracts.specs.declared.components.Search.{Search}
 use Rattle.contracts.specs.declared.components.Status.{Status}
 use Rattle.contracts.specs.declared.components.Status.TheVariants.{New, Pending, Complete}
@@ -82,7 +82,7 @@ abbrev pub StayMet : Search → Search → Type 0
 StayMet old new = (v : ℕ) → IsMet old v → IsMet new v
 
 -- a bound of the steps that are left: to meet a vertex, to follow an arc, to complete a component
-abbrev pub steps_left : Rows ℕ → Search → ℕ
+abbrev pub steps_left : Groups ℕ → Search → ℕ
 steps_left graph s = count_by is_new s.statuses.items * (length graph.items.items + 2) + length s.arcs.items + length s.bounds.items
 
 -- the last arc that is left leads here, and from the last component

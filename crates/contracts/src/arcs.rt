@@ -1,18 +1,18 @@
 //! Edges of one sign as arcs between the positions of their states.
 
 ghost use Rattle.std.specs.Prelude.{◌≡◌, ◌==◌, ◌≤◌, length, map, not, IfOk};
-ghost use Rattle.contracts.specs.Graphs.{InRange, rows};
+ghost use Rattle.contracts.specs.Graphs.{InRange, groups};
 ghost use Rattle.contracts.specs.Arcs.{AreArcs, IsDrawn, EndsListed};
 ghost use Rattle.contracts.specs.Rings.{AreRings};
 ghost use Rattle.contracts.specs.Peeling.{AreHeights};
 ghost use Rattle.contracts.specs.Positions.{listed};
 ghost use Rattle.program.specs.declared.limits.TheConstants.{MOST_STATES};
 
-use crate::grouping::rows_of;
+use crate::grouping::groups_of;
+use crate::groups::Groups;
 use crate::heights::first_heights;
 use crate::positions::Listing;
-use crate::ringing::{nonempty_rows, rings};
-use crate::rows::Rows;
+use crate::ringing::{nonempty_groups, rings};
 use program::{Edge, Sign};
 use std::alloc::{AllocError, Global};
 
@@ -27,7 +27,7 @@ pub struct Arc {
 /// position, where there is a longest one, and whether one leads from there back to it.
 #[derive(Drop)]
 pub struct SignGraph {
-    pub rows: Rows<usize>,
+    pub groups: Groups<usize>,
     pub heights: Vec<Option<u32>>,
     pub rings: Vec<bool>,
 }
@@ -49,19 +49,19 @@ impl SignGraph {
     ) -> Result<SignGraph, AllocError>
         requires few { length (listed states) ≤ MOST_STATES }
         requires listed { EndsListed (listed states) edges.now }
-        ensures range { IfOk result (λ graph. InRange (rows graph.rows)) }
+        ensures range { IfOk result (λ graph. InRange (groups graph.groups)) }
         ensures drawn { IfOk result (λ graph. IsDrawn (listed states) edges.now
-            (λ e. e.sign ≡ sign) (rows graph.rows)) }
-        ensures heights { IfOk result (λ graph. AreHeights (rows graph.rows) graph.heights.items) }
-        ensures rings { IfOk result (λ graph. AreRings (rows graph.rows) graph.rings.items) }
+            (λ e. e.sign ≡ sign) (groups graph.groups)) }
+        ensures heights { IfOk result (λ graph. AreHeights (groups graph.groups) graph.heights.items) }
+        ensures rings { IfOk result (λ graph. AreRings (groups graph.groups) graph.rings.items) }
     {
         let arcs = arcs_of(alloc, edges, states, sign)?;
-        let rows = rows_of(alloc, states.len(), &arcs)?;
+        let groups = groups_of(alloc, states.len(), &arcs)?;
         drop(arcs); // a large contract takes less memory so
-        let mut heights = first_heights(alloc, &rows)?;
-        let rings = rings(alloc, &rows, &mut heights)?;
+        let mut heights = first_heights(alloc, &groups)?;
+        let rings = rings(alloc, &groups, &mut heights)?;
         Ok(SignGraph {
-            rows,
+            groups,
             heights,
             rings,
         })
@@ -69,10 +69,10 @@ impl SignGraph {
 
     /// What is asked of it once the bounds are known. The rest is dropped.
     pub fn into_marks(self, alloc: Global) -> Result<Marks, AllocError>
-        ensures leaves { IfOk result (λ marks. marks.leaves.items ≡ map (λ row. not (length row == 0)) (rows self.rows)) }
+        ensures leaves { IfOk result (λ marks. marks.leaves.items ≡ map (λ group. not (length group == 0)) (groups self.groups)) }
         ensures rings { IfOk result (λ marks. marks.rings ≡ self.rings) }
     {
-        let leaves = nonempty_rows(alloc, &self.rows)?;
+        let leaves = nonempty_groups(alloc, &self.groups)?;
         Ok(Marks {
             leaves,
             rings: self.rings,

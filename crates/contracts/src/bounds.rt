@@ -4,7 +4,7 @@ ghost use Rattle.std.specs.Prelude.{◌≡◌, ◌<◌, ◌≤◌, ◌⊎◌, �
 ghost use Rattle.contracts.specs.Bounds.{IsBound};
 ghost use Rattle.contracts.specs.Conditions.{IsSound};
 ghost use Rattle.contracts.specs.Drawings.{IsSignGraph};
-ghost use Rattle.contracts.specs.Graphs.{rows, InRange, OnRing, height_at};
+ghost use Rattle.contracts.specs.Graphs.{groups, InRange, OnRing, height_at};
 ghost use Rattle.contracts.specs.Marking.{IsMarked};
 ghost use Rattle.contracts.specs.Parts.{IsWhole, contract_parts};
 ghost use Rattle.contracts.specs.Peeling.{AreHeights};
@@ -40,7 +40,7 @@ pub fn bounds_of(
         → IsBound contract.now.edges.items contract.now.first Receive bounds.to_exp) }
 {
     let first = states_of(contract).position(contract.first.0);
-    let reached = reached_from(alloc, &sends.rows, &receives.rows, first)?;
+    let reached = reached_from(alloc, &sends.groups, &receives.groups, first)?;
     let to_imp = longest(sends, &reached);
     let to_exp = longest(receives, &reached);
     Ok(Bounds { to_imp, to_exp })
@@ -48,12 +48,12 @@ pub fn bounds_of(
 
 /// The greatest length of a walk from one of the marked vertices, where no vertex lies on a ring.
 fn longest(graph: &SignGraph, reached: &[bool]) -> u32
-    requires range { InRange (rows graph.now.rows) }
-    requires heights { AreHeights (rows graph.now.rows) graph.now.heights.items }
-    requires reached { length reached.now ≡ length (rows graph.now.rows) }
+    requires range { InRange (groups graph.now.groups) }
+    requires heights { AreHeights (groups graph.now.groups) graph.now.heights.items }
+    requires reached { length reached.now ≡ length (groups graph.now.groups) }
     requires start { (s : ℕ) × IsMarked reached.now s }
-    ensures longest { ((v : ℕ) → OnRing (rows graph.now.rows) v → ⊥) → IsLongest (rows graph.now.rows) reached.now result }
-    ensures below { result < length (rows graph.now.rows) }
+    ensures longest { ((v : ℕ) → OnRing (groups graph.now.groups) v → ⊥) → IsLongest (groups graph.now.groups) reached.now result }
+    ensures below { result < length (groups graph.now.groups) }
 {
     tallest_of(&graph.heights, reached)
 }

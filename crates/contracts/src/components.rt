@@ -7,14 +7,14 @@
 
 ghost use Rattle.std.specs.Prelude.{◌≡◌, ◌++◌, ◌<◌, ◌≤◌, ℕ, [], ◌∷◌, length, get_or, map, All, Contains, IfOk, IfSome, IfNone, OnOk};
 ghost use Rattle.contracts.specs.Arcs.{arc};
-ghost use Rattle.contracts.specs.Graphs.{rows, InRange};
+ghost use Rattle.contracts.specs.Graphs.{groups, InRange};
 ghost use Rattle.contracts.specs.Rings.{AreRings};
 ghost use Rattle.contracts.specs.Searches.{AreBoundsTo, AreRising, IsFinishing, IsIdle, IsKept, IsMet, IsNextEnd};
 ghost use Rattle.contracts.specs.Searches.{Leads, StayMet, TellsComponent, status_at, steps_left, written};
 ghost use Rattle.contracts.specs.declared.arcs.Arc.{Arc};
 
 use crate::arcs::Arc;
-use crate::rows::Rows;
+use crate::groups::Groups;
 use std::alloc::{AllocError, Global};
 
 /// Which vertices lie on a ring, and all vertices in the order in which their components were completed: each vertex comes after its
@@ -53,10 +53,10 @@ struct Search {
 }
 
 /// Finds the components of a graph, in time linear in its vertices and arcs.
-pub fn components_of(alloc: Global, graph: &Rows<usize>) -> Result<Components, AllocError>
-    requires range { InRange (rows graph.now) }
-    ensures rings { IfOk result (λ found. AreRings (rows graph.now) found.rings.items) }
-    ensures order { IfOk result (λ found. IsFinishing (rows graph.now) found.order.items) }
+pub fn components_of(alloc: Global, graph: &Groups<usize>) -> Result<Components, AllocError>
+    requires range { InRange (groups graph.now) }
+    ensures rings { IfOk result (λ found. AreRings (groups graph.now) found.rings.items) }
+    ensures order { IfOk result (λ found. IsFinishing (groups graph.now) found.order.items) }
 {
     let mut search = Search::new(alloc, graph)?;
     for start in 0..graph.len() {
@@ -76,8 +76,8 @@ impl Search {
 
     /// A search that has met no vertex. No list grows beyond the room that it has from the start, and room that is not written to
     /// costs nothing.
-    fn new(alloc: Global, graph: &Rows<usize>) -> Result<Search, AllocError>
-        ensures kept { IfOk result (IsKept (rows graph.now)) }
+    fn new(alloc: Global, graph: &Groups<usize>) -> Result<Search, AllocError>
+        ensures kept { IfOk result (IsKept (groups graph.now)) }
         ensures idle { IfOk result IsIdle }
     {
         let count = graph.len();
@@ -92,10 +92,10 @@ impl Search {
     }
 
     /// Follows the arcs that are left, until every component that was begun is complete.
-    fn complete(&mut self, graph: &Rows<usize>) -> Result<(), AllocError>
-        requires range { InRange (rows graph.now) }
-        requires kept { IsKept (rows graph.now) self.old }
-        ensures kept { OnOk result (IsKept (rows graph.now) self.new) }
+    fn complete(&mut self, graph: &Groups<usize>) -> Result<(), AllocError>
+        requires range { InRange (groups graph.now) }
+        requires kept { IsKept (groups graph.now) self.old }
+        ensures kept { OnOk result (IsKept (groups graph.now) self.new) }
         ensures idle { OnOk result (IsIdle self.new) }
         ensures met { OnOk result (StayMet self.old self.new) }
     {
@@ -122,11 +122,11 @@ impl Search {
     }
 
     /// Follows the last arc. If its end is new, the arc stays until the search comes back to it.
-    fn follow(&mut self, graph: &Rows<usize>, end: usize) -> Result<(), AllocError>
-        requires range { InRange (rows graph.now) }
-        requires kept { IsKept (rows graph.now) self.old }
+    fn follow(&mut self, graph: &Groups<usize>, end: usize) -> Result<(), AllocError>
+        requires range { InRange (groups graph.now) }
+        requires kept { IsKept (groups graph.now) self.old }
         requires end { IsNextEnd self.old.arcs.items self.old.bounds.items end }
-        ensures kept { OnOk result (IsKept (rows graph.now) self.new) }
+        ensures kept { OnOk result (IsKept (groups graph.now) self.new) }
         ensures met { OnOk result (StayMet self.old self.new) }
         ensures fewer { OnOk result (steps_left graph.now self.new < steps_left graph.now self.old) }
     {
@@ -144,13 +144,13 @@ impl Search {
     }
 
     /// Begins a component with a new vertex to which all pending vertices lead.
-    fn enter(&mut self, graph: &Rows<usize>, v: usize) -> Result<(), AllocError>
-        requires v { v < length (rows graph.now) }
+    fn enter(&mut self, graph: &Groups<usize>, v: usize) -> Result<(), AllocError>
+        requires v { v < length (groups graph.now) }
         requires new { status_at self.old.statuses.items v ≡ Status.New }
-        requires kept { IsKept (rows graph.now) self.old }
+        requires kept { IsKept (groups graph.now) self.old }
         requires leads { (i : ℕ) → i < length self.old.pending.items
-            → Leads (rows graph.now) (get_or self.old.pending.items i 0) v }
-        ensures kept { OnOk result (IsKept (rows graph.now) self.new) }
+            → Leads (groups graph.now) (get_or self.old.pending.items i 0) v }
+        ensures kept { OnOk result (IsKept (groups graph.now) self.new) }
         ensures met { OnOk result (StayMet self.old self.new) }
         ensures this { OnOk result (IsMet self.new v) }
         ensures fewer { OnOk result (steps_left graph.now self.new < steps_left graph.now self.old) }
@@ -159,18 +159,18 @@ impl Search {
         self.statuses[v] = Status::Pending(index);
         self.pending.push(v)?;
         self.bounds.push(index)?;
-        add_arcs(&mut self.arcs, index, graph.row(v))?;
+        add_arcs(&mut self.arcs, index, graph.group(v))?;
         Ok(())
     }
 
     /// Completes the last component, which begins at this index and has no arc left to follow.
-    fn complete_last(&mut self, graph: &Rows<usize>, bound: usize) -> Result<(), AllocError>
-        requires range { InRange (rows graph.now) }
-        requires kept { IsKept (rows graph.now) self.old }
+    fn complete_last(&mut self, graph: &Groups<usize>, bound: usize) -> Result<(), AllocError>
+        requires range { InRange (groups graph.now) }
+        requires kept { IsKept (groups graph.now) self.old }
         requires within { bound ≤ length self.old.pending.items }
         requires last { (rest : List ℕ) × (self.old.bounds.items ≡ rest ++ bound ∷ []) }
         requires none { (a : Arc) → Contains self.old.arcs.items a → a.from < bound }
-        ensures kept { OnOk result (IsKept (rows graph.now) self.new) }
+        ensures kept { OnOk result (IsKept (groups graph.now) self.new) }
         ensures met { OnOk result (StayMet self.old self.new) }
         ensures fewer { OnOk result (steps_left graph.now self.new < steps_left graph.now self.old) }
     {
@@ -209,12 +209,12 @@ fn join(bounds: &mut Vec<usize>, index: usize)
 }
 
 /// Whether the vertices of a component lie on a ring. Several do. A single one does if an arc leads from it to itself.
-fn are_on_ring(graph: &Rows<usize>, component: &[usize]) -> bool
-    requires within { All (λ v. v < length (rows graph.now)) component.now }
-    ensures { TellsComponent (rows graph.now) component.now result }
+fn are_on_ring(graph: &Groups<usize>, component: &[usize]) -> bool
+    requires within { All (λ v. v < length (groups graph.now)) component.now }
+    ensures { TellsComponent (groups graph.now) component.now result }
 {
     match component {
-        [v] => graph.row(*v).contains(v),
+        [v] => graph.group(*v).contains(v),
         _ => true,
     }
 }

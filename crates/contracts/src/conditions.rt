@@ -2,12 +2,12 @@
 
 ghost use Rattle.std.specs.Prelude.{◌≡◌, ◌<◌, ◌++◌, IfOk, OnOk, length, map, Contains, string_bytes};
 ghost use Rattle.contracts.specs.Conditions.{AreExactly, IsAgainst, IsTwice, IsBoth, IsRound};
-ghost use Rattle.contracts.specs.Conditions.{IsFault, finding_parts, sign_of as sign_of_direction};
+ghost use Rattle.contracts.specs.Conditions.{IsFault, finding_model, sign_of as sign_of_direction};
 ghost use Rattle.contracts.specs.Drawings.{IsDrawing};
 ghost use Rattle.contracts.specs.Found.{FoundBelow};
 ghost use Rattle.contracts.specs.Orders.{IsOrder};
 ghost use Rattle.contracts.specs.Positions.{listed};
-ghost use Rattle.contracts.specs.Parts.{IsWhole, contract_parts, message_ids, state_parts, message_parts};
+ghost use Rattle.contracts.specs.Parts.{IsWhole, contract_parts, message_ids, state_model, message_model};
 
 use crate::drawing::{Drawing, drawing_of};
 use crate::keys::messages_of;
@@ -29,18 +29,18 @@ use std::alloc::{AllocError, Global};
 /// The sign counts as it is written. That contracts be deterministic and have one direction in a state is asked for by
 /// Villard, Lozes and Calcagno (APLAS 2009), and that each cycle have both directions by the Singularity team (EuroSys
 /// 2006).
-pub fn faults(alloc: Global, contract: &Contract) -> Result<Vec<Finding>, Memory>
+pub fn findings_of(alloc: Global, contract: &Contract) -> Result<Vec<Finding>, Memory>
     requires whole { IsWhole (contract_parts contract.now) }
     ensures exactly { IfOk result (λ found. AreExactly (IsFault (contract_parts contract.now))
-        (map finding_parts found.items)) }
+        (map finding_model found.items)) }
 {
     let drawing = drawing_of(alloc, contract)?;
     let order = order_of(alloc, &contract.edges)?;
-    faults_of(alloc, contract, &order, &drawing)
+    findings_in(alloc, contract, &order, &drawing)
 }
 
 /// The same, where the edges are in order and drawn.
-pub(crate) fn faults_of(
+pub(crate) fn findings_in(
     alloc: Global,
     contract: &Contract,
     order: &[usize],
@@ -50,7 +50,7 @@ pub(crate) fn faults_of(
     requires ordered { IsOrder contract.now.edges.items order.now }
     requires drawing { IsDrawing contract.now drawing.now }
     ensures exactly { IfOk result (λ found. AreExactly (IsFault (contract_parts contract.now))
-        (map finding_parts found.items)) }
+        (map finding_model found.items)) }
 {
     let messages = messages_of(contract);
     let mut found = against_directions(alloc, contract, messages)?;
@@ -105,8 +105,8 @@ fn against_directions(
     requires whole { IsWhole (contract_parts contract.now) }
     requires numbers { listed messages ≡ map (λ m. m.id.0) contract.now.messages.items }
     ensures found { IfOk result (λ found. FoundBelow (IsAgainst
-        (map message_parts contract.now.messages.items) contract.now.edges.items)
-        (length contract.now.edges.items) (map finding_parts found.items)) }
+        (map message_model contract.now.messages.items) contract.now.edges.items)
+        (length contract.now.edges.items) (map finding_model found.items)) }
 {
     let mut found = Vec::new(alloc);
     for edge in &contract.edges {
@@ -130,8 +130,8 @@ fn twice_in_states(
     requires numbers { listed messages ≡ map (λ m. m.id.0) contract.now.messages.items }
     requires ordered { IsOrder contract.now.edges.items order.now }
     ensures found { IfOk result (λ found. FoundBelow (IsTwice
-        (map message_parts contract.now.messages.items) contract.now.edges.items)
-        (length contract.now.edges.items) (map finding_parts found.items)) }
+        (map message_model contract.now.messages.items) contract.now.edges.items)
+        (length contract.now.edges.items) (map finding_model found.items)) }
 {
     let mut found = Vec::new(alloc);
     for at in 0..order.len() {
@@ -154,8 +154,8 @@ fn both_directions(
     requires whole { IsWhole (contract_parts contract.now) }
     requires drawing { IsDrawing contract.now drawing.now }
     ensures found { IfOk result (λ found. FoundBelow (IsBoth
-        (map (state_parts (string_bytes contract.now.state_names)) contract.now.states.items) contract.now.edges.items)
-        (length contract.now.states.items) (map finding_parts found.items)) }
+        (map (state_model (string_bytes contract.now.state_names)) contract.now.states.items) contract.now.edges.items)
+        (length contract.now.states.items) (map finding_model found.items)) }
 {
     let mut found = Vec::new(alloc);
     for i in 0..contract.states.len() {
@@ -177,8 +177,8 @@ fn one_direction(
     requires whole { IsWhole (contract_parts contract.now) }
     requires drawing { IsDrawing contract.now drawing.now }
     ensures found { IfOk result (λ found. FoundBelow (IsRound
-        (map (state_parts (string_bytes contract.now.state_names)) contract.now.states.items) contract.now.edges.items)
-        (length contract.now.states.items) (map finding_parts found.items)) }
+        (map (state_model (string_bytes contract.now.state_names)) contract.now.states.items) contract.now.edges.items)
+        (length contract.now.states.items) (map finding_model found.items)) }
 {
     let mut found = Vec::new(alloc);
     for i in 0..contract.states.len() {

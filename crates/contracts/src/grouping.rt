@@ -1,13 +1,13 @@
 //! Arcs by the vertices at which they begin.
 
 ghost use Rattle.std.specs.Prelude.{◌≡◌, ◌++◌, ◌<◌, ℕ, [], All, Contains, get_or, length, IfOk};
-ghost use Rattle.contracts.specs.Arcs.{AllWithin, AreRows, ends_from};
+ghost use Rattle.contracts.specs.Arcs.{AllWithin, AreGroups, ends_from};
 ghost use Rattle.contracts.specs.Chains.{AreChained, AreEnds, IsFirst};
-ghost use Rattle.contracts.specs.Graphs.{rows};
+ghost use Rattle.contracts.specs.Graphs.{groups};
 ghost use Rattle.contracts.specs.declared.arcs.Arc.{Arc};
 
 use crate::arcs::Arc;
-use crate::rows::Rows;
+use crate::groups::Groups;
 use std::alloc::{AllocError, Global};
 
 /// For each vertex the first arc that begins there, and for each arc the next one that begins where it does, each by its place.
@@ -60,11 +60,11 @@ fn follow(
 /// For each vertex the ends of the arcs that begin there, in the order of the arcs.
 ///
 /// The first arc of a vertex is asked for once. So the end of its row is put in its place, and no other list is made for the ends.
-pub fn rows_of(alloc: Global, count: usize, arcs: &[Arc]) -> Result<Rows<usize>, AllocError>
+pub fn groups_of(alloc: Global, count: usize, arcs: &[Arc]) -> Result<Groups<usize>, AllocError>
     requires starts { All (λ a. a.from < count) arcs.now }
-    ensures exact { IfOk result (λ graph. AreEnds arcs.now count (rows graph)) }
+    ensures exact { IfOk result (λ graph. AreEnds arcs.now count (groups graph)) }
     ensures ends { IfOk result (λ graph. (w : ℕ) → Contains graph.items.items w → (a : Arc) × Contains arcs.now a × (a.to ≡ w)) }
-    ensures rows { IfOk result (λ graph. AllWithin count arcs.now → AreRows count arcs.now (rows graph)) }
+    ensures groups { IfOk result (λ graph. AllWithin count arcs.now → AreGroups count arcs.now (groups graph)) }
 {
     let chains = chains_of(alloc, count, arcs)?;
     let nexts = chains.nexts;
@@ -74,5 +74,5 @@ pub fn rows_of(alloc: Global, count: usize, arcs: &[Arc]) -> Result<Rows<usize>,
         follow(&ends, &nexts, arcs, vertex, &mut items)?;
         ends[vertex] = items.len();
     }
-    Ok(Rows { items, ends })
+    Ok(Groups { items, ends })
 }

@@ -3,14 +3,14 @@
 ghost use Rattle.std.specs.Prelude.{◌≡◌, ◌<◌, All, IfOk, length, map};
 ghost use Rattle.contracts.specs.Arcs.{EndsListed};
 ghost use Rattle.contracts.specs.Bounds.{sign_to};
-ghost use Rattle.contracts.specs.Graphs.{rows};
+ghost use Rattle.contracts.specs.Graphs.{groups};
 ghost use Rattle.contracts.specs.Leaving.{AreLeaving, AreSources, edge_at, sign_from};
 ghost use Rattle.contracts.specs.Positions.{listed};
 
 use crate::arcs::Arc;
-use crate::grouping::rows_of;
+use crate::grouping::groups_of;
+use crate::groups::Groups;
 use crate::positions::Listing;
-use crate::rows::Rows;
 use program::{Edge, Side, Sign};
 use std::alloc::{AllocError, Global};
 
@@ -19,15 +19,15 @@ pub(crate) fn edges_by_state(
     alloc: Global,
     edges: &[Edge],
     states: Listing,
-) -> Result<Rows<Edge>, AllocError>
+) -> Result<Groups<Edge>, AllocError>
     requires listed { EndsListed (listed states) edges.now }
-    ensures { IfOk result (λ leaving. AreLeaving (listed states) edges.now (rows leaving)) }
+    ensures { IfOk result (λ leaving. AreLeaving (listed states) edges.now (groups leaving)) }
 {
     let sources = sources_of(alloc, edges, states)?;
-    let indices = rows_of(alloc, states.len(), &sources)?;
+    let indices = groups_of(alloc, states.len(), &sources)?;
     drop(sources); // a large contract takes less memory so
     let items = edges_at(alloc, edges, &indices.items)?;
-    Ok(Rows {
+    Ok(Groups {
         items,
         ends: indices.ends,
     })

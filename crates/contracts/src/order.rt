@@ -12,13 +12,13 @@ use std::alloc::{AllocError, Global};
 pub fn order_of(alloc: Global, edges: &[Edge]) -> Result<Vec<usize>, AllocError>
     ensures { IfOk result (λ order. IsOrder edges.now order.items) }
 {
-    let mut entries = entries_of(alloc, edges)?;
+    let mut entries = keyed_indices(alloc, edges)?;
     entries.sort_unstable();
     indices_of(alloc, &entries)
 }
 
 /// The key and the index of each edge.
-fn entries_of(alloc: Global, edges: &[Edge]) -> Result<Vec<((u32, u32), usize)>, AllocError>
+fn keyed_indices(alloc: Global, edges: &[Edge]) -> Result<Vec<((u32, u32), usize)>, AllocError>
     ensures { IfOk result (λ entries. AreEntries edges.now (length edges.now) entries.items) }
 {
     let mut entries = Vec::with_capacity(alloc, edges.len())?;

@@ -5,23 +5,23 @@ ghost use Rattle.std.proofs.Props.{props};
 ghost use Rattle.program.specs.declared.contract.Sign.TheVariants.{Send, Receive};
 ghost use Rattle.program.specs.declared.limits.TheConstants.{MOST_STATES};
 ghost use Rattle.contracts.specs.Bounds.{IsBound, sign_to};
-ghost use Rattle.contracts.specs.Conditions.{FindingParts, IsFault, IsSound};
-ghost use Rattle.contracts.specs.Graphs.{rows};
+ghost use Rattle.contracts.specs.Conditions.{FindingModel, IsFault, IsSound};
+ghost use Rattle.contracts.specs.Graphs.{groups};
 ghost use Rattle.contracts.specs.Leaving.{AreLeaving, all_from, edges_from, end_on, name_among, sign_from};
 ghost use Rattle.contracts.specs.Drawings.{IsDrawing};
-ghost use Rattle.contracts.specs.Parts.{IsWhole, contract_parts, message_parts};
+ghost use Rattle.contracts.specs.Parts.{IsWhole, contract_parts, message_model};
 ghost use Rattle.contracts.specs.Orders.{IsOrder};
 ghost use Rattle.contracts.specs.Positions.{listed};
 ghost use Rattle.contracts.specs.Walks.{IsNext};
 
 use crate::bounds::Bounds;
-use crate::conditions::faults_of;
+use crate::conditions::findings_in;
 use crate::drawing::{Drawing, drawing_of};
+use crate::groups::Groups;
 use crate::keys::{messages_of, states_of};
 use crate::leaving::{edges_by_state, sign_from, sign_to};
 use crate::order::{first_on, order_of};
 use crate::positions::Listing;
-use crate::rows::Rows;
 use program::{Contract, Edge, Message, MessageId, Side, Sign, StateId};
 use source::{Finding, Memory};
 use std::alloc::{AllocError, AllocFailed, Global};
@@ -84,17 +84,17 @@ pub struct Sound {
     states: Listing,
     numbers: Listing,
     order: Vec<usize>,
-    leaving: Rows<Edge>,
+    leaving: Groups<Edge>,
     pub ghost whole: { ∥ IsWhole (contract_parts contract.value) ∥₁ },
     pub ghost sound: { IsSound (contract_parts contract.value) },
     ghost first_is: { first ≡ contract.value.first } by { Prim.hlevel props },
     ghost edges_are: { edges.items ≡ contract.value.edges.items } by { Prim.hlevel props },
-    ghost messages_are: { map message_parts messages.items ≡ map message_parts contract.value.messages.items } by { Prim.hlevel props },
+    ghost messages_are: { map message_model messages.items ≡ map message_model contract.value.messages.items } by { Prim.hlevel props },
     ghost to_imp: { ∥ IsBound contract.value.edges.items contract.value.first Send bounds.to_imp ∥₁ },
     ghost to_exp: { ∥ IsBound contract.value.edges.items contract.value.first Receive bounds.to_exp ∥₁ },
     ghost ordered: { ∥ IsOrder edges.items order.items ∥₁ },
     ghost named: { listed numbers ≡ map (λ m. m.id.0) messages.items } by { Prim.hlevel props },
-    ghost leave: { AreLeaving (listed states) contract.value.edges.items (rows leaving) } by { Prim.hlevel props },
+    ghost leave: { AreLeaving (listed states) contract.value.edges.items (groups leaving) } by { Prim.hlevel props },
 }
 
 /// What a contract is judged to be.
@@ -118,7 +118,7 @@ impl Sound {
     {
         let drawing = drawing_of(alloc, contract)?;
         let order = order_of(alloc, &contract.edges)?;
-        let found = faults_of(alloc, contract, &order, &drawing)?;
+        let found = findings_in(alloc, contract, &order, &drawing)?;
         if !found.is_empty() {
             return Ok(Judged::Broken(found));
         }
@@ -131,7 +131,7 @@ impl Sound {
         requires whole { IsWhole (contract_parts contract.now) }
         ensures parts { IfOk result (λ sound. sound_parts sound ≡ contract_parts contract.now) }
         ensures sound { OnOk result (IsSound (contract_parts contract.now)) }
-        ensures found { result ≡ Err SoundFault.Found → (f : FindingParts) × IsFault
+        ensures found { result ≡ Err SoundFault.Found → (f : FindingModel) × IsFault
             (contract_parts contract.now) f }
     {
         match Sound::judge(alloc, contract)? {
@@ -196,9 +196,9 @@ impl Sound {
     fn edges_of(&self, sign: Sign, state: StateId) -> &[Edge]
         ensures { result.now ≡ edges_from (sound_parts self.now).edges sign state.0 }
     {
-        let row = self.edges_at(state);
-        match row.first() {
-            Some(edge) if edge.sign == sign => row,
+        let group = self.edges_at(state);
+        match group.first() {
+            Some(edge) if edge.sign == sign => group,
             _ => &[],
         }
     }
@@ -208,7 +208,7 @@ impl Sound {
         ensures { result.now ≡ all_from (sound_parts self.now).edges state.0 }
     {
         if self.states.has(state.0) {
-            self.leaving.row(self.states.position(state.0))
+            self.leaving.group(self.states.position(state.0))
         } else {
             &[]
         }
@@ -279,7 +279,7 @@ fn sound_of(
 
 /// The same messages.
 fn copy_messages(alloc: Global, messages: &[Message]) -> Result<Vec<Message>, AllocError>
-    ensures parts { IfOk result (λ copies. map message_parts copies.items ≡ map message_parts messages.now) }
+    ensures parts { IfOk result (λ copies. map message_model copies.items ≡ map message_model messages.now) }
 {
     let mut copies = Vec::with_capacity(alloc, messages.len())?;
     for message in messages {

@@ -5,10 +5,10 @@ ghost use Rattle.contracts.specs.Parts.{contract_parts};
 
 use program::{Contract, ContractId, Resolved};
 
-/// The contract of the program that has the number: its states, messages and edges, as `faults` and `Sound` ask for them.
+/// The contract of the program that has the number: its states, messages and edges, as `findings_of` and `Sound` ask for them.
 ///
 /// Nothing is copied, and no memory is taken.
-pub fn edges(resolved: &Resolved, id: ContractId) -> &Contract
+pub fn contract_at(resolved: &Resolved, id: ContractId) -> &Contract
     requires { id.0 < length resolved.now.contracts.items }
     ensures { slice_get (map contract_parts resolved.now.contracts.items) id.0 ≡ Some (contract_parts result.now) }
 {

@@ -1,7 +1,7 @@
 //! Whether the lists of a contract have what its edges name.
 
 ghost use Rattle.std.specs.Prelude.{◌≡◌, ◌<◌, ◌↔◌, IfOk, IsTrue, All, get_or};
-ghost use Rattle.contracts.specs.Parts.{AreInRow, IsWhole, contract_parts};
+ghost use Rattle.contracts.specs.Parts.{AreConsecutive, IsWhole, contract_parts};
 ghost use Rattle.contracts.specs.Positions.{EndsHave, listed};
 ghost use Rattle.program.specs.declared.limits.TheConstants.{MOST_STATES};
 
@@ -20,7 +20,8 @@ pub fn is_whole(alloc: Global, contract: &Contract) -> Result<bool, Memory>
     let states = state_numbers(alloc, &contract.states)?;
     let messages = message_numbers(alloc, &contract.messages)?;
     let first_message = first_or_0(&messages);
-    let in_row = are_in_row(&states, contract.first.0) & are_in_row(&messages, first_message);
+    let in_row = are_consecutive(&states, contract.first.0)
+        & are_consecutive(&messages, first_message);
     let state_list = Listing::new(contract.first.0, states.len());
     let message_list = Listing::new(first_message, messages.len());
     let listed = are_listed(&contract.edges, state_list, message_list);
@@ -44,8 +45,8 @@ fn are_numbered(numbers: &[u32]) -> bool
 }
 
 /// Whether the numbers go up by one, from this one on.
-fn are_in_row(numbers: &[u32], first: u32) -> bool
-    ensures { IsTrue result ↔ AreInRow first numbers.now }
+fn are_consecutive(numbers: &[u32], first: u32) -> bool
+    ensures { IsTrue result ↔ AreConsecutive first numbers.now }
 {
     for i in 0..numbers.len() {
         if numbers[i] as usize != first as usize + i {

@@ -8,7 +8,7 @@ use Rattle.std.proofs.lemmas.List.Folds.{flat_map-map}
 use Rattle.std.proofs.lemmas.List.FromFn.{get_or-map-range_with_len, length-map-range_with_len}
 use Rattle.tree.specs.Trees.{ContractTree}
 use Rattle.declarations.specs.Declarations.{counted_states, messages_of, states_of}
-use Rattle.program.specs.Parts.{AreApart, MessageParts, StateParts, contract_parts, message_ids, state_ids, contract_model}
+use Rattle.program.specs.Parts.{AreApart, MessageModel, StateModel, contract_parts, message_ids, state_ids, contract_model}
 use Rattle.declarations.specs.Resolution.{counted_in, each_behind, message_count, numbered_message, numbered_state, resolved_contract, resolved_contracts, state_count}
 use Rattle.program.specs.declared.contract.Contract.{Contract}
 use Rattle.program.specs.declared.number.MessageId.{MessageId}
@@ -60,7 +60,7 @@ state_row : (text : List ℕ) (contracts : List ContractTree) → flat_map (λ s
 unfolding state_id
 state_row text contracts =
     rows (λ c. counted_states (states_of c)) (λ before c. resolved_contract text (message_count before) (state_count before) c.name (messages_of c) (states_of c)) (λ s. state_ids s.parts) state_id
-    (λ before c. in_a_row numbered_state (λ (s : StateParts). s.id) state_id (λ n y. refl) (state_count before) (flat_map (counted_in text) (states_of c))
+    (λ before c. in_a_row numbered_state (λ (s : StateModel). s.id) state_id (λ n y. refl) (state_count before) (flat_map (counted_in text) (states_of c))
     ∙ ap (λ n. map state_id (range_with_len (state_count before) n)) (as_counted text (states_of c)))
     [] contracts
 
@@ -68,7 +68,7 @@ message_row : (text : List ℕ) (contracts : List ContractTree) → flat_map (λ
 unfolding message_id
 message_row text contracts =
     rows messages_of (λ before c. resolved_contract text (message_count before) (state_count before) c.name (messages_of c) (states_of c)) (λ s. message_ids s.parts) message_id
-    (λ before c. in_a_row (numbered_message text) (λ (m : MessageParts). m.id) message_id (λ n y. refl) (message_count before) (messages_of c))
+    (λ before c. in_a_row (numbered_message text) (λ (m : MessageModel). m.id) message_id (λ n y. refl) (message_count before) (messages_of c))
     [] contracts
 
 -- in contracts that are seen as resolved, each number stands once

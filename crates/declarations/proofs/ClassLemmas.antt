@@ -4,7 +4,7 @@ use Rattle.std.specs.Prelude.{option_map, option_and_then, slice_get}
 use Rattle.tree.specs.Trees.{ItemTree, ClassTree}
 use Rattle.declarations.specs.Program.{Program, item_at, as_class}
 use Rattle.declarations.specs.Scopes.{AllMembers, AreMethods, IsClass, as_methods}
-use Rattle.declarations.specs.declared.members.Methods.{Methods}
+use Rattle.declarations.specs.declared.members.ClassMethods.{ClassMethods}
 use Rattle.declarations.specs.declared.members.Members.{Members}
 use Rattle.declarations.proofs.ScopeLemmas.{class_at}
 
@@ -22,12 +22,12 @@ item_numbered k None = tt
 item_numbered k (Some i) = numbered k (as_class i.definition)
 
 -- what was looked up is a class, these are its methods, and so many items stand before it
-pub record LookedClass (text : List ℕ) (o : Option (ℕ × ClassTree)) (k : ℕ) (m : Methods) : Type 0 where
+pub record LookedClass (text : List ℕ) (o : Option (ℕ × ClassTree)) (k : ℕ) (m : ClassMethods) : Type 0 where
   pub class : ClassTree
   pub is : o ≡ Some (k, class)
   pub methods : AreMethods text class m
 
-looked_class : (text : List ℕ) (o : Option (ℕ × ClassTree)) (k : ℕ) (m : Methods) → HasNumber k o → IsClass text o (Some m) → LookedClass text o k m
+looked_class : (text : List ℕ) (o : Option (ℕ × ClassTree)) (k : ℕ) (m : ClassMethods) → HasNumber k o → IsClass text o (Some m) → LookedClass text o k m
 looked_class text None k m number h = absurd h
 looked_class text (Some c) k m number h = record { class = c.1; is = ap (λ n. Some (n, c.1)) number; methods = h }
 
@@ -42,7 +42,7 @@ class_missing p ms n all is =
     (subst (IsClass p.text (item_at as_class p n)) (sym is) (class_at p.text p.items ms n n all))
 
 -- where there are methods, the item at the place is their class
-pub class_here : (p : Program) (ms : List Members) (n : ℕ) (m : Methods) → AllMembers p.text p.items ms → Some m ≡ option_and_then as_methods (slice_get ms n) → LookedClass p.text (item_at as_class p n) n m
+pub class_here : (p : Program) (ms : List Members) (n : ℕ) (m : ClassMethods) → AllMembers p.text p.items ms → Some m ≡ option_and_then as_methods (slice_get ms n) → LookedClass p.text (item_at as_class p n) n m
 class_here p ms n m all is =
     looked_class p.text (item_at as_class p n) n m (item_numbered n (slice_get p.items n))
     (subst (IsClass p.text (item_at as_class p n)) (sym is) (class_at p.text p.items ms n n all))

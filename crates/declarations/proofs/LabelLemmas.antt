@@ -11,7 +11,7 @@ use Rattle.std.proofs.lemmas.List.Quantifiers.{position-Some}
 use Rattle.std.proofs.lemmas.Option.{get_or_from_slice_get, slice_get-map, slice_get_read}
 use Rattle.source.specs.Slices.{slice_of}
 use Rattle.source.specs.declared.token.Span.{Span}
-use Rattle.program.specs.Parts.{state_parts}
+use Rattle.program.specs.Parts.{state_model}
 use Rattle.program.specs.declared.contract.Part.{Part}
 use Rattle.program.specs.declared.contract.State.{State}
 use Rattle.declarations.specs.Labels.{AreLabels, IsTold, Stands, in_parentheses, part_of}
@@ -69,12 +69,12 @@ parts_more word xs i x parts more part old new lt is all one told behind =
 
 -- one more state
 pub states_more : {X : Type 0} (counted : X → Counted) (before : ℕ) (xs : List X) (i : ℕ) (x : X) (states more : List State) (s : State) (old new : List ℕ) → i < length xs → x ≡ get_or xs i x
-    → ((behind : List ℕ) → map (state_parts (old ++ behind)) states ≡ numbered_states before (map counted (take i xs))) → more ≡ states ++ s ∷ []
+    → ((behind : List ℕ) → map (state_model (old ++ behind)) states ≡ numbered_states before (map counted (take i xs))) → more ≡ states ++ s ∷ []
     → s.id ≡ record { 0 = before + i } → IsTold old new s.name (counted x).name → s.place ≡ (counted x).place
-    → (behind : List ℕ) → map (state_parts (new ++ behind)) more ≡ numbered_states before (map counted (take (i + 1) xs))
+    → (behind : List ℕ) → map (state_model (new ++ behind)) more ≡ numbered_states before (map counted (take (i + 1) xs))
 states_more counted before xs i x states more s old new lt is all one id told place behind =
-    number_more numbered_state (state_parts (new ++ behind)) counted before xs i x states more s lt is
-    (ap (λ l. map (state_parts l) states) (longer old new told.more behind told.grown) ∙ all (told.more ++ behind)) one
+    number_more numbered_state (state_model (new ++ behind)) counted before xs i x states more s lt is
+    (ap (λ l. map (state_model l) states) (longer old new told.more behind told.grown) ∙ all (told.more ++ behind)) one
     (ap (λ n. record { id = n; name = part_of (new ++ behind) s.name; place = s.place }) id
     ∙ ap (λ w. record { id = record { 0 = before + i }; name = w; place = s.place }) (told.stands behind)
     ∙ ap (λ p. record { id = record { 0 = before + i }; name = (counted x).name; place = p }) place)

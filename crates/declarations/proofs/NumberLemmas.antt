@@ -4,7 +4,7 @@ use Rattle.std.specs.Prelude.{All, AllPairs, Contains}
 use Rattle.std.specs.List.{enumerate_from}
 use Rattle.std.proofs.lemmas.List.{get_or-map, length-map}
 use Rattle.std.proofs.lemmas.List.Elements.{All-nil, All-append}
-use Rattle.program.specs.Parts.{AreInRow}
+use Rattle.program.specs.Parts.{AreConsecutive}
 use Rattle.declarations.specs.Resolution.{each_behind}
 
 -- the numbers of things in a row
@@ -54,7 +54,7 @@ once_numbered f id make value same back first ys = λ i j d less lt e.
 
 -- and they go up by one from the first on
 pub row_numbered : {Y Z I : Type 0} (f : ℕ → Y → Z) (id : Z → I) (make : ℕ → I) (value : I → ℕ) → ((n : ℕ) (y : Y) → id (f n y) ≡ make n) → ((n : ℕ) → value (make n) ≡ n) → (first : ℕ) (ys : List Y)
-    → AreInRow first (map value (map id (map (λ p. f p.0 p.1) (enumerate_from first ys))))
+    → AreConsecutive first (map value (map id (map (λ p. f p.0 p.1) (enumerate_from first ys))))
 row_numbered f id make value same back first ys = λ i lt.
     let ids = map id (map (λ p. f p.0 p.1) (enumerate_from first ys)) in
     let size = length-map ids value in
@@ -63,7 +63,7 @@ row_numbered f id make value same back first ys = λ i lt.
     ∙ ap value (number_at f id make same first ys i (make 0) (omega (arith, lt, size, many))) ∙ back (first + i)
 
 -- also from the one that stands first
-pub row_from_first : (first : ℕ) (ns : List ℕ) → AreInRow first ns → AreInRow (get_or ns 0 0) ns
+pub row_from_first : (first : ℕ) (ns : List ℕ) → AreConsecutive first ns → AreConsecutive (get_or ns 0 0) ns
 row_from_first first ns row = λ i lt. let start = row 0 (omega (arith, lt)) in let here = row i lt in omega (arith, start, here)
 
 -- what all that is added has, all have

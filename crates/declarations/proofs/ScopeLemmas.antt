@@ -9,7 +9,7 @@ use Rattle.declarations.specs.Program.{Program, item_at, as_contract, as_struct,
 use Rattle.declarations.specs.Scopes.{AllMembers, AreMembers, IsDeclared, AreFields, IsContract, IsStruct, IsClass, as_declared, as_fields, as_methods}
 use Rattle.declarations.specs.declared.members.Declared.{Declared}
 use Rattle.declarations.specs.declared.fields.Fields.{Fields}
-use Rattle.declarations.specs.declared.members.Methods.{Methods}
+use Rattle.declarations.specs.declared.members.ClassMethods.{ClassMethods}
 use Rattle.declarations.specs.declared.members.Members.{Members}
 use Rattle.declarations.specs.declared.members.Members.TheVariants as members
 
@@ -123,7 +123,7 @@ pub struct_model : (text : List ℕ) (o : Option (ℕ × StructTree)) (k : ℕ) 
 struct_model text o k None h = h
 struct_model text o k (Some f) h = h
 
-pub class_model : (text : List ℕ) (o : Option (ℕ × ClassTree)) (found : Option (Bor Methods)) → IsClass text o (option_copied found) → IsClass text o (option_map (λ m. m.now) found)
+pub class_model : (text : List ℕ) (o : Option (ℕ × ClassTree)) (found : Option (Bor ClassMethods)) → IsClass text o (option_copied found) → IsClass text o (option_map (λ m. m.now) found)
 class_model text o None h = h
 class_model text o (Some m) h = h
 

@@ -7,7 +7,7 @@ use Rattle.source.specs.declared.token.Span.{Span}
 use Rattle.tree.specs.Trees.{MessageTree, StateTree}
 use Rattle.declarations.specs.Declarations.{counted_states}
 use Rattle.declarations.specs.Outlines.{outlined_messages, outlined_states}
-use Rattle.program.specs.Parts.{MessageParts, StateParts, message_parts, state_parts, ContractModel, contract_model}
+use Rattle.program.specs.Parts.{MessageModel, StateModel, message_model, state_model, ContractModel, contract_model}
 use Rattle.declarations.specs.Ready.{resolved_declared}
 use Rattle.declarations.specs.Resolution.{counted_in, edges_from, message_meant, messages_from, numbered_message, numbered_state, printed, resolved_contract, state_meant, states_from}
 use Rattle.declarations.specs.declared.members.Declared.{Declared}
@@ -17,28 +17,28 @@ use Rattle.program.specs.declared.number.StateId.{StateId}
 use Rattle.declarations.proofs.MeantLemmas.{as_counted}
 
 pub seen_is : (text : List ℕ) (message state : ℕ) (name : Span) (messages : List MessageTree) (states : List StateTree) (c : Contract) → string_bytes c.name ≡ printed text name → c.first ≡ record { 0 = state }
-    → map (state_parts (string_bytes c.state_names)) c.states.items ≡ states_from text state states → map message_parts c.messages.items ≡ messages_from text message messages
+    → map (state_model (string_bytes c.state_names)) c.states.items ≡ states_from text state states → map message_model c.messages.items ≡ messages_from text message messages
     → c.edges.items ≡ edges_from (record { message = message_meant text message messages; state = state_meant text state states }) state states
     → contract_model c ≡ resolved_contract text message state name messages states
 seen_is text message state name messages states c name-is first-is states-are messages-are edges-are =
-    let seen : List ℕ → StateId → List StateParts → List MessageParts → List Edge → ContractModel = λ n f ss ms es. record { name = n; parts = record { first = f; states = ss; messages = ms; edges = es } } in
-    let all = map (state_parts (string_bytes c.state_names)) c.states.items in
-    ap (λ n. seen n c.first all (map message_parts c.messages.items) c.edges.items) name-is
-    ∙ ap (λ f. seen (printed text name) f all (map message_parts c.messages.items) c.edges.items) first-is
-    ∙ ap (λ ss. seen (printed text name) (record { 0 = state }) ss (map message_parts c.messages.items) c.edges.items) states-are
+    let seen : List ℕ → StateId → List StateModel → List MessageModel → List Edge → ContractModel = λ n f ss ms es. record { name = n; parts = record { first = f; states = ss; messages = ms; edges = es } } in
+    let all = map (state_model (string_bytes c.state_names)) c.states.items in
+    ap (λ n. seen n c.first all (map message_model c.messages.items) c.edges.items) name-is
+    ∙ ap (λ f. seen (printed text name) f all (map message_model c.messages.items) c.edges.items) first-is
+    ∙ ap (λ ss. seen (printed text name) (record { 0 = state }) ss (map message_model c.messages.items) c.edges.items) states-are
     ∙ ap (λ ms. seen (printed text name) (record { 0 = state }) (states_from text state states) ms c.edges.items) messages-are
     ∙ ap (seen (printed text name) (record { 0 = state }) (states_from text state states) (messages_from text message messages)) edges-are
 
 -- a resolved contract has as many messages and states as are declared and counted
 seen_messages : (text : List ℕ) (message state : ℕ) (name : Span) (messages : List MessageTree) (states : List StateTree) (c : Contract) → contract_model c ≡ resolved_contract text message state name messages states → length c.messages.items ≡ length messages
 seen_messages text message state name messages states c is =
-    sym (length-map c.messages.items message_parts) ∙ ap (λ s. length s.parts.messages) is
+    sym (length-map c.messages.items message_model) ∙ ap (λ s. length s.parts.messages) is
     ∙ length-map (enumerate_from message messages) (λ p. numbered_message text p.0 p.1) ∙ length-enumerate_from message messages
 
 seen_states : (text : List ℕ) (message state : ℕ) (name : Span) (messages : List MessageTree) (states : List StateTree) (c : Contract) → contract_model c ≡ resolved_contract text message state name messages states → length c.states.items ≡ length (counted_states states)
 seen_states text message state name messages states c is =
     let counted = flat_map (counted_in text) states in
-    sym (length-map c.states.items (state_parts (string_bytes c.state_names))) ∙ ap (λ s. length s.parts.states) is
+    sym (length-map c.states.items (state_model (string_bytes c.state_names))) ∙ ap (λ s. length s.parts.states) is
     ∙ length-map (enumerate_from state counted) (λ p. numbered_state p.0 p.1) ∙ length-enumerate_from state counted
     ∙ as_counted text states
 

@@ -158,8 +158,8 @@ whole_of text m s name messages states some few none =
       message = λ e h. message e.message.0 (edge e h).message;
       states_once = once_numbered numbered_state (λ t. t.id) state_id (λ i. i.0) (λ k y. refl) (λ k. refl) s counted;
       messages_once = once_numbered (numbered_message text) (λ t. t.id) message_id (λ i. i.0) (λ k y. refl) (λ k. refl) m messages;
-      states_in_row = row_numbered numbered_state (λ t. t.id) state_id (λ i. i.0) (λ k y. refl) (λ k. refl) s counted;
-      messages_in_row = row_from_first m _ (row_numbered (numbered_message text) (λ t. t.id) message_id (λ i. i.0) (λ k y. refl) (λ k. refl) m messages);
+      states_consecutive = row_numbered numbered_state (λ t. t.id) state_id (λ i. i.0) (λ k y. refl) (λ k. refl) s counted;
+      messages_consecutive = row_from_first m _ (row_numbered (numbered_message text) (λ t. t.id) message_id (λ i. i.0) (λ k y. refl) (λ k. refl) m messages);
       numbered = all_numbered (λ q. q.0 < MOST_STATES) numbered_state (λ t. t.id) state_id (λ k y. refl) s counted below;
     }
 

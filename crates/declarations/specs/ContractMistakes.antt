@@ -4,7 +4,7 @@ use Rattle.std.specs.Prelude.{ℕ, List, ◌++◌, map}
 use Rattle.std.specs.List.{flat_map}
 use Rattle.source.specs.declared.token.Span.{Span}
 use Rattle.tree.specs.Trees.{ContractTree, MessageTree, StateTree, PathTree}
-use Rattle.tree.specs.declared.contract.Param.{Param}
+use Rattle.tree.specs.declared.contract.MessageParameter.{MessageParameter}
 use Rattle.declarations.specs.Declarations.{messages_of, states_of, paths_of, names_of_messages, names_of_states}
 use Rattle.declarations.specs.declared.mistake.Limit.TheVariants as limit
 use Rattle.declarations.specs.declared.mistake.Mistake.{Mistake}
@@ -12,7 +12,7 @@ use Rattle.declarations.specs.Kinds.{type_unknown}
 use Rattle.declarations.specs.Listed.{twice_among, past_limit, asked_message, asked_state}
 use Rattle.declarations.specs.Program.{Program}
 
-abbrev pub param_names : List Param → List Span
+abbrev pub param_names : List MessageParameter → List Span
 param_names params = map (λ p. p.name) params
 
 abbrev pub message_mistakes : Program → MessageTree → List Mistake

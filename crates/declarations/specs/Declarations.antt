@@ -2,7 +2,7 @@
 use Rattle.std.specs.Prelude.{ℕ, Bool, List, [], ◌∷◌, ◌++◌, map, Option, None, Some, is_some}
 use Rattle.std.specs.List.{flat_map}
 use Rattle.source.specs.declared.token.Span.{Span}
-use Rattle.tree.specs.declared.contract.Param.{Param}
+use Rattle.tree.specs.declared.contract.MessageParameter.{MessageParameter}
 use Rattle.tree.specs.Trees.{ContractTree, MessageTree, StateTree, BodyTree, Empty, Path, One, MemberTree, Message, State, PathTree}
 use Rattle.tables.specs.Firsts.{first_of}
 use Rattle.tables.specs.Words.{word_at, words_at}
@@ -31,7 +31,7 @@ paths_of (Path p) = p ∷ []
 paths_of (One paths close semicolon) = paths
 
 -- the parameters of a message, if there is one
-abbrev pub bound_params : Option MessageTree → List Param
+abbrev pub bound_params : Option MessageTree → List MessageParameter
 bound_params None = []
 bound_params (Some m) = m.params
 

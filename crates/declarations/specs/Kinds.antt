@@ -5,7 +5,7 @@ use Rattle.source.specs.declared.token.Span.{Span}
 use Rattle.program.specs.declared.kind.Scalar.{Scalar}
 use Rattle.program.specs.declared.kind.Scalar.TheVariants as scalar
 use Rattle.program.specs.declared.kind.Side.{Side}
-use Rattle.tree.specs.declared.contract.Param.{Param}
+use Rattle.tree.specs.declared.contract.MessageParameter.{MessageParameter}
 use Rattle.tree.specs.declared.types as type_nodes
 use Rattle.tree.specs.declared.types.Type.TheVariants as type
 use Rattle.tree.specs.declared.types.Heap.TheVariants as heap
@@ -107,6 +107,6 @@ is_heap (type.Scalar s) = false
 is_heap (type.Heap h) = true
 
 -- the kind of what a message brings for this parameter, if there is one
-abbrev pub brought_kind : Program → Option Param → ValueKind
+abbrev pub brought_kind : Program → Option MessageParameter → ValueKind
 brought_kind p None = kind.Unknown
 brought_kind p (Some x) = type_kind p x.ty

@@ -1,7 +1,7 @@
 -- What is wrong with names and types, and the finding of each mistake.
 use Rattle.std.specs.Prelude.{◌≡◌, ℕ, List, ◌++◌, codes}
 use Rattle.std.specs.Str.Lossy.{utf8_lossy}
-use Rattle.source.specs.Findings.{FindingParts}
+use Rattle.source.specs.Findings.{FindingModel}
 use Rattle.source.specs.declared.finding.Code.{Code}
 use Rattle.source.specs.declared.finding.Code.TheVariants.{N01, N02, N03, N04, N05, N06, N07, N08, N09}
 use Rattle.source.specs.declared.place.Place.{Place}
@@ -24,20 +24,20 @@ most_of limit.Fields = MOST_FIELDS
 most_of limit.Methods = MOST_METHODS
 most_of limit.Variables = MOST_VARIABLES
 
-abbrev pub plain : Code → List ℕ → Place → FindingParts
+abbrev pub plain : Code → List ℕ → Place → FindingModel
 plain code text place = record { place = place; code = code; text = text }
 
 -- a finding whose text begins with the name at which it stands
-abbrev pub naming : List ℕ → Code → Span → List ℕ → FindingParts
+abbrev pub naming : List ℕ → Code → Span → List ℕ → FindingModel
 naming text code name rest = plain code (utf8_lossy (word_at text name) ++ rest) name.place
 
-abbrev pub case_twice : List ℕ → Span → Span → FindingParts
+abbrev pub case_twice : List ℕ → Span → Span → FindingModel
 case_twice text endpoint awaited = plain N08
     (codes "case " ++ (utf8_lossy (word_at text endpoint) ++ (codes "." ++ (utf8_lossy (word_at text awaited) ++ codes " twice"))))
     endpoint.place
 
 -- the finding of a mistake in this text
-abbrev pub finding_in : List ℕ → Mistake → FindingParts
+abbrev pub finding_in : List ℕ → Mistake → FindingModel
 finding_in text (DeclaredTwice name first) = naming text N01 name (codes " declared twice")
 finding_in text (Unknown name sort) = naming text N02 name (codes " unknown")
 finding_in text (WrongType place mismatch) = plain N03 (codes "wrong type") place

@@ -10,7 +10,7 @@ use Rattle.tree.specs.Trees.{ContractTree, MessageTree, StateTree, PathTree}
 use Rattle.tree.specs.declared.contract as tree
 use Rattle.declarations.specs.Declarations.{messages_of, states_of, paths_of, unnamed_of, counted_states}
 use Rattle.declarations.specs.Declarations.{names_of_messages, names_of_states, first_among}
-use Rattle.program.specs.Parts.{StateParts, MessageParts, ContractModel}
+use Rattle.program.specs.Parts.{StateModel, MessageModel, ContractModel}
 use Rattle.tables.specs.Words.{word_at}
 use Rattle.program.specs.declared.contract.Edge.{Edge}
 
@@ -24,11 +24,11 @@ abbrev pub printed : List ℕ → Span → List ℕ
 printed text name = utf8_lossy (word_at text name)
 
 -- a message with its number
-abbrev pub numbered_message : List ℕ → ℕ → MessageTree → MessageParts
+abbrev pub numbered_message : List ℕ → ℕ → MessageTree → MessageModel
 numbered_message text number m = record { id = record { 0 = number }; name = printed text m.name; direction = m.direction }
 
 -- the messages of a contract, where so many stand before its own
-abbrev pub messages_from : List ℕ → ℕ → List MessageTree → List MessageParts
+abbrev pub messages_from : List ℕ → ℕ → List MessageTree → List MessageModel
 messages_from text first messages = map (λ p. numbered_message text p.0 p.1) (enumerate_from first messages)
 
 -- a state that has no number yet: how it is printed, and its place
@@ -49,15 +49,15 @@ abbrev pub counted_in : List ℕ → StateTree → List Counted
 counted_in text s = named_state text s.name ∷ map (unnamed_state text) (flat_map unnamed_of (paths_of s.body))
 
 -- a state with its number
-abbrev pub numbered_state : ℕ → Counted → StateParts
+abbrev pub numbered_state : ℕ → Counted → StateModel
 numbered_state number s = record { id = record { 0 = number }; name = s.name; place = s.place }
 
 -- states in a row, numbered from this number on
-abbrev pub numbered_states : ℕ → List Counted → List StateParts
+abbrev pub numbered_states : ℕ → List Counted → List StateModel
 numbered_states first states = map (λ p. numbered_state p.0 p.1) (enumerate_from first states)
 
 -- the states of a contract, where so many stand before its own
-abbrev pub states_from : List ℕ → ℕ → List StateTree → List StateParts
+abbrev pub states_from : List ℕ → ℕ → List StateTree → List StateModel
 states_from text first states = numbered_states first (flat_map (counted_in text) states)
 
 -- the number of the message that a name means, the first of that name; 0 where there is none

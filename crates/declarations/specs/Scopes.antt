@@ -16,7 +16,7 @@ use Rattle.declarations.specs.Owning.{can_start, owning_fields}
 use Rattle.tables.specs.Words.{words_at}
 use Rattle.declarations.specs.declared.members.Declared.{Declared}
 use Rattle.declarations.specs.declared.fields.Fields.{Fields}
-use Rattle.declarations.specs.declared.members.Methods.{Methods}
+use Rattle.declarations.specs.declared.members.ClassMethods.{ClassMethods}
 use Rattle.declarations.specs.declared.members.Members.{Members}
 use Rattle.declarations.specs.declared.members.Members.TheVariants as members
 use Rattle.declarations.specs.declared.noted.Noted.{Noted}
@@ -39,7 +39,7 @@ pub record AreFields (text : List ℕ) (s : StructTree) (f : Fields) : Type 0 wh
   pub table : IsTable (words_at text (map (λ x. x.name) s.fields)) f.table
 
 -- the methods of a class, which of them can be started, and the table of them
-pub record AreMethods (text : List ℕ) (c : ClassTree) (m : Methods) : Type 0 where
+pub record AreMethods (text : List ℕ) (c : ClassTree) (m : ClassMethods) : Type 0 where
   pub list : map method_tree m.list.now ≡ c.methods
   pub startable : m.startable.items ≡ map can_start c.methods
   pub table : IsTable (words_at text (map (λ x. x.name) c.methods)) m.table
@@ -67,7 +67,7 @@ as_fields (members.Contract d) = None
 as_fields (members.Struct f) = Some f
 as_fields (members.Class m) = None
 
-abbrev pub as_methods : Members → Option Methods
+abbrev pub as_methods : Members → Option ClassMethods
 as_methods (members.Contract d) = None
 as_methods (members.Struct f) = None
 as_methods (members.Class m) = Some m
@@ -121,7 +121,7 @@ IsStruct text (Some s) (Some f) = (s.0 ≡ f.0) × AreFields text s.1 f.1
 IsStruct text _ _ = ⊥
 
 -- what a look-up of a class answers
-abbrev pub IsClass : List ℕ → Option (ℕ × ClassTree) → Option Methods → Type 0
+abbrev pub IsClass : List ℕ → Option (ℕ × ClassTree) → Option ClassMethods → Type 0
 IsClass text None None = Unit {0}
 IsClass text (Some c) (Some m) = AreMethods text c.1 m
 IsClass text _ _ = ⊥

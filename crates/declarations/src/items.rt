@@ -12,7 +12,7 @@ ghost use Rattle.declarations.specs.Scopes.{IsScope, AreFields, AreMethods};
 
 use crate::fields::{Fields, names_of_fields};
 use crate::judging::{judge_limit, judge_twice};
-use crate::members::{Methods, names_of_methods};
+use crate::members::{ClassMethods, names_of_methods};
 use crate::mistake::{Limit, Mistake};
 use crate::scope::{Scope, names_of_items};
 use crate::types::judge_type;
@@ -68,7 +68,7 @@ fn judge_types(scope: &Scope<'_>, fields: &[Field], found: &mut Vec<Mistake>) ->
 pub fn judge_method_names(
     alloc: Global,
     scope: &Scope<'_>,
-    methods: &Methods<'_>,
+    methods: &ClassMethods<'_>,
     found: &mut Vec<Mistake>,
 ) -> Result<(), Memory>
     ensures { (p : Program) (c : ClassTree) → IsScope p scope.now → AreMethods p.text c methods.now

@@ -31,7 +31,7 @@ pub use fields::Fields;
 pub use items::{judge_items, judge_method_names, judge_struct};
 pub use judging::{add_twice, add_unknown};
 pub use kinds::ValueKind;
-pub use members::{Declared, Members, Methods};
+pub use members::{ClassMethods, Declared, Members};
 pub use mistake::{Demand, Limit, Mismatch, Mistake, NameSort, findings_of};
 pub use resolving::resolve_contracts;
 pub use scope::Scope;

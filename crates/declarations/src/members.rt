@@ -28,7 +28,7 @@ pub struct Declared<'a> {
 
 /// The methods of a class, whether each can be started, and where each of their names is declared first.
 #[derive(Drop)]
-pub struct Methods<'a> {
+pub struct ClassMethods<'a> {
     pub(crate) list: &'a [Method],
     /// Found once for each method, so that no start of it reads all of its parameters.
     pub(crate) startable: Vec<bool>,
@@ -40,7 +40,7 @@ pub struct Methods<'a> {
 pub enum Members<'a> {
     Contract(Declared<'a>),
     Struct(Fields<'a>),
-    Class(Methods<'a>),
+    Class(ClassMethods<'a>),
 }
 
 impl<'a> Members<'a> {
@@ -61,7 +61,7 @@ impl<'a> Members<'a> {
             Definition::Struct(structure) => {
                 Ok(Members::Struct(Fields::of(alloc, text, structure)?))
             }
-            Definition::Class(class) => Ok(Members::Class(Methods::of(alloc, text, class)?)),
+            Definition::Class(class) => Ok(Members::Class(ClassMethods::of(alloc, text, class)?)),
         }
     }
 
@@ -86,7 +86,7 @@ impl<'a> Members<'a> {
     }
 
     /// The methods of a class, if it is one.
-    pub(crate) fn methods(&self) -> Option<&Methods<'a>>
+    pub(crate) fn methods(&self) -> Option<&ClassMethods<'a>>
         ensures { option_copied result ≡ as_methods self.now }
     {
         match self {
@@ -138,7 +138,7 @@ impl<'a> Declared<'a> {
     }
 }
 
-impl<'a> Methods<'a> {
+impl<'a> ClassMethods<'a> {
     ghost use Rattle.declarations.specs.Scopes.{AreMethods, IsCallee};
 
     /// The methods of a class.
@@ -146,13 +146,13 @@ impl<'a> Methods<'a> {
         alloc: Global,
         text: &'a [u8],
         class: &'a Class,
-    ) -> Result<Methods<'a>, AllocError>
+    ) -> Result<ClassMethods<'a>, AllocError>
         ensures { IfOk result (AreMethods text.now (class_tree class.now)) }
     {
         let names = names_of_methods(alloc, &class.methods)?;
         let table = Table::of(alloc, text, &names)?;
         let startable = startable_methods(alloc, &class.methods)?;
-        Ok(Methods {
+        Ok(ClassMethods {
             list: &class.methods,
             startable,
             table,

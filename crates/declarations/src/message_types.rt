@@ -16,7 +16,7 @@ use crate::types::judge_type;
 use source::{Memory, Span};
 use std::alloc::Global;
 use tables::Table;
-use tree::{Message, Param};
+use tree::{Message, MessageParameter};
 
 /// Adds what is wrong with the parameters of a message.
 pub(crate) fn judge_message(
@@ -35,7 +35,11 @@ pub(crate) fn judge_message(
     judge_limit(Limit::Parameters, &names, found)
 }
 
-fn judge_types(scope: &Scope<'_>, params: &[Param], found: &mut Vec<Mistake>) -> Result<(), Memory>
+fn judge_types(
+    scope: &Scope<'_>,
+    params: &[MessageParameter],
+    found: &mut Vec<Mistake>,
+) -> Result<(), Memory>
     ensures { (p : Program) → IsScope p scope.now
         → OnOk result (Adds found.old.items found.new.items (flat_map (λ x. type_unknown p x.ty) params.now)) }
 {
@@ -45,7 +49,7 @@ fn judge_types(scope: &Scope<'_>, params: &[Param], found: &mut Vec<Mistake>) ->
     Ok(())
 }
 
-fn names_of(alloc: Global, params: &[Param]) -> Result<Vec<Span>, Memory>
+fn names_of(alloc: Global, params: &[MessageParameter]) -> Result<Vec<Span>, Memory>
     ensures { IfOk result (λ names. names.items ≡ param_names params.now) }
 {
     let mut names = Vec::new(alloc);

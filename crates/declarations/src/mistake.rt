@@ -1,7 +1,7 @@
 //! What is wrong with names and types, in numbers.
 
 ghost use Rattle.std.specs.Prelude.{◌≡◌, IfOk, map};
-ghost use Rattle.source.specs.Findings.{finding_parts};
+ghost use Rattle.source.specs.Findings.{finding_model};
 ghost use Rattle.declarations.specs.Mistakes.{finding_in, most_of};
 
 use crate::kinds::ValueKind;
@@ -146,7 +146,7 @@ impl Mistake {
     /// `Memory` is returned if a growth was refused.
     #[inline(always)]
     pub fn finding(self, alloc: Global, text: &[u8]) -> Result<Finding, Memory>
-        ensures { IfOk result (λ finding. finding_parts finding ≡ finding_in text.now self) }
+        ensures { IfOk result (λ finding. finding_model finding ≡ finding_in text.now self) }
     {
         match self {
             Mistake::DeclaredTwice(name, _) => {
@@ -180,7 +180,7 @@ impl Mistake {
 ///
 /// `Memory` is returned if a growth was refused.
 pub fn findings_of(alloc: Global, text: &[u8], mistakes: &[Mistake]) -> Result<Vec<Finding>, Memory>
-    ensures { IfOk result (λ found. map finding_parts found.items ≡ map (finding_in text.now) mistakes.now) }
+    ensures { IfOk result (λ found. map finding_model found.items ≡ map (finding_in text.now) mistakes.now) }
 {
     let mut found = Vec::with_capacity(alloc, mistakes.len())?;
     for mistake in mistakes {

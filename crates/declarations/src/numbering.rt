@@ -4,7 +4,7 @@ ghost use Rattle.std.specs.Prelude.{◌≡◌, ◌+◌, ◌^◌, ◌<◌, length
 ghost use Rattle.tree.specs.Trees.{message_tree};
 ghost use Rattle.declarations.specs.Labels.{AreLabels};
 ghost use Rattle.declarations.specs.Numbered.{counted_as};
-ghost use Rattle.program.specs.Parts.{message_parts, state_parts};
+ghost use Rattle.program.specs.Parts.{message_model, state_model};
 ghost use Rattle.declarations.specs.Resolution.{messages_from, numbered_states};
 
 use crate::labels::Labels;
@@ -21,7 +21,7 @@ pub(crate) fn number_messages(
     before: u32,
 ) -> Result<Vec<Message>, Memory>
     requires { before + length messages.now < 2 ^ 32 }
-    ensures { IfOk result (λ numbered. map message_parts numbered.items
+    ensures { IfOk result (λ numbered. map message_model numbered.items
         ≡ messages_from text.now before (map (λ m. message_tree m.now) messages.now)) }
 {
     let mut numbered = Vec::with_capacity(alloc, messages.len())?;
@@ -46,7 +46,7 @@ pub(crate) fn number_states(
 ) -> Result<Vec<State>, Memory>
     requires labels { AreLabels labels.now (string_bytes names.old) }
     requires room { before + length states.now < 2 ^ 32 }
-    ensures { IfOk result (λ numbered. map (state_parts (string_bytes names.new)) numbered.items
+    ensures { IfOk result (λ numbered. map (state_model (string_bytes names.new)) numbered.items
         ≡ numbered_states before (map (counted_as labels.now.text.now) states.now)) }
 {
     let mut numbered = Vec::with_capacity(alloc, states.len())?;

@@ -11,7 +11,7 @@ ghost use Rattle.declarations.specs.Owning.{owning_named};
 ghost use Rattle.declarations.specs.Scopes.{AllMembers};
 
 use crate::fields::Fields;
-use crate::members::{Declared, Members, Methods};
+use crate::members::{ClassMethods, Declared, Members};
 use crate::noted::NotedKinds;
 use source::Span;
 use std::alloc::{AllocError, Global};
@@ -123,7 +123,7 @@ impl<'a> Scope<'a> {
     }
 
     /// The first item of this name, if it is a class.
-    pub fn class(&self, name: Span) -> Option<&Methods<'a>>
+    pub fn class(&self, name: Span) -> Option<&ClassMethods<'a>>
         ensures { (p : Program) → IsScope p self.now → IsClass p.text (class_named p name) (option_map (λ m. m.now) result) }
     {
         let index = self.index_of(name)?;
@@ -167,7 +167,7 @@ impl<'a> Scope<'a> {
         self.members.get(index)?.fields()
     }
 
-    fn methods_at(&self, index: usize) -> Option<&Methods<'a>>
+    fn methods_at(&self, index: usize) -> Option<&ClassMethods<'a>>
         ensures { option_copied result ≡ option_and_then as_methods (slice_get self.now.members.items index) }
     {
         self.members.get(index)?.methods()

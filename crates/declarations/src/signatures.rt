@@ -2,7 +2,7 @@
 
 use crate::members::Members;
 use std::alloc::{AllocError, Global};
-use tree::{Field, Heap, Message, Method, Param, Parameter, Type};
+use tree::{Field, Heap, Message, MessageParameter, Method, Parameter, Type};
 
 /// The types of the exchange heap in these structs and in the heads of these methods and messages, in order.
 pub(crate) fn signature_types(
@@ -27,7 +27,7 @@ fn add_messages(messages: &[&Message], types: &mut Vec<Heap>) -> Result<(), Allo
     Ok(())
 }
 
-fn add_params(params: &[Param], types: &mut Vec<Heap>) -> Result<(), AllocError> {
+fn add_params(params: &[MessageParameter], types: &mut Vec<Heap>) -> Result<(), AllocError> {
     for param in params {
         add_type(param.ty, types)?;
     }

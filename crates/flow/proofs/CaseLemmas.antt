@@ -6,7 +6,7 @@ use Rattle.std.specs.Global.{Global}
 use Rattle.std.proofs.lemmas.List.Elements.{All-nil, All-cons, All-append}
 use Rattle.source.specs.declared.place.Place.{Place}
 use Rattle.program.specs.Statements as stated
-use Rattle.program.specs.Statements.{StatementModel, BlockModel, CaseModel, IfModel, TestModel, statement_model, block_model, case_model, case_row, statement_step, block_step, case_step, if_step, test_step}
+use Rattle.program.specs.Statements.{StatementModel, BlockModel, CaseModel, IfModel, TestModel, statement_model, block_model, case_model, case_sequence, statement_step, block_step, case_step, if_step, test_step}
 use Rattle.program.specs.declared.number.VarId.{VarId}
 use Rattle.program.specs.declared.statement as made
 use Rattle.program.specs.declared.statement.Awaited.{Awaited}
@@ -95,7 +95,7 @@ grew_case old mid new es e entrance body others entry next g h is =
 
 -- the cases of a row
 abbrev pub laid_cases : (exit again from next : ℕ) → List made.Case.Case → LaidCases
-laid_cases exit again from next done = cases (case_row (map case_model done)) exit again from next
+laid_cases exit again from next done = cases (case_sequence (map case_model done)) exit again from next
 
 -- nothing is laid yet
 pub cases_begin : (all rest : List made.Case.Case) (old : List Instr) (exit again next : ℕ) → rest ≡ all → CasesBehind all rest [] old old [] (laid_cases exit again (length old) next)
@@ -113,11 +113,11 @@ pub cases_go_on : {B : Type 0} (f : B → made.Case.Case) (all rest left : List 
 cases_go_on f all rest left ys y old mid new es fs e exit again entry next more b g is grown =
     let c = f y in
     let done = map f (reverse ys) in
-    let others : LaysCases = cases (case_row (map case_model done)) exit again in
+    let others : LaysCases = cases (case_sequence (map case_model done)) exit again in
     let here : GrewCases old new (map entrance_model es ++ entrance_model e ∷ []) (case_before (entrance_at c.endpoint c.awaited c.targets.items) (block (block_model c.body) exit again) others (length old) next) =
     grew_case old mid new (map entrance_model es) (entrance_model e) (entrance_at c.endpoint c.awaited c.targets.items) (block (block_model c.body) exit again) others entry next b.grew g is in
     let row : GrewCases old new (map entrance_model es ++ entrance_model e ∷ []) (laid_cases exit again (length old) next (c ∷ done)) =
-    subst (λ x. GrewCases old new (map entrance_model es ++ entrance_model e ∷ []) (cases (stated.MoreCases x (case_row (map case_model done))) exit again (length old) next)) (sym (case_is c)) here in
+    subst (λ x. GrewCases old new (map entrance_model es ++ entrance_model e ∷ []) (cases (stated.MoreCases x (case_sequence (map case_model done))) exit again (length old) next)) (sym (case_is c)) here in
     let entrances = ap (map entrance_model) grown ∙ map-append entrance_model es (e ∷ []) in
     record {
       split = b.split ∙ ap (λ r. r ++ done) more ∙ append_assoc left (c ∷ []) done ∙ ap (λ d. left ++ d) (sym (one_more f ys y));
@@ -147,5 +147,5 @@ cases_end all [] done old new es lays none b = subst (λ d. GrewCases old new es
 cases_end all (x ∷ rest) done old new es lays none b = absurd (cc)
 
 -- a switch in memory
-pub switch_model : (place : Place) (cs : Vec made.Case.Case Global) → statement_model (variants.Switch place cs) ≡ stated.Switch place (case_row (map case_model cs.items))
+pub switch_model : (place : Place) (cs : Vec made.Case.Case Global) → statement_model (variants.Switch place cs) ≡ stated.Switch place (case_sequence (map case_model cs.items))
 switch_model place cs = ap statement_model (sym (variants.rolls-Switch place cs)) ∙ folds.fold-roll-Statement StatementModel BlockModel CaseModel IfModel TestModel statement_step block_step case_step if_step test_step (layer.Switch place cs)

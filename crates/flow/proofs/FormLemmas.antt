@@ -2,7 +2,7 @@
 use Rattle.std.proofs.Common.{◌≡◌, ℕ, List, [], ◌∷◌, ◌++◌, length, map, sym, subst}
 use Rattle.std.specs.Prelude.{slice_set}
 use Rattle.program.specs.Statements as stated
-use Rattle.program.specs.Statements.{StatementModel, BlockModel, CaseModel, IfModel, TestModel, statement_model, block_model, test_model, statement_step, block_step, case_step, if_step, test_step, statement_row}
+use Rattle.program.specs.Statements.{StatementModel, BlockModel, CaseModel, IfModel, TestModel, statement_model, block_model, test_model, statement_step, block_step, case_step, if_step, test_step, statement_sequence}
 use Rattle.program.specs.declared.statement as made
 use Rattle.program.specs.declared.statement.Mention.{Mention}
 use Rattle.program.specs.declared.statement.Statement.TheFolds as folds
@@ -15,7 +15,7 @@ use Rattle.flow.proofs.LoopLemmas.{grew_turns}
 use Rattle.flow.proofs.GrowthLemmas.{grew_both}
 
 -- a block without where it lies in memory
-block_is : (b : made.Block.Block) → block_model b ≡ stated.Braces (statement_row (map statement_model b.statements.items)) b.forget
+block_is : (b : made.Block.Block) → block_model b ≡ stated.Braces (statement_sequence (map statement_model b.statements.items)) b.forget
 block_is = folds.fold_out-Block StatementModel BlockModel CaseModel IfModel TestModel statement_step block_step case_step if_step test_step
 
 -- a condition and its block likewise
@@ -23,10 +23,10 @@ test_is : (t : made.Test.Test) → test_model t ≡ stated.Test t.place t.reads.
 test_is = folds.fold_out-Test StatementModel BlockModel CaseModel IfModel TestModel statement_step block_step case_step if_step test_step
 
 -- a block: what goes out of scope, and its statements on top of that
-pub block_laid : (b : made.Block.Block) (ss : List made.Statement.Statement) (old mid new : List Instr) (exit again behind entry next : ℕ) → ss ≡ b.statements.items → Grew old mid behind (forgets b.forget (length old) next) → Grew mid new entry (statements (statement_row (map statement_model ss)) exit again (length mid) behind) → Grew old new entry (block (block_model b) exit again (length old) next)
+pub block_laid : (b : made.Block.Block) (ss : List made.Statement.Statement) (old mid new : List Instr) (exit again behind entry next : ℕ) → ss ≡ b.statements.items → Grew old mid behind (forgets b.forget (length old) next) → Grew mid new entry (statements (statement_sequence (map statement_model ss)) exit again (length mid) behind) → Grew old new entry (block (block_model b) exit again (length old) next)
 block_laid b ss old mid new exit again behind entry next same g h =
-    let row : Lays = statements (statement_row (map statement_model b.statements.items)) exit again in
-    let top : Grew mid new entry (row (length mid) behind) = subst (λ xs. Grew mid new entry (statements (statement_row (map statement_model xs)) exit again (length mid) behind)) same h in
+    let row : Lays = statements (statement_sequence (map statement_model b.statements.items)) exit again in
+    let top : Grew mid new entry (row (length mid) behind) = subst (λ xs. Grew mid new entry (statements (statement_sequence (map statement_model xs)) exit again (length mid) behind)) same h in
     subst (λ x. Grew old new entry (block x exit again (length old) next)) (sym (block_is b))
     (grew_both old mid new row (forgets b.forget) behind entry next g top)
 

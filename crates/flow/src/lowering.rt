@@ -3,8 +3,8 @@
 ghost use Rattle.std.specs.Prelude.{◌≡◌, ℕ, List, IfOk, [], length, map, option_map};
 ghost use Rattle.program.specs.Methods.{method_model};
 ghost use Rattle.program.specs.Statements as stated;
-ghost use Rattle.program.specs.Statements.{statement_model, statement_row, block_model, test_model};
-ghost use Rattle.program.specs.Statements.{if_model, other_row, case_model, case_row};
+ghost use Rattle.program.specs.Statements.{statement_model, statement_sequence, block_model, test_model};
+ghost use Rattle.program.specs.Statements.{if_model, other_sequence, case_model, case_sequence};
 ghost use Rattle.flow.specs.declared.graph.Instr.{Instr};
 ghost use Rattle.flow.specs.Graphs.{graph_model, instruction_model};
 ghost use Rattle.flow.specs.Growths.{Grew};
@@ -74,7 +74,8 @@ fn lay_statements(
     next: usize,
 ) -> Result<usize, Memory>
     ensures { IfOk result (λ entry. Grew instructions.old.items instructions.new.items entry
-        (laid.statements (statement_row (map statement_model statements.now)) exits.end exits.again (length instructions.old.items) next)) }
+        (laid.statements (statement_sequence (map statement_model statements.now)) exits.end exits.again
+        (length instructions.old.items) next)) }
 {
     let mut entry = next;
     for statement in statements.iter().rev() {
@@ -136,7 +137,8 @@ fn lay_otherwise(
     next: usize,
 ) -> Result<usize, Memory>
     ensures { IfOk result (λ entry. Grew instructions.old.items instructions.new.items entry
-        (laid.others (other_row [] (option_map block_model otherwise.now)) exits.end exits.again (length instructions.old.items) next)) }
+        (laid.others (other_sequence [] (option_map block_model otherwise.now)) exits.end exits.again
+        (length instructions.old.items) next)) }
 {
     match otherwise {
         Some(block) => lay_block(alloc, instructions, block, exits, next),
@@ -221,7 +223,7 @@ fn lay_switch(
     next: usize,
 ) -> Result<usize, Memory>
     ensures { IfOk result (λ entry. (exit : ℕ) → Grew instructions.old.items instructions.new.items entry
-        (laid.statement (stated.Switch place (case_row (map case_model cases.now))) exit again (length instructions.old.items) next)) }
+        (laid.statement (stated.Switch place (case_sequence (map case_model cases.now))) exit again (length instructions.old.items) next)) }
 {
     let exits = Exits { end: next, again };
     let mut entrances = Vec::new(alloc);

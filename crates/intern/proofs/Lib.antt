@@ -3,6 +3,6 @@ pub mod ViewLemmas
 pub mod CodeLemmas
 pub mod RuleLemmas
 pub mod SearchLemmas
-pub mod TokenLemmas
+pub mod IdLemmas
 pub mod InternLemmas
 pub mod ReadingLemmas

@@ -2,10 +2,10 @@
 
 use thiserror::Error;
 
-/// Why there is no token.
+/// Why there is no id.
 #[derive(Clone, Copy, Debug, PartialEq, Eq, Error)]
 pub enum InternFault {
-    /// Each slot of the table has a word, and no token names the row.
+    /// Each slot of the table has a word, and no id names the row.
     #[error("the table of rows is full")]
     Full,
     /// A growth of memory was refused.

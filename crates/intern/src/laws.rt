@@ -1,4 +1,4 @@
-//! Laws of words and tokens: they hold of every table.
+//! Laws of words and ids: they hold of every table.
 
 ghost use Rattle.std.specs.Prelude.{◌≡◌, ◌+◌, ◌*◌, ◌<◌, ℕ, List, length, slice_index};
 ghost use Rattle.std.specs.Thread.{IsSync};
@@ -10,14 +10,14 @@ ghost use Rattle.intern.specs.Codes.{code};
 ghost use Rattle.intern.specs.Layout.{word};
 ghost use Rattle.intern.specs.Rule.{Filled};
 ghost use Rattle.intern.specs.Seats.{IsOfEmptyTable, IsSeatOf, IsStateFor, slots_of, view};
-ghost use Rattle.intern.specs.Tokens.{HasNoRoom, IsFaithful, IsKnown, Names};
+ghost use Rattle.intern.specs.RowIds.{HasNoRoom, IsFaithful, IsKnown, Names};
 ghost use Rattle.intern.specs.View.{Grows, IsInside, IsSound, IsWalk, Knowledge, View};
 ghost use Rattle.intern.specs.contracts.rows.Rows as rows;
 ghost use Rattle.intern.specs.declared.layout.TheConstants.{LEAVES, LENGTHS, MOST_LOOKS, MOST_SLOTS};
 ghost use Rattle.intern.specs.declared.rows.Rows.{Rows};
 ghost use Rattle.intern.specs.declared.seat.Seat.{Seat};
-ghost use Rattle.intern.specs.declared.token.Token.{Token};
-ghost use Rattle.intern.specs.declared.token.Token.TheVariants.{At};
+ghost use Rattle.intern.specs.declared.row_id.RowId.{RowId};
+ghost use Rattle.intern.specs.declared.row_id.RowId.TheVariants.{At};
 
 use crate::rows::Rows;
 
@@ -36,22 +36,22 @@ pub fn each_leaf_has_a_number()
 {}
 
 /// What a seat knows: one word at a slot and one slot for a word, all within the limits and at slots of its table, and each tail
-/// one shorter. So of any two tokens that it knows, they are equal exactly where their rows are.
+/// one shorter. So of any two ids that it knows, they are equal exactly where their rows are.
 pub fn what_a_seat_knows_is_sound()
     ensures sound { (seat : Seat) → IsSound (view seat) }
     ensures inside { (rows : Rows) (seat : Seat) → IsSeatOf rows seat → IsInside (slots_of rows) (view seat) }
     ensures faithful { (seat : Seat) → IsFaithful (view seat) }
 {}
 
-/// A token that a seat knows is known at any later time, and names the same row.
-pub fn a_token_names_its_row_for_good()
-    ensures known { (v u : View) → Grows v u → (token : Token) → IsKnown v token → IsKnown u token }
-    ensures names { (v u : View) → Grows v u → (token : Token) (row : List Leaf) → Names v token row → Names u token row }
+/// An id that a seat knows is known at any later time, and names the same row.
+pub fn an_id_names_its_row_for_good()
+    ensures known { (v u : View) → Grows v u → (row_id : RowId) → IsKnown v row_id → IsKnown u row_id }
+    ensures names { (v u : View) → Grows v u → (row_id : RowId) (row : List Leaf) → Names v row_id row → Names u row_id row }
 {}
 
-/// A token is known exactly where its words are: that of its slot and, while the length is above 1, that of the slot which it
+/// An id is known exactly where its words are: that of its slot and, while the length is above 1, that of the slot which it
 /// names, down to length 1.
-pub fn a_token_is_a_walk()
+pub fn an_id_is_a_walk()
     ensures walk { (v : View) (slot : ℕ) (row : List Leaf) → Names v (At slot) row → IsWalk v (length row) slot }
     ensures known { (v : View) → IsSound v → (n slot : ℕ) → IsWalk v n slot → IsKnown v (At slot) }
 {}

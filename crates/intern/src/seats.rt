@@ -4,7 +4,7 @@ ghost use Rattle.std.specs.Prelude.{◌≡◌, ◌↔◌, IfErr, IfOk, IsOkAnd};
 ghost use Rattle.intern.specs.declared.fault.InternNew.TheVariants.{Slots};
 ghost use Rattle.intern.specs.Layout.{IsTableSize};
 ghost use Rattle.intern.specs.Seats.{IsOfEmptyTable, IsSeatOf, slots_of, view};
-ghost use Rattle.intern.specs.Tokens.{IsFaithful};
+ghost use Rattle.intern.specs.RowIds.{IsFaithful};
 ghost use Rattle.intern.specs.View.{Grows};
 
 use crate::fault::InternNew;
@@ -41,7 +41,7 @@ impl Rows {
     }
 
     /// Two seats, each of which knows all that the seat knew. It takes no memory, and never answers `Memory`.
-    #[tactic(auto, using(crate::proofs::TokenLemmas::faithful))]
+    #[tactic(auto, using(crate::proofs::IdLemmas::faithful))]
     pub fn split(&self, seat: Seat) -> Result<(Seat, Seat), (Seat, Memory)>
         requires { IsSeatOf self.now seat }
         ensures left { IsOkAnd result (λ halves. IsSeatOf self.now halves.0 × (view halves.0 ≡ view seat)) }
@@ -53,7 +53,7 @@ impl Rows {
         Ok((seat, Seat { inner }))
     }
 
-    /// A seat that knows all that both seats knew. Of any two tokens that it knows, whichever seat got them, they are equal
+    /// A seat that knows all that both seats knew. Of any two ids that it knows, whichever seat got them, they are equal
     /// exactly where their rows are. It takes no memory, and never answers `Memory`.
     pub fn join(&self, a: Seat, b: Seat) -> Result<Seat, (Seat, Seat, Memory)>
         requires a { IsSeatOf self.now a }

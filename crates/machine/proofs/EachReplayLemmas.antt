@@ -9,7 +9,7 @@ use Rattle.source.specs.declared.place.Place.{Place}
 use Rattle.program.specs.Programs.{ProgramModel}
 use Rattle.flow.specs.Graphs.{Instruction}
 use Rattle.machine.specs.Frames.{instruction_at}
-use Rattle.machine.specs.Machine.{event_at, event_in, event_outcome}
+use Rattle.machine.specs.Machine.{outcome_of, outcome_in, event_outcome}
 use Rattle.machine.specs.Outcomes.{Bounds, Outcome, Moved, Faulty, Waits, NoProcess, NoChoice, TellsStep}
 use Rattle.machine.specs.Places.{place_of, process_place, stack_place}
 use Rattle.machine.specs.Replays.{IsKnown, IsReplay, ReplayModel}
@@ -23,12 +23,12 @@ use Rattle.machine.specs.declared.halts.Halt.TheVariants as halt
 -- a fault has a place
 place_at : (p : ProgramModel) (bound : Bounds) (w : World) (e : Event) (fault : Fault) (f : Frame) (rest : List Frame)
     (i : Option Instruction)
-    → event_at p bound w e f rest i ≡ Faulty fault → (at : Place) × (option_map place_of i ≡ Some at)
+    → outcome_of p bound w e f rest i ≡ Faulty fault → (at : Place) × (option_map place_of i ≡ Some at)
 place_at p bound w e fault f rest None is = absurd (cc)
 place_at p bound w e fault f rest (Some i) is = (place_of i, refl)
 
 place_in : (p : ProgramModel) (bound : Bounds) (w : World) (e : Event) (fault : Fault) (stack : List Frame)
-    → event_in p bound w e stack ≡ Faulty fault → (at : Place) × (stack_place p stack ≡ Some at)
+    → outcome_in p bound w e stack ≡ Faulty fault → (at : Place) × (stack_place p stack ≡ Some at)
 place_in p bound w e fault [] is = absurd (cc)
 place_in p bound w e fault (f ∷ rest) is = place_at p bound w e fault f rest (instruction_at p f) is
 

@@ -138,12 +138,12 @@ argument_tests_in blocks self variables taken (a ∷ arguments) =
     ∷ argument_tests_in blocks self variables (if a.claimed then address (read variables a.mention.variable.0) ∷ taken else taken) arguments
 
 -- the state behind the edge along which the endpoint at an address sends a message
-abbrev pub edge_out_in : ProgramModel → List Block → (at message : ℕ) → Option ℕ
-edge_out_in p blocks at message = end_on (edges_out p (Some (block_at blocks at).kind) (block_at blocks at).state) message
+abbrev pub sent_state : ProgramModel → List Block → (at message : ℕ) → Option ℕ
+sent_state p blocks at message = end_on (edges_out p (Some (block_at blocks at).kind) (block_at blocks at).state) message
 
--- and behind the edge along which it receives one
-abbrev pub edge_in_in : ProgramModel → List Block → (at message : ℕ) → Option ℕ
-edge_in_in p blocks at message = end_on (edges_in p (Some (block_at blocks at).kind) (block_at blocks at).state) message
+-- the state behind the edge along which it receives one
+abbrev pub received_state : ProgramModel → List Block → (at message : ℕ) → Option ℕ
+received_state p blocks at message = end_on (edges_in p (Some (block_at blocks at).kind) (block_at blocks at).state) message
 
 -- whether the endpoint at an address may take one more message, unless it is freed
 abbrev pub has_room_in : Bounds → List Block → ℕ → Bool

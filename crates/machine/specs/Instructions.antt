@@ -12,7 +12,8 @@ use Rattle.flow.specs.Graphs.{Return, Stop}
 use Rattle.flow.specs.declared.graph.Branches.{Branches}
 use Rattle.flow.specs.declared.graph.Branches.TheVariants.{Either, Only}
 use Rattle.rules.specs.Endpoints.{first_state}
-use Rattle.machine.specs.Blocks.{argument_tests_in, edge_in_in, edge_out_in, has_room_in, is_own_still, owns_none, send_tests_in}
+use Rattle.machine.specs.Blocks.{argument_tests_in, has_room_in, is_own_still, owns_none, send_tests_in}
+use Rattle.machine.specs.Blocks.{received_state, sent_state}
 use Rattle.machine.specs.Blocks.{end_kind, exchanged_block, freed_block, goes_with, handed, is_imp, new_block, received_block, sent_block}
 use Rattle.machine.specs.Frames.{call_next, call_target, entered, instruction_at, kind_at, method_at, variables_of}
 use Rattle.machine.specs.Frames.{address, addresses, bound_to, forgotten, gone_with, payloads_claimed, put}
@@ -64,10 +65,10 @@ module _ (p : ProgramModel) (bound : Bounds) (w : World) (self : ℕ) (f : Frame
 
   -- the state behind the edge of the endpoint at an address, out and in
   abbrev pub edge_out : ℕ → ℕ → Option ℕ
-  edge_out at message = edge_out_in p w.blocks at message
+  edge_out at message = sent_state p w.blocks at message
 
   abbrev pub edge_in : ℕ → ℕ → Option ℕ
-  edge_in at message = edge_in_in p w.blocks at message
+  edge_in at message = received_state p w.blocks at message
 
   -- a close comes to a case
   abbrev pub closes_at : Option EntranceModel → Outcome

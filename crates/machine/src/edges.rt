@@ -9,7 +9,7 @@ ghost use Rattle.rules.specs.Endpoints.{edges_in, edges_out};
 ghost use Rattle.rules.specs.Programs.{model_of};
 ghost use Rattle.machine.specs.Answers.{IsRefusal, Pass};
 ghost use Rattle.machine.specs.Blocks as told;
-ghost use Rattle.machine.specs.Blocks.{edge_in_in, edge_out_in, has_room_in, send_tests_in};
+ghost use Rattle.machine.specs.Blocks.{received_state, sent_state, has_room_in, send_tests_in};
 ghost use Rattle.machine.specs.Outcomes.{Bounds};
 ghost use Rattle.machine.specs.Runs.{AreBounds};
 ghost use Rattle.machine.specs.Views.{blocks_model};
@@ -69,11 +69,11 @@ fn state_behind(
     message: MessageId,
 ) -> Option<StateId>
     ensures { MatchOption result
-        ((cut_off (blocks_model blocks.now) at || is_some (edge_out_in (model_of program.now) (blocks_model blocks.now) at message.0))
+        ((cut_off (blocks_model blocks.now) at || is_some (sent_state (model_of program.now) (blocks_model blocks.now) at message.0))
         ≡ false)
-        (λ q. ((cut_off (blocks_model blocks.now) at || is_some (edge_out_in (model_of program.now) (blocks_model blocks.now) at message.0))
+        (λ q. ((cut_off (blocks_model blocks.now) at || is_some (sent_state (model_of program.now) (blocks_model blocks.now) at message.0))
         ≡ true) × (q.0 ≡ (if cut_off (blocks_model blocks.now) at then (block_at (blocks_model blocks.now) at).state
-        else unwrap_or (edge_out_in (model_of program.now) (blocks_model blocks.now) at message.0)
+        else unwrap_or (sent_state (model_of program.now) (blocks_model blocks.now) at message.0)
         (block_at (blocks_model blocks.now) at).state))) }
 {
     let state = state_of(blocks, at);
@@ -92,17 +92,18 @@ pub(crate) fn way_out(
 ) -> Result<Way, Refusal>
     ensures pass { IfOk result (λ way. (bound : Bounds) → AreBounds (model_of program.now) bound
         → Pass (send_tests_in bound (blocks_model blocks.now) at
-        (edge_out_in (model_of program.now) (blocks_model blocks.now) at message.0))) }
+        (sent_state (model_of program.now) (blocks_model blocks.now) at message.0))) }
     ensures at { IfOk result (λ way. way.at ≡ at) }
     ensures peer { IfOk result (λ way. way.peer ≡ (block_at (blocks_model blocks.now) at).peer) }
     ensures gone { IfOk result (λ way. way.gone ≡ freed (blocks_model blocks.now) (block_at (blocks_model blocks.now) at).peer) }
     ensures state { IfOk result (λ way. way.state.0 ≡ (if cut_off (blocks_model blocks.now) at then
         (block_at (blocks_model blocks.now) at).state
-        else unwrap_or (edge_out_in (model_of program.now) (blocks_model blocks.now) at message.0)
+        else unwrap_or (sent_state (model_of program.now) (blocks_model blocks.now) at message.0)
         (block_at (blocks_model blocks.now) at).state)) }
     ensures there { IfOk result (λ way. way.gone ≡ false → way.peer < length (blocks_model blocks.now)) }
     ensures refusal { IfErr result (λ refusal. (bound : Bounds) → AreBounds (model_of program.now) bound → IsRefusal refusal
-        (send_tests_in bound (blocks_model blocks.now) at (edge_out_in (model_of program.now) (blocks_model blocks.now) at message.0))) }
+        (send_tests_in bound (blocks_model blocks.now) at
+        (sent_state (model_of program.now) (blocks_model blocks.now) at message.0))) }
 {
     let Some(state) = state_behind(program, blocks, at, message) else {
         return Err(Refusal::Fault(Fault::F4));
@@ -154,7 +155,7 @@ pub(crate) fn state_received(
     at: usize,
     message: MessageId,
 ) -> StateId
-    ensures { result.0 ≡ unwrap_or (edge_in_in (model_of program.now) (blocks_model blocks.now) at message.0)
+    ensures { result.0 ≡ unwrap_or (received_state (model_of program.now) (blocks_model blocks.now) at message.0)
         (block_at (blocks_model blocks.now) at).state }
 {
     let state = state_of(blocks, at);

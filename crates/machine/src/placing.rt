@@ -44,7 +44,7 @@ impl Process {
     }
 
     /// How many frames it has: none, where it has ended.
-    pub fn frames(&self) -> usize
+    pub fn frame_count(&self) -> usize
         ensures { result ≡ length (stack_model self.now) }
     {
         match &self.top {

@@ -8,7 +8,7 @@ use Rattle.source.specs.declared.place.Place.{Place}
 use Rattle.tree.specs.Operators as levels
 use Rattle.tree.specs.Operators.{Operators, below}
 use Rattle.tree.specs.Expressions.{LevelTree, AtomTree, StepOf, Chain, Unary}
-use Rattle.tree.specs.Factors.{step_row}
+use Rattle.tree.specs.Factors.{step_sequence}
 use Rattle.tree.specs.declared.expression.Prefix.{Prefix}
 use Rattle.names.specs.Expressions.{InScope, kind_of, place_of, signed_kind, sign_asked}
 use Rattle.declarations.specs.Mistakes.{Adds}
@@ -57,18 +57,18 @@ judged_signed s p e {mid = mid} {new = new} {inner = inner} first sign =
     }
 
 -- one more part of a chain
-joined_more : (l : Operators) (e : Shape) (ps : List (StepOf l)) (p : StepOf l) → joined e (step_row l (ps ++ p ∷ [])) ≡ Joined (joint_of l) (joined e (step_row l ps)) (shape p.1)
+joined_more : (l : Operators) (e : Shape) (ps : List (StepOf l)) (p : StepOf l) → joined e (step_sequence l (ps ++ p ∷ [])) ≡ Joined (joint_of l) (joined e (step_sequence l ps)) (shape p.1)
 joined_more l e [] p = refl
 joined_more l e (q ∷ ps) p = joined_more l (Joined (joint_of l) e (shape q.1)) ps p
 
 -- a chain as far as it was judged
 abbrev pub chain_to : (l : Operators) → {X : Type 0} → (X → StepOf l) → Shape → List X → ℕ → Shape
-chain_to l f e xs i = joined e (step_row l (map f (take i xs)))
+chain_to l f e xs i = joined e (step_sequence l (map f (take i xs)))
 
 chain_more : (l : Operators) {X : Type 0} (f : X → StepOf l) (e : Shape) (xs : List X) (i : ℕ) (x : X) → i < length xs → x ≡ get_or xs i x → chain_to l f e xs (i + 1) ≡ Joined (joint_of l) (chain_to l f e xs i) (shape (f x).1)
 chain_more l f e xs i x lt is =
-    ap (λ ys. joined e (step_row l (map f ys))) (take_more xs i x lt ∙ ap (λ y. take i xs ++ y ∷ []) (sym is))
-    ∙ ap (λ ps. joined e (step_row l ps)) (map-append f (take i xs) (x ∷ []))
+    ap (λ ys. joined e (step_sequence l (map f ys))) (take_more xs i x lt ∙ ap (λ y. take i xs ++ y ∷ []) (sym is))
+    ∙ ap (λ ps. joined e (step_sequence l ps)) (map-append f (take i xs) (x ∷ []))
     ∙ joined_more l e (map f (take i xs)) (f x)
 
 pub judges_more : (l : Operators) {X : Type 0} (f : X → StepOf l) (e : Shape) (xs : List X) (i : ℕ) (x : X) {scope : Scope} {variables : Variables} {old mid more new : List Mistake} {left right o : Operand}
@@ -79,10 +79,10 @@ judges_more l f e xs i x {scope = scope} {variables = variables} {old = old} {ne
     (record { all = λ p g is_scope is_frame. judged_joined _ (joint_of l) (chain_to l f e xs i) (shape (f x).1) (first.all p g is_scope is_frame) (second.all p g is_scope is_frame) both })
 
 pub judges_all : (l : Operators) {X : Type 0} (f : X → StepOf l) (first : LevelTree (below l)) (xs ys : List X) (i : ℕ) (tree : LevelTree (levels.Joined l)) {scope : Scope} {variables : Variables} {old new : List Mistake} {o : Operand}
-    → length xs ≤ i → xs ≡ ys → tree ≡ Chain l first (step_row l (map f ys)) → Judges scope variables (chain_to l f (shape first) xs i) old new o → Judges scope variables (shape tree) old new o
+    → length xs ≤ i → xs ≡ ys → tree ≡ Chain l first (step_sequence l (map f ys)) → Judges scope variables (chain_to l f (shape first) xs i) old new o → Judges scope variables (shape tree) old new o
 judges_all l f first xs ys i tree {scope = scope} {variables = variables} {old = old} {new = new} {o = o} le same seen h =
     subst (λ t. Judges scope variables (shape t) old new o) (sym seen)
-    (subst (λ zs. Judges scope variables (joined (shape first) (step_row l (map f zs))) old new o) (take_all i xs le ∙ same) h)
+    (subst (λ zs. Judges scope variables (joined (shape first) (step_sequence l (map f zs))) old new o) (take_all i xs le ∙ same) h)
 
 -- the part behind an operator
 pub judges_step : (l : Operators) (p q : StepOf l) {scope : Scope} {variables : Variables} {old new : List Mistake} {o : Operand} → p ≡ q → Judges scope variables (shape q.1) old new o → Judges scope variables (shape p.1) old new o

@@ -11,7 +11,7 @@ use Rattle.std.proofs.lemmas.Cmp.{nat_list_eq_equiv}
 use Rattle.std.proofs.lemmas.List.{length-map}
 use Rattle.std.proofs.lemmas.Map.Text.{is_eq-slice_cmp}
 use Rattle.source.specs.declared.token.Span.{Span}
-use Rattle.tree.specs.StatementTrees.{CaseTree, SwitchTree, case_row, case_tree, switch_tree}
+use Rattle.tree.specs.StatementTrees.{CaseTree, SwitchTree, case_sequence, case_tree, switch_tree}
 use Rattle.tree.specs.declared.statement as made
 use Rattle.tree.specs.declared.statement.Awaited.{Awaited}
 use Rattle.tree.specs.declared.statement.Awaited.TheVariants.{Message, Closed}
@@ -133,7 +133,7 @@ found_named text all name place =
 pub found_closed : (text : List ℕ) (all : List Head) (name : Span) → is_some (key_at text (word_at text name, None) all) ≡ awaits_closed text name all
 found_closed text all name = first_of_some (λ x. same_key (word_at text name, None) (head_words text x)) all ∙ awaiting_close text name all
 
-heads_in : (cases : List CaseTree) → heads_of (case_row cases) ≡ map head_of cases
+heads_in : (cases : List CaseTree) → heads_of (case_sequence cases) ≡ map head_of cases
 heads_in [] = refl
 heads_in (c ∷ cases) = ap (λ l. head_of c ∷ l) (heads_in cases)
 

@@ -78,15 +78,15 @@ pub statements_extend : (m : Surroundings) (xs : StatementTrees) (f : Frame) →
 statements_extend m trees.NoStatement f = same_extends f f refl
 statements_extend m (trees.MoreStatements x xs) f = extends_then f _ _ (statement_extends m x f) (statements_extend m xs (statement_turn m x f).frame)
 
-typed_extends : (p : Program) (param : Option contract_nodes.Param.Param) (name : Span) (t : Option type_nodes.Type.Type) (f : Frame) → Extends f (typed_turn p param name t f).frame
+typed_extends : (p : Program) (param : Option contract_nodes.MessageParameter.MessageParameter) (name : Span) (t : Option type_nodes.Type.Type) (f : Frame) → Extends f (typed_turn p param name t f).frame
 typed_extends p param name (Some t) f = declared_extends _ _ _ _ f
 typed_extends p param name None f = declared_extends _ _ _ _ f
 
-binds_extend : (p : Program) (params : List contract_nodes.Param.Param) (binds : List made.Bind.Bind) (f : Frame) → Extends f (binds_turn p params binds f).frame
+binds_extend : (p : Program) (params : List contract_nodes.MessageParameter.MessageParameter) (binds : List made.Bind.Bind) (f : Frame) → Extends f (binds_turn p params binds f).frame
 binds_extend p params [] f = same_extends f f refl
 binds_extend p [] (b ∷ binds) f = extends_then f _ _ (typed_extends p None b.name b.ty f) (binds_extend p [] binds (bind_turn p None b f).frame)
 binds_extend p (x ∷ params) (b ∷ binds) f = extends_then f _ _ (typed_extends p (Some x) b.name b.ty f) (binds_extend p params binds (bind_turn p (Some x) b f).frame)
 
 -- what stood before a case stands in front behind what it binds and what it does
-pub case_extends : (m : Surroundings) (params : List contract_nodes.Param.Param) (binds : List made.Bind.Bind) (xs : StatementTrees) (f : Frame) → Extends f (statements_turn m xs (binds_turn m.program params binds f).frame).frame
+pub case_extends : (m : Surroundings) (params : List contract_nodes.MessageParameter.MessageParameter) (binds : List made.Bind.Bind) (xs : StatementTrees) (f : Frame) → Extends f (statements_turn m xs (binds_turn m.program params binds f).frame).frame
 case_extends m params binds xs f = extends_then f _ _ (binds_extend m.program params binds f) (statements_extend m xs (binds_turn m.program params binds f).frame)

@@ -8,7 +8,7 @@ use Rattle.tree.specs.declared.class as made
 use Rattle.declarations.specs.Mistakes.{Adds}
 use Rattle.declarations.specs.Owning.{owning_fields}
 use Rattle.declarations.specs.Scopes.{AreMethods, IsClass}
-use Rattle.declarations.specs.declared.members.Methods.{Methods}
+use Rattle.declarations.specs.declared.members.ClassMethods.{ClassMethods}
 use Rattle.names.specs.Values.{class_meant, Role, send_mistakes, argument_mistakes}
 use Rattle.names.specs.Expressions.{InScope}
 use Rattle.declarations.specs.Kinds.{is_silent, unless}
@@ -62,11 +62,11 @@ no_struct None is = refl
 no_struct (Some s) is = cc
 
 -- a class that was looked up
-pub record Classed (text : List ℕ) (o : Option (ℕ × ClassTree)) (m : Methods) : Type 0 where
+pub record Classed (text : List ℕ) (o : Option (ℕ × ClassTree)) (m : ClassMethods) : Type 0 where
   pub class : ClassTree
   pub is : class_meant o ≡ Some class
   pub methods : AreMethods text class m
 
-pub classed : (text : List ℕ) (o : Option (ℕ × ClassTree)) (m : Methods) → IsClass text o (Some m) → Classed text o m
+pub classed : (text : List ℕ) (o : Option (ℕ × ClassTree)) (m : ClassMethods) → IsClass text o (Some m) → Classed text o m
 classed text None m h = absurd h
 classed text (Some c) m h = record { class = c.1; is = refl; methods = h }

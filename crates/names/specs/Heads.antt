@@ -5,7 +5,7 @@ use Rattle.std.specs.BTreeMap.{get}
 use Rattle.std.specs.Cmp.Lexicographic.{slice_cmp}
 use Rattle.std.specs.Option.{option_cmp}
 use Rattle.std.specs.Ordering.{nat_cmp, ordering_then}
-use Rattle.tree.specs.StatementTrees.{SwitchTree, case_row}
+use Rattle.tree.specs.StatementTrees.{SwitchTree, case_sequence}
 use Rattle.tree.specs.declared.statement as made
 use Rattle.tree.specs.declared.statement.Awaited.{Awaited}
 use Rattle.tree.specs.declared.statement.Awaited.TheVariants.{Message, Closed}
@@ -18,7 +18,7 @@ use Rattle.names.specs.declared.heads.Heads.{Heads}
 
 -- the heads of a switch, in order
 abbrev pub switch_heads : SwitchTree → List Head
-switch_heads s = head_of s.first ∷ heads_of (case_row s.others)
+switch_heads s = head_of s.first ∷ heads_of (case_sequence s.others)
 
 -- the head of a case in memory
 abbrev pub case_head : made.Case.Case → Head

@@ -1,7 +1,7 @@
 -- What names mean in a program, or what one is told whose names are wrong.
 use Rattle.std.specs.Prelude.{◌≡◌, ◌≢◌, ◌↔◌, List, [], map, All, Contains}
 use Rattle.source.specs.declared.finding.Finding.{Finding}
-use Rattle.source.specs.Findings.{FindingParts, finding_parts}
+use Rattle.source.specs.Findings.{FindingModel, finding_model}
 use Rattle.tree.specs.Trees.{contracts_of}
 use Rattle.program.specs.Parts.{AreApart, IsWhole, contract_model, contract_parts}
 use Rattle.program.specs.declared.contract.Resolved.{Resolved}
@@ -27,7 +27,7 @@ pub record AreMistakes (p : Program) (mistakes : List Mistake) : Type 0 where
 -- these are all that is wrong with the names and kinds, and something is
 pub record AreAll (p : Program) (found : List Finding) : Type 0 where
   pub some : found ≢ []
-  pub each : (f : FindingParts) → Contains (map finding_parts found) f ↔ Contains (program_findings p) f
+  pub each : (f : FindingModel) → Contains (map finding_model found) f ↔ Contains (program_findings p) f
 
 -- a fault tells all that is wrong, or is want of memory
 abbrev pub Explains : Program → NameFaults → Type 0

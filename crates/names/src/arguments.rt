@@ -18,7 +18,7 @@ use crate::wholes::judge_asked;
 use declarations::{Mistake, Scope, ValueKind};
 use source::Memory;
 use std::alloc::Global;
-use tree::{Expression, Field, Param, Parameter, Type};
+use tree::{Expression, Field, MessageParameter, Parameter, Type};
 
 /// Adds what is wrong with an argument for a parameter of this kind, if there is one.
 fn judge_argument(
@@ -84,7 +84,7 @@ impl Typed for Parameter {
     }
 }
 
-impl Typed for Param {
+impl Typed for MessageParameter {
     ghost type_of = { λ x. x.ty };
 
     fn ty(&self) -> Type {

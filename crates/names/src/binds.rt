@@ -3,7 +3,7 @@
 ghost use Rattle.std.specs.Prelude.{◌≡◌, ◌++◌, List, Option, OnOk, option_map, slice_get};
 ghost use Rattle.tree.specs.Trees.{message_tree};
 ghost use Rattle.program.specs.declared.kind.Side.{Side};
-ghost use Rattle.tree.specs.declared.contract.Param.{Param};
+ghost use Rattle.tree.specs.declared.contract.MessageParameter.{MessageParameter};
 ghost use Rattle.names.specs.Cases.{typed_turn, bind_turn, binds_turn, brings_heap};
 ghost use Rattle.declarations.specs.Kinds.{brought_kind};
 ghost use Rattle.declarations.specs.Mistakes.{Adds};
@@ -18,10 +18,10 @@ use crate::variables::{Variable, Variables};
 use declarations::{Demand, Mismatch, Mistake, Scope, ValueKind, is_heap, judge_type};
 use source::{Memory, Span};
 use std::alloc::Global;
-use tree::{Bind, Param, Type};
+use tree::{Bind, MessageParameter, Type};
 
 /// The kind of what a message brings for this parameter, if there is one.
-fn brought_kind(scope: &Scope<'_>, parameter: Option<&Param>) -> ValueKind
+fn brought_kind(scope: &Scope<'_>, parameter: Option<&MessageParameter>) -> ValueKind
     ensures { (p : Program) → IsScope p scope.now → result ≡ brought_kind p (option_map (λ x. x.now) parameter.entry) }
 {
     match parameter {
@@ -31,7 +31,7 @@ fn brought_kind(scope: &Scope<'_>, parameter: Option<&Param>) -> ValueKind
 }
 
 /// Whether a message brings something of the exchange heap for this parameter.
-fn brings_heap(parameter: Option<&Param>) -> bool
+fn brings_heap(parameter: Option<&MessageParameter>) -> bool
     ensures { result ≡ brings_heap (option_map (λ x. x.now) parameter.entry) }
 {
     match parameter {
@@ -79,7 +79,7 @@ fn judge_bind<'a>(
     alloc: Global,
     scope: &Scope<'a>,
     variables: &mut Variables<'a>,
-    parameter: Option<&Param>,
+    parameter: Option<&MessageParameter>,
     bind: Bind,
     found: &mut Vec<Mistake>,
 ) -> Result<(), Memory>
@@ -107,7 +107,7 @@ fn judge_bind<'a>(
     }
 }
 
-fn parameter_at(parameters: &[Param], index: usize) -> Option<&Param>
+fn parameter_at(parameters: &[MessageParameter], index: usize) -> Option<&MessageParameter>
     ensures { option_map (λ x. x.now) result ≡ slice_get parameters.now index }
 {
     parameters.get(index)
@@ -118,7 +118,7 @@ pub(crate) fn judge_bound<'a>(
     alloc: Global,
     scope: &Scope<'a>,
     variables: &mut Variables<'a>,
-    parameters: &[Param],
+    parameters: &[MessageParameter],
     binds: &[Bind],
     found: &mut Vec<Mistake>,
 ) -> Result<(), Memory>

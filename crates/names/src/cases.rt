@@ -29,7 +29,7 @@ use declarations::{Mistake, NameSort, Scope, ValueKind, add_unknown};
 use program::Side;
 use source::{Memory, Span};
 use std::alloc::Global;
-use tree::{Awaited, Case, Message, Param};
+use tree::{Awaited, Case, Message, MessageParameter};
 
 /// An end of a contract.
 #[derive(Clone, Copy)]
@@ -181,7 +181,7 @@ fn awaited_message<'a>(
 }
 
 /// The parameters of a message, if there is one.
-fn parameters_of<'a>(message: Option<&'a Message>) -> &'a [Param]
+fn parameters_of<'a>(message: Option<&'a Message>) -> &'a [MessageParameter]
     ensures { result.now ≡ bound_params (option_map (λ m. message_tree m.now) message.entry) }
 {
     match message {

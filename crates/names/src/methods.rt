@@ -13,7 +13,7 @@ ghost use Rattle.names.specs.Variables.{Frame};
 use crate::statements::judge_block;
 use crate::surroundings::Surroundings;
 use crate::variables::{Variable, Variables};
-use declarations::{Methods, Mistake, Scope, is_heap, judge_method_names, judge_type};
+use declarations::{ClassMethods, Mistake, Scope, is_heap, judge_method_names, judge_type};
 use source::Memory;
 use std::alloc::Global;
 use tree::{Method, Parameter, Type};
@@ -22,7 +22,7 @@ use tree::{Method, Parameter, Type};
 pub(crate) fn judge_class<'a>(
     alloc: Global,
     scope: &Scope<'a>,
-    methods: &Methods<'a>,
+    methods: &ClassMethods<'a>,
     found: &mut Vec<Mistake>,
 ) -> Result<(), Memory>
     ensures { (p : Program) (c : ClassTree) → IsScope p scope.now → AreMethods p.text c methods.now
@@ -36,7 +36,7 @@ pub(crate) fn judge_class<'a>(
 fn judge_methods<'a>(
     alloc: Global,
     scope: &Scope<'a>,
-    methods: &Methods<'a>,
+    methods: &ClassMethods<'a>,
     found: &mut Vec<Mistake>,
 ) -> Result<(), Memory>
     ensures { (p : Program) (c : ClassTree) → IsScope p scope.now → AreMethods p.text c methods.now
@@ -52,7 +52,7 @@ fn judge_methods<'a>(
 fn judge_method<'a>(
     alloc: Global,
     scope: &Scope<'a>,
-    methods: &Methods<'a>,
+    methods: &ClassMethods<'a>,
     method: &Method,
     found: &mut Vec<Mistake>,
 ) -> Result<(), Memory>

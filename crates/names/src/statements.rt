@@ -1,8 +1,8 @@
 //! What is wrong with the names and kinds in statements.
 
 ghost use Rattle.std.specs.Prelude.{◌≡◌, List, Some, map, take, OnOk, slice_get, [], ◌∷◌};
-ghost use Rattle.tree.specs.StatementTrees.{statement_tree, statement_row, block_tree, test_tree};
-ghost use Rattle.tree.specs.StatementTrees.{if_tree, switch_tree, case_tree, case_row};
+ghost use Rattle.tree.specs.StatementTrees.{statement_tree, statement_sequence, block_tree, test_tree};
+ghost use Rattle.tree.specs.StatementTrees.{if_tree, switch_tree, case_tree, case_sequence};
 ghost use Rattle.names.specs.Bodies as bodies;
 ghost use Rattle.names.specs.Bodies.{in_loop, in_switch, statement_turn, statements_turn, block_turn};
 ghost use Rattle.names.specs.Bodies.{test_turn, others_turn, case_turn, cases_turn, head_of};
@@ -74,7 +74,7 @@ fn judge_statements<'a>(
 ) -> Result<(), Memory>
     ensures { (m : bodies.Surroundings) (f : Frame) → AreSurroundings m around.now → IsFrame m.program.text f variables.old
         → OnOk result (Turned m.program.text found.old.items found.new.items variables.new
-        (statements_turn m (statement_row (map statement_tree statements.now)) f)) }
+        (statements_turn m (statement_sequence (map statement_tree statements.now)) f)) }
 {
     for statement in statements {
         judge_statement(around, variables, statement, found)?;
@@ -172,7 +172,7 @@ fn judge_switch<'a>(
     ensures { (m : bodies.Surroundings) (f : Frame) → AreSurroundings m around.now → IsFrame m.program.text f variables.old
         → OnOk result (Turned m.program.text found.old.items found.new.items variables.new
         (follow (case_turn m (switch_heads (switch_tree switch.now)) [] (switch_tree switch.now).first f) (cases_turn m (switch_heads
-        (switch_tree switch.now)) (head_of (switch_tree switch.now).first ∷ []) (case_row (switch_tree switch.now).others)))) }
+        (switch_tree switch.now)) (head_of (switch_tree switch.now).first ∷ []) (case_sequence (switch_tree switch.now).others)))) }
 {
     let heads = Heads::of(around.alloc, around.scope.text, switch)?;
     judge_case(around, variables, &heads, 0, &switch.first, found)?;

@@ -1,7 +1,7 @@
 //! What stands round a statement, and what is in scope there.
 
 use crate::variables::Variables;
-use declarations::{Methods, Scope};
+use declarations::{ClassMethods, Scope};
 use std::alloc::Global;
 use tree::Type;
 
@@ -10,7 +10,7 @@ use tree::Type;
 pub(crate) struct Surroundings<'s, 'a> {
     pub(crate) alloc: Global,
     pub(crate) scope: &'s Scope<'a>,
-    pub(crate) methods: &'s Methods<'a>,
+    pub(crate) methods: &'s ClassMethods<'a>,
     pub(crate) result: Option<Type>,
     pub(crate) breaks: bool,
     pub(crate) continues: bool,

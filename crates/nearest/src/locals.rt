@@ -4,8 +4,8 @@ ghost use Rattle.std.specs.Prelude.{◌≡◌, ◌++◌, ◌∷◌, [], IfOk, On
 ghost use Rattle.nearest.specs.Locals.{block_names, bound_names, case_names, cases_names};
 ghost use Rattle.nearest.specs.Locals.{is_before, method_names, next_place, others_names};
 ghost use Rattle.nearest.specs.Locals.{statement_names, statements_names, test_names, those_before};
-ghost use Rattle.tree.specs.StatementTrees.{block_tree, case_row, case_tree, if_tree};
-ghost use Rattle.tree.specs.StatementTrees.{statement_row, statement_tree, switch_tree, test_tree};
+ghost use Rattle.tree.specs.StatementTrees.{block_tree, case_sequence, case_tree, if_tree};
+ghost use Rattle.tree.specs.StatementTrees.{statement_sequence, statement_tree, switch_tree, test_tree};
 ghost use Rattle.tree.specs.Trees.{method_tree};
 
 use source::{Memory, Place, Span};
@@ -73,7 +73,7 @@ fn add_statements(
     names: &mut Vec<Span>,
 ) -> Result<(), Memory>
     ensures { OnOk result (names.new.items ≡ names.old.items
-        ++ statements_names place (statement_row (map statement_tree statements.now))) }
+        ++ statements_names place (statement_sequence (map statement_tree statements.now))) }
 {
     for statement in statements {
         add_statement(place, statement, names)?;
@@ -119,9 +119,9 @@ fn add_branches(place: Place, branches: &If, names: &mut Vec<Span>) -> Result<()
 fn add_cases(place: Place, switch: &Switch, names: &mut Vec<Span>) -> Result<(), Memory>
     ensures { OnOk result (names.new.items ≡ names.old.items
         ++ (case_names place (next_place (switch_tree switch.now).close.place
-        (case_row (switch_tree switch.now).others)) (switch_tree switch.now).first
+        (case_sequence (switch_tree switch.now).others)) (switch_tree switch.now).first
         ++ cases_names place (switch_tree switch.now).close.place
-        (case_row (switch_tree switch.now).others))) }
+        (case_sequence (switch_tree switch.now).others))) }
 {
     let mut case = &switch.first;
     for next in &switch.others {

@@ -101,9 +101,9 @@ pub record IfModel : Type 0 where
 
 -- lists as rows
 
-abbrev pub statement_row : List StatementModel → StatementsModel
-statement_row [] = NoStatement
-statement_row (x ∷ xs) = MoreStatements x (statement_row xs)
+abbrev pub statement_sequence : List StatementModel → StatementsModel
+statement_sequence [] = NoStatement
+statement_sequence (x ∷ xs) = MoreStatements x (statement_sequence xs)
 
 -- the last block, if there is one
 abbrev pub last_other : Option BlockModel → OthersModel
@@ -111,13 +111,13 @@ last_other None = NoOther
 last_other (Some b) = Else b
 
 -- further conditions in order, and then the last block
-abbrev pub other_row : List TestModel → Option BlockModel → OthersModel
-other_row [] last = last_other last
-other_row (t ∷ ts) last = ElseIf t (other_row ts last)
+abbrev pub other_sequence : List TestModel → Option BlockModel → OthersModel
+other_sequence [] last = last_other last
+other_sequence (t ∷ ts) last = ElseIf t (other_sequence ts last)
 
-abbrev pub case_row : List CaseModel → CasesModel
-case_row [] = NoCase
-case_row (c ∷ cs) = MoreCases c (case_row cs)
+abbrev pub case_sequence : List CaseModel → CasesModel
+case_sequence [] = NoCase
+case_sequence (c ∷ cs) = MoreCases c (case_sequence cs)
 
 -- One layer in memory, with what it holds in its places.
 
@@ -133,13 +133,13 @@ statement_step (layer.Send s) = Send (send_model s)
 statement_step (layer.Block b) = Block b
 statement_step (layer.If i) = If i.value.first i.value.others
 statement_step (layer.While t) = While t.value
-statement_step (layer.Switch place cases) = Switch place (case_row cases.items)
+statement_step (layer.Switch place cases) = Switch place (case_sequence cases.items)
 
 abbrev pub block_step : layer.Block-F StatementModel BlockModel CaseModel IfModel TestModel → BlockModel
-block_step b = Braces (statement_row b.statements.items) b.forget
+block_step b = Braces (statement_sequence b.statements.items) b.forget
 
 abbrev pub if_step : layer.If-F StatementModel BlockModel CaseModel IfModel TestModel → IfModel
-if_step i = record { first = i.first; others = other_row i.others.items i.otherwise }
+if_step i = record { first = i.first; others = other_sequence i.others.items i.otherwise }
 
 abbrev pub test_step : layer.Test-F StatementModel BlockModel CaseModel IfModel TestModel → TestModel
 test_step t = Test t.place t.reads.items t.ways t.body

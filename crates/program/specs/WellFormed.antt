@@ -4,7 +4,7 @@ use Rattle.std.specs.Prelude.{slice_get, IfSome, IsSomeAnd}
 use Rattle.std.specs.List.{filter}
 use Rattle.std.specs.Option.{option_map_or}
 use Rattle.program.specs.Kinds.{same_scalar, same_side}
-use Rattle.program.specs.Parts.{StateParts, MessageParts, ContractModel}
+use Rattle.program.specs.Parts.{StateModel, MessageModel, ContractModel}
 use Rattle.program.specs.declared.number.MessageId.{MessageId}
 use Rattle.program.specs.declared.number.StateId.{StateId}
 use Rattle.program.specs.Methods.{MethodModel, VariableModel}
@@ -58,15 +58,15 @@ are_ends contract _ _ = false
 
 -- a state, and a message, of a contract
 pub record IsStateOf (c : ContractModel) (id : StateId) : Type 0 where
-  pub place : ℕ
-  pub state : StateParts
-  pub there : slice_get c.parts.states place ≡ Some state
+  pub index : ℕ
+  pub state : StateModel
+  pub there : slice_get c.parts.states index ≡ Some state
   pub is : state.id ≡ id
 
 pub record IsMessageOf (c : ContractModel) (id : MessageId) : Type 0 where
-  pub place : ℕ
-  pub message : MessageParts
-  pub there : slice_get c.parts.messages place ≡ Some message
+  pub index : ℕ
+  pub message : MessageModel
+  pub there : slice_get c.parts.messages index ≡ Some message
   pub is : message.id ≡ id
 
 -- The numbers in a kind stand for something. Of a struct there is nothing but its number.

@@ -54,11 +54,11 @@ pub struct Part {
 }
 
 impl Contract {
-    ghost use Rattle.program.specs.Parts.{state_parts};
+    ghost use Rattle.program.specs.Parts.{state_model};
 
     /// How a state of the contract is printed; nothing where its name does not lie within the names of states.
     pub fn state_name(&self, state: State) -> &[u8]
-        ensures { result.now ≡ (state_parts (string_bytes self.now.state_names) state).name }
+        ensures { result.now ≡ (state_model (string_bytes self.now.state_names) state).name }
     {
         let names = self.state_names.as_bytes();
         names.get(state.name.start..state.name.end).unwrap_or(&[])

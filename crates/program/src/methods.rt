@@ -3,7 +3,7 @@
 ghost use Rattle.std.specs.Prelude.{◌≡◌, ◌<◌, Some, length, map, slice_get};
 ghost use Rattle.program.specs.Parts.{contract_model};
 ghost use Rattle.program.specs.Methods.{method_model};
-ghost use Rattle.program.specs.Programs.{contracts_model, messages_model, methods_model, rows, structs_model};
+ghost use Rattle.program.specs.Programs.{contracts_model, messages_model, methods_model, kind_lists, structs_model};
 ghost use Rattle.program.specs.Lists.{Each};
 ghost use Rattle.program.specs.WellFormed.{AreFields, AreWellFormed, IsKind, IsWellFormed};
 
@@ -32,7 +32,7 @@ impl Model for Methods {
     ghost use Rattle.std.specs.Prelude.{List, map};
     ghost use Rattle.program.specs.Parts.{contract_model};
     ghost use Rattle.program.specs.Methods.{method_model};
-    ghost use Rattle.program.specs.Programs.{rows};
+    ghost use Rattle.program.specs.Programs.{kind_lists};
     ghost use Rattle.program.specs.WellFormed.{AreWellFormed};
     ghost use Rattle.program.specs.contracts.statement.Statement as statement;
     ghost use Rattle.program.specs.declared.contract.Contract.{Contract};
@@ -43,10 +43,10 @@ impl Model for Methods {
 
     ghost coded = { Prim.hlevel (codes, statement.the_row.coded) };
 
-    ghost view = { λ m. (m.contracts.contracts.items, rows m.messages.items, rows m.structs.items, m.list.items) };
+    ghost view = { λ m. (m.contracts.contracts.items, kind_lists m.messages.items, kind_lists m.structs.items, m.list.items) };
 
-    ghost invariant = { λ m. AreWellFormed (map contract_model m.contracts.contracts.items) (rows m.messages.items)
-        (rows m.structs.items) (map method_model m.list.items) };
+    ghost invariant = { λ m. AreWellFormed (map contract_model m.contracts.contracts.items) (kind_lists m.messages.items)
+        (kind_lists m.structs.items) (map method_model m.list.items) };
 }
 
 impl Methods {
@@ -57,11 +57,11 @@ impl Methods {
         structs: Vec<Vec<HeapKind>>,
         list: Vec<Method>,
     ) -> Methods
-        requires well_formed { AreWellFormed (map contract_model contracts.contracts.items) (rows messages.items)
-            (rows structs.items) (map method_model list.items) }
+        requires well_formed { AreWellFormed (map contract_model contracts.contracts.items) (kind_lists messages.items)
+            (kind_lists structs.items) (map method_model list.items) }
         ensures contracts { contracts_model result ≡ map contract_model contracts.contracts.items }
-        ensures messages { messages_model result ≡ rows messages.items }
-        ensures structs { structs_model result ≡ rows structs.items }
+        ensures messages { messages_model result ≡ kind_lists messages.items }
+        ensures structs { structs_model result ≡ kind_lists structs.items }
         ensures methods { methods_model result ≡ map method_model list.items }
     {
         Methods {
@@ -81,7 +81,7 @@ impl Methods {
 
     /// What each message brings for its parameters of the exchange heap, in order; a message has its place here as its number.
     pub fn messages(&self) -> &[Vec<HeapKind>]
-        ensures messages { rows result.now ≡ messages_model self.now }
+        ensures messages { kind_lists result.now ≡ messages_model self.now }
         ensures kinds { Each (Each (IsKind (contracts_model self.now))) (messages_model self.now) }
     {
         &self.messages
@@ -89,7 +89,7 @@ impl Methods {
 
     /// What each struct has in its fields that own, in order; a struct has its place here as its number.
     pub fn structs(&self) -> &[Vec<HeapKind>]
-        ensures structs { rows result.now ≡ structs_model self.now }
+        ensures structs { kind_lists result.now ≡ structs_model self.now }
         ensures kinds { Each (AreFields (contracts_model self.now)) (structs_model self.now) }
     {
         &self.structs

@@ -10,7 +10,7 @@ use Rattle.std.proofs.lemmas.List.{length-append, length-map, length-take-le, ma
 use Rattle.std.proofs.lemmas.Option.{none-some, same_Some, slice_get-map, slice_get_past, slice_get_read}
 use Rattle.std.proofs.lemmas.List.Folds.{find_at}
 use Rattle.lemmas.specs.Places.{first_position}
-use Rattle.program.specs.Parts.{ContractModel, StateParts, contract_model, state_parts}
+use Rattle.program.specs.Parts.{ContractModel, StateModel, contract_model, state_model}
 use Rattle.program.specs.declared.contract.Contract.{Contract}
 use Rattle.replays.proofs.LineLemmas.{map_twice}
 use Rattle.replays.specs.Names.{state_of}
@@ -34,27 +34,27 @@ placed_more (d ∷ contracts) [] c m same h p n state = absurd (omega (arith, sa
 placed_more (d ∷ contracts) (t ∷ tables) c m same h p zero state = h zero state
 placed_more (d ∷ contracts) (t ∷ tables) c m same h p (suc n) state = placed_more contracts tables c m (omega (arith, same)) (λ k q. h (suc k) q) p n state
 
-first_among : (states : List StateParts) (q : ℕ) → position_or_len (λ x. is_eq (nat_cmp q x)) (map (λ (s : StateParts). s.id.0) states) ≡ position_or_len (λ (s : StateParts). s.id.0 == q) states
+first_among : (states : List StateModel) (q : ℕ) → position_or_len (λ x. is_eq (nat_cmp q x)) (map (λ (s : StateModel). s.id.0) states) ≡ position_or_len (λ (s : StateModel). s.id.0 == q) states
 first_among [] q = refl
-first_among (s ∷ states) q = ap (λ b. cond (not b) (1 + position_or_len (λ x. is_eq (nat_cmp q x)) (map (λ (s : StateParts). s.id.0) states)) 0) (number_same q s.id.0)
+first_among (s ∷ states) q = ap (λ b. cond (not b) (1 + position_or_len (λ x. is_eq (nat_cmp q x)) (map (λ (s : StateModel). s.id.0) states)) 0) (number_same q s.id.0)
     ∙ ap (λ n. cond (not (s.id.0 == q)) (1 + n) 0) (first_among states q)
 
 -- at its place stands the first state of a number
-found_at : (states : List StateParts) (q : ℕ) → option_and_then (λ k. slice_get states k) (first_position nat_cmp (map (λ (s : StateParts). s.id.0) states) q) ≡ find (λ s. s.id.0 == q) states
+found_at : (states : List StateModel) (q : ℕ) → option_and_then (λ k. slice_get states k) (first_position nat_cmp (map (λ (s : StateModel). s.id.0) states) q) ≡ find (λ s. s.id.0 == q) states
 found_at states q =
-    let ids = map (λ (s : StateParts). s.id.0) states in
-    let k = position_or_len (λ (s : StateParts). s.id.0 == q) states in
-    ap₂ (λ i n. option_and_then (λ j. slice_get states j) (cond (ltb i n) (Some i) None)) (first_among states q) (length-map states (λ (s : StateParts). s.id.0))
+    let ids = map (λ (s : StateModel). s.id.0) states in
+    let k = position_or_len (λ (s : StateModel). s.id.0 == q) states in
+    ap₂ (λ i n. option_and_then (λ j. slice_get states j) (cond (ltb i n) (Some i) None)) (first_among states q) (length-map states (λ (s : StateModel). s.id.0))
     ∙ by (ltb k (length states)) refl
-    ∙ sym (find_at (λ (s : StateParts). s.id.0 == q) states)
+    ∙ sym (find_at (λ (s : StateModel). s.id.0 == q) states)
   where
-    by : (b : Bool) → ltb (position_or_len (λ (s : StateParts). s.id.0 == q) states) (length states) ≡ b
-        → option_and_then (λ j. slice_get states j) (cond b (Some (position_or_len (λ (s : StateParts). s.id.0 == q) states)) None) ≡ slice_get states (position_or_len (λ (s : StateParts). s.id.0 == q) states)
+    by : (b : Bool) → ltb (position_or_len (λ (s : StateModel). s.id.0 == q) states) (length states) ≡ b
+        → option_and_then (λ j. slice_get states j) (cond b (Some (position_or_len (λ (s : StateModel). s.id.0 == q) states)) None) ≡ slice_get states (position_or_len (λ (s : StateModel). s.id.0 == q) states)
     by true e = refl
-    by false e = sym (slice_get_past states (position_or_len (λ (s : StateParts). s.id.0 == q) states) (omega (arith, ltb-false (position_or_len (λ (s : StateParts). s.id.0 == q) states) (length states) e)))
+    by false e = sym (slice_get_past states (position_or_len (λ (s : StateModel). s.id.0 == q) states) (omega (arith, ltb-false (position_or_len (λ (s : StateModel). s.id.0 == q) states) (length states) e)))
 
 -- the state of a contract at a place, if there is one
-abbrev pub by_index : List ContractModel → ℕ → Option ℕ → Option StateParts
+abbrev pub by_index : List ContractModel → ℕ → Option ℕ → Option StateModel
 by_index contracts contract place = option_and_then (λ k. option_and_then (λ c. slice_get c.parts.states k) (slice_get contracts contract)) place
 
 by_contract : (c : Option ContractModel) (q : ℕ) → option_and_then (λ x. find (λ s. s.id.0 == q) x.parts.states) c
@@ -67,7 +67,7 @@ pub state_placed : (contracts : List ContractModel) (tables : List (BTreeMap ℕ
 state_placed contracts tables p contract state = by_contract (slice_get contracts contract) state ∙ ap (by_index contracts contract) (sym (p contract state))
 
 -- the name of a state, or nothing where there is none
-pub name_or_nothing : (s : Option StateParts) (name : Option (Bor (List ℕ))) → option_map (λ (bytes : Bor (List ℕ)). bytes.now) name ≡ option_map (λ (x : StateParts). x.name) s → (nothing : Bor (List ℕ)) → nothing.now ≡ [] → (unwrap_or name nothing).now ≡ option_map_or (λ (x : StateParts). x.name) s []
+pub name_or_nothing : (s : Option StateModel) (name : Option (Bor (List ℕ))) → option_map (λ (bytes : Bor (List ℕ)). bytes.now) name ≡ option_map (λ (x : StateModel). x.name) s → (nothing : Bor (List ℕ)) → nothing.now ≡ [] → (unwrap_or name nothing).now ≡ option_map_or (λ (x : StateModel). x.name) s []
 name_or_nothing None None e nothing is = is
 name_or_nothing None (Some name) e nothing is = absurd (none-some name.now (sym e))
 name_or_nothing (Some s) None e nothing is = absurd (none-some s.name e)
@@ -81,7 +81,7 @@ indices_more contracts tables new i x m lt is many placed has e =
     let seen : map contract_model (take (i + 1) contracts) ≡ map contract_model (take i contracts) ++ contract_model x ∷ [] =
     ap (map contract_model) (take_more contracts i x lt) ∙ map-append contract_model (take i contracts) (get_or contracts i x ∷ []) ∙ ap (λ y. map contract_model (take i contracts) ++ contract_model y ∷ []) (sym is) in
     let same : length tables ≡ length (map contract_model (take i contracts)) = omega (arith, many, length-map (take i contracts) contract_model, length-take-le i contracts (omega arith)) in
-    let here = λ (k : ℕ). has k ∙ ap (λ l. first_position nat_cmp l k) (sym (map_twice (λ (s : StateParts). s.id.0) (state_parts (string_bytes x.state_names)) x.states.items)) in (
+    let here = λ (k : ℕ). has k ∙ ap (λ l. first_position nat_cmp l k) (sym (map_twice (λ (s : StateModel). s.id.0) (state_model (string_bytes x.state_names)) x.states.items)) in (
       ap (λ l. length l) e ∙ length-append tables (m ∷ []) ∙ ap (λ n. n + 1) many,
       subst₂ (λ c t. ArePlaced c t) (sym seen) (sym e) (placed_more (map contract_model (take i contracts)) tables (contract_model x) m same placed here),
     )

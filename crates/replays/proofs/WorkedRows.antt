@@ -5,10 +5,10 @@ use Rattle.std.specs.Fmt.{decimal}
 use Rattle.std.proofs.lemmas.Fmt.{decimal_digit, decimal_step}
 use Rattle.source.specs.declared.place.Place.{Place}
 use Rattle.program.specs.Methods.{MethodModel, VariableModel}
-use Rattle.program.specs.Parts.{ContractModel, MessageParts, StateParts}
+use Rattle.program.specs.Parts.{ContractModel, MessageModel, StateModel}
 use Rattle.program.specs.Programs.{ProgramModel}
 use Rattle.program.specs.Statements.{CaseModel, CasesModel, StatementModel, Simple, New, Start, Send, While, Switch, Braces, Test, Case, NoCase}
-use Rattle.program.specs.Statements.{MoreCases, statement_row}
+use Rattle.program.specs.Statements.{MoreCases, statement_sequence}
 use Rattle.program.specs.declared.contract.Direction.{Direction}
 use Rattle.program.specs.declared.contract.Direction.TheVariants.{In, Out}
 use Rattle.program.specs.declared.contract.Edge.{Edge}
@@ -50,10 +50,10 @@ at line col = record { line = line; col = col }
 abbrev mention : ℕ → ℕ → ℕ → Mention
 mention v line col = record { variable = record { 0 = v }; place = at line col }
 
-abbrev state : ℕ → List ℕ → StateParts
+abbrev state : ℕ → List ℕ → StateModel
 state n name = record { id = record { 0 = n }; name = name; place = at 1 1 }
 
-abbrev message : ℕ → List ℕ → Direction → MessageParts
+abbrev message : ℕ → List ℕ → Direction → MessageModel
 message n name direction = record { id = record { 0 = n }; name = name; direction = direction }
 
 abbrev edge : ℕ → ℕ → Sign → ℕ → Edge
@@ -76,7 +76,7 @@ main statements close = record {
   gives = false;
   result = None;
   variables = variable importing Local ∷ variable exporting Local ∷ variable (Struct record { 0 = 0 }) Local ∷ [];
-  statements = statement_row statements;
+  statements = statement_sequence statements;
   scope = None;
   close = close;
 }
@@ -99,7 +99,7 @@ deletes v = acts (does.Delete (mention v 1 1))
 
 -- a case that does these, and then leaves its switch
 abbrev comes : ℕ → Awaited → List StatementModel → CaseModel
-comes v what statements = Case (mention v 1 1) what [] (Braces (statement_row statements) None)
+comes v what statements = Case (mention v 1 1) what [] (Braces (statement_sequence statements) None)
 
 abbrev leaves : StatementModel
 leaves = acts (does.Break None)
@@ -181,7 +181,7 @@ serve = record {
   gives = false;
   result = None;
   variables = variable exporting Claimed ∷ [];
-  statements = statement_row (While (Test (at 15 1) [] Body (Braces (statement_row (
+  statements = statement_sequence (While (Test (at 15 1) [] Body (Braces (statement_sequence (
       Switch (at 16 1) (cases (
       comes 0 (awaits.Message record { 0 = 0 }) (sends 17 15 0 1 [] ∷ leaves ∷ [])
       ∷ comes 0 awaits.Closed (deletes 0 ∷ acts (does.Return (at 18 39) None None) ∷ []) ∷ []))

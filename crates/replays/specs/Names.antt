@@ -1,7 +1,7 @@
 -- How what a world has is named.
 use Rattle.std.specs.Prelude.{ℕ, ◌==◌, List, [], ◌++◌, Option, find, option_and_then, slice_get, codes}
 use Rattle.std.specs.Option.{option_map_or}
-use Rattle.program.specs.Parts.{ContractModel, StateParts}
+use Rattle.program.specs.Parts.{ContractModel, StateModel}
 use Rattle.program.specs.Programs.{ProgramModel}
 use Rattle.program.specs.declared.kind.HeapKind.{HeapKind}
 use Rattle.program.specs.declared.kind.HeapKind.TheVariants.{Struct, Array, Endpoint}
@@ -27,7 +27,7 @@ side_name Imp = codes "Imp"
 side_name Exp = codes "Exp"
 
 -- the state of this number in a contract, if there is one
-abbrev pub state_of : List ContractModel → ℕ → ℕ → Option StateParts
+abbrev pub state_of : List ContractModel → ℕ → ℕ → Option StateModel
 state_of contracts contract state = option_and_then (λ c. find (λ s. s.id.0 == state) c.parts.states) (slice_get contracts contract)
 
 module _ (w : Words) where

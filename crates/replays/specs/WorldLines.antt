@@ -101,8 +101,7 @@ module _ (w : Words) where
 
   -- a line for each process, and one for each block, by their numbers
   abbrev pub world_lines : World → List ℕ
-  world_lines v =
-      flat_map (λ q. process_line w.program q.0 q.1) (enumerate_from 0 v.processes)
+  world_lines v = flat_map (λ q. process_line w.program q.0 q.1) (enumerate_from 0 v.processes)
       ++ flat_map (λ b. block_line b.0 b.1) (enumerate_from 0 v.blocks)
 
   -- what is printed of a replay of events: how many were steps, why it stopped, and the world behind them

@@ -98,7 +98,7 @@ fn add_process(
             add(answer, b" at ")?;
             add_place(answer, place)?;
             add(answer, b", frames ")?;
-            add_number(answer, process.frames() as u64)?;
+            add_number(answer, process.frame_count() as u64)?;
         }
         None => add(answer, b" ended")?,
     }

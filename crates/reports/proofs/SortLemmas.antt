@@ -10,15 +10,15 @@ use Rattle.std.proofs.lemmas.Cmp.{eq_by_cmp_equiv, on_total}
 use Rattle.std.proofs.lemmas.List.{get_or-map, length-map}
 use Rattle.std.proofs.lemmas.List.Kept.{Contains-dedup, Contains-from_dedup, IsStrictlySortedBy-dedup}
 use Rattle.std.proofs.lemmas.List.Sorted.{IsPermutation-map, IsPermutation-sym, Contains-permutation}
-use Rattle.source.specs.Findings.{FindingParts}
+use Rattle.source.specs.Findings.{FindingModel}
 use Rattle.reports.specs.Orders.{report_cmp}
 use Rattle.reports.proofs.OrderLemmas.{report_total, equal_is_same}
 
-same_told : FindingParts → FindingParts → Bool
+same_told : FindingModel → FindingModel → Bool
 same_told = eq_by_cmp report_cmp
 
 -- items that have a finding, in the order of their findings
-module _ {X : Type 0} (finding : X → FindingParts) where
+module _ {X : Type 0} (finding : X → FindingModel) where
   -- the order of the findings
   abbrev pub item_cmp : X → X → Ordering
   item_cmp = on finding report_cmp
@@ -29,7 +29,7 @@ module _ {X : Type 0} (finding : X → FindingParts) where
   same_item : X → X → Bool
   same_item = eq_by_cmp item_cmp
 
-  kept_either : (b : Bool) (k : X) (xs ys : List X) (us vs : List FindingParts) → map finding xs ≡ us → map finding ys ≡ vs → map finding (cond b xs (k ∷ ys)) ≡ cond b us (finding k ∷ vs)
+  kept_either : (b : Bool) (k : X) (xs ys : List X) (us vs : List FindingModel) → map finding xs ≡ us → map finding ys ≡ vs → map finding (cond b xs (k ∷ ys)) ≡ cond b us (finding k ∷ vs)
   kept_either true k xs ys us vs e f = e
   kept_either false k xs ys us vs e f = ap (λ l. finding k ∷ l) f
 
@@ -42,7 +42,7 @@ module _ {X : Type 0} (finding : X → FindingParts) where
   kept_parts [] = refl
   kept_parts (x ∷ xs) = kept_parts_from x xs
 
-  parts_at : (xs : List X) (k : ℕ) (d : FindingParts) (e : X) → k < length (map finding xs) → get_or (map finding xs) k d ≡ finding (get_or xs k e)
+  parts_at : (xs : List X) (k : ℕ) (d : FindingModel) (e : X) → k < length (map finding xs) → get_or (map finding xs) k d ≡ finding (get_or xs k e)
   parts_at xs k d e lt = get_or-map finding xs k e d (omega (arith, length-map xs finding))
 
   sorted_parts : (xs : List X) → IsSorted item_cmp xs → IsSorted report_cmp (map finding xs)
@@ -54,7 +54,7 @@ module _ {X : Type 0} (finding : X → FindingParts) where
 
   -- what is sorted and then kept once has the same findings
   pub once_same : (all sorted kept : List X) → IsPermutation all sorted → kept ≡ dedup (eq_by_cmp item_cmp) sorted
-      → (f : FindingParts) → Contains (map finding kept) f ↔ Contains (map finding all) f
+      → (f : FindingModel) → Contains (map finding kept) f ↔ Contains (map finding all) f
   unfolding same_item same_told
   once_same all sorted kept moved once f =
       let parts : map finding kept ≡ dedup same_told (map finding sorted) = ap (map finding) once ∙ kept_parts sorted in

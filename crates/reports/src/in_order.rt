@@ -2,7 +2,7 @@
 
 ghost use Rattle.std.specs.Prelude.{◌↔◌, Contains, IfOk, map};
 ghost use Rattle.std.specs.List.Sorted.{IsStrictlySortedBy};
-ghost use Rattle.source.specs.Findings.{FindingParts, finding_parts};
+ghost use Rattle.source.specs.Findings.{FindingModel, finding_model};
 ghost use Rattle.reports.specs.Orders.{report_cmp};
 
 use source::{Finding, Memory, compare};
@@ -11,9 +11,9 @@ use source::{Finding, Memory, compare};
 ///
 /// `Memory` is answered where a growth was refused.
 pub fn in_report_order(findings: Vec<Finding>) -> Result<Vec<Finding>, Memory>
-    ensures same { IfOk result (λ listed. (f : FindingParts)
-        → Contains (map finding_parts listed.items) f ↔ Contains (map finding_parts findings.items) f) }
-    ensures ordered { IfOk result (λ listed. IsStrictlySortedBy report_cmp (map finding_parts listed.items)) }
+    ensures same { IfOk result (λ listed. (f : FindingModel)
+        → Contains (map finding_model listed.items) f ↔ Contains (map finding_model findings.items) f) }
+    ensures ordered { IfOk result (λ listed. IsStrictlySortedBy report_cmp (map finding_model listed.items)) }
 {
     let mut listed = findings;
     listed.sort_by(|a, b| compare(a, b))?;

@@ -4,7 +4,7 @@ use Rattle.std.proofs.lemmas.List.{drop_all}
 use Rattle.std.proofs.lemmas.Result.{on_ok_weaker}
 use Rattle.std.specs.Prelude.{Result, OnOk, slice_get}
 use Rattle.tree.specs.declared.statement.Bind.{Bind}
-use Rattle.tree.specs.declared.contract.Param.{Param}
+use Rattle.tree.specs.declared.contract.MessageParameter.{MessageParameter}
 use Rattle.declarations.specs.Program.{Program}
 use Rattle.program.specs.declared.number.VarId.{VarId}
 use Rattle.resolving.specs.Binds.{bind_declaration, bind_told, binds_told, one_number}
@@ -17,7 +17,7 @@ use Rattle.resolving.specs.declared.locals.Locals.{Locals}
 use Rattle.lemmas.proofs.Lists.{none_left}
 
 -- a name that is declared, with its number, is bound
-pub declared_bound : {T E : Type 0} (p : Program) (param : Option Param) (b : Bind) (f : Frame) (d : Declaration) (number : Option VarId) (old new : List VarId) (l : Locals) (r : Result T E)
+pub declared_bound : {T E : Type 0} (p : Program) (param : Option MessageParameter) (b : Bind) (f : Frame) (d : Declaration) (number : Option VarId) (old new : List VarId) (l : Locals) (r : Result T E)
     → d ≡ bind_declaration p param b → number_model number ≡ next_number d.held f → new ≡ old ++ one_number (number_model number) → OnOk r (IsFrame p.text (declared p.text d f) l) → OnOk r (IsBound p.text old new l (bind_told p param b f))
 declared_bound p param b f d number old new l r is next adds frame =
     subst (λ e. OnOk r (IsBound p.text old new l (record { what = one_number (next_number e.held f); frame = declared p.text e f }))) is
@@ -35,10 +35,10 @@ pub none_bound : {text : List ℕ} {now : List VarId} {l : Locals} (rest : Frame
 none_bound rest f none frame = record { frame = f; stands = frame; what = ap (λ xs. xs ++ (rest f).what) (sym none); after = refl }
 
 -- a name, and those behind it
-abbrev bound_next : Program → Option Param → Bind → List Param → List Bind → Frame → Told (List VarId)
+abbrev bound_next : Program → Option MessageParameter → Bind → List MessageParameter → List Bind → Frame → Told (List VarId)
 bound_next p param b params binds f = follow (λ x xs. x ++ xs) (bind_told p param b f) (binds_told p params binds)
 
-next_bound : (p : Program) (params : List Param) (binds : List Bind) (i : ℕ) (d b : Bind) → i < length binds → b ≡ get_or binds i d → binds_told p (drop i params) (drop i binds) ≡ bound_next p (slice_get params i) b (drop (suc i) params) (drop (suc i) binds)
+next_bound : (p : Program) (params : List MessageParameter) (binds : List Bind) (i : ℕ) (d b : Bind) → i < length binds → b ≡ get_or binds i d → binds_told p (drop i params) (drop i binds) ≡ bound_next p (slice_get params i) b (drop (suc i) params) (drop (suc i) binds)
 next_bound p params [] i d b lt is = absurd (omega (arith, lt))
 next_bound p [] (c ∷ binds) zero d b lt is = ap (λ k. bound_next p None k [] binds) (sym is)
 next_bound p (x ∷ params) (c ∷ binds) zero d b lt is = ap (λ k. bound_next p (Some x) k params binds) (sym is)
@@ -46,7 +46,7 @@ next_bound p [] (c ∷ binds) (suc i) d b lt is = ap (λ ps. binds_told p ps (dr
 next_bound p (x ∷ params) (c ∷ binds) (suc i) d b lt is = next_bound p params binds i d b (omega (arith, lt)) is
 
 -- one name more
-pub more_bound : {text : List ℕ} {now new : List VarId} {l m : Locals} {whole : Told (List VarId)} (p : Program) (params : List Param) (binds : List Bind) (i : ℕ) (d b : Bind) (param : Option Param) → i < length binds → b ≡ get_or binds i d → param ≡ slice_get params i
+pub more_bound : {text : List ℕ} {now new : List VarId} {l m : Locals} {whole : Told (List VarId)} (p : Program) (params : List MessageParameter) (binds : List Bind) (i : ℕ) (d b : Bind) (param : Option MessageParameter) → i < length binds → b ≡ get_or binds i d → param ≡ slice_get params i
     → (o : Binding text now l whole (binds_told p (drop i params) (drop i binds))) → IsBound text now new m (bind_told p param b o.frame) → Binding text new m whole (binds_told p (drop (i + 1) params) (drop (i + 1) binds))
 more_bound {text = text} {now = now} {new = new} {m = m} {whole = whole} p params binds i d b param lt is at o h =
     let rest = binds_told p (drop (suc i) params) (drop (suc i) binds) in
@@ -61,7 +61,7 @@ more_bound {text = text} {now = now} {new = new} {m = m} {whole = whole} p param
     })
 
 -- behind the last name nothing is still to come
-pub all_bound : {text : List ℕ} {now : List VarId} {l : Locals} {whole : Told (List VarId)} (p : Program) (params : List Param) (binds : List Bind) (i : ℕ) → length binds ≤ i
+pub all_bound : {text : List ℕ} {now : List VarId} {l : Locals} {whole : Told (List VarId)} (p : Program) (params : List MessageParameter) (binds : List Bind) (i : ℕ) → length binds ≤ i
     → Binding text now l whole (binds_told p (drop i params) (drop i binds)) → IsTold text whole now l
 all_bound {text = text} {now = now} {l = l} p params binds i le o =
     let here = ap (λ bs. binds_told p (drop i params) bs o.frame) (drop_all i binds le) in

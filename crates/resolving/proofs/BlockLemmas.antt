@@ -83,10 +83,10 @@ block_ends text place f t what l m outer last behind gone kept size here there f
 
 -- what stands behind the first block of an `if`: further conditions, and then the last block
 abbrev others_end : List TestModel → Option BlockModel → Frame → Told seen.OthersModel
-others_end tests last f = record { what = seen.other_row tests last; frame = f }
+others_end tests last f = record { what = seen.other_sequence tests last; frame = f }
 
 others_walked : (p : Program) (class : ℕ) (stays : Staying) (ts : List TestTree) (last : Option BlockTree) (f : Frame) (b : Option BlockModel) → (let t = walked (test_told p class stays) ts f in let o = others_told p class stays (trees.last_other last) t.frame in
-    seen.last_other b ≡ o.what → others_end t.what b o.frame ≡ others_told p class stays (trees.other_row ts last) f)
+    seen.last_other b ≡ o.what → others_end t.what b o.frame ≡ others_told p class stays (trees.other_sequence ts last) f)
 others_walked p class stays [] last f b is = ap (λ (w : seen.OthersModel). record { what = w; frame = (others_told p class stays (trees.last_other last) f).frame }) is
 others_walked p class stays (t ∷ ts) last f b is = ap (made (seen.ElseIf (test_told p class stays t f).what)) (others_walked p class stays ts last (test_told p class stays t f).frame b is)
 
@@ -95,13 +95,13 @@ pub if_told : (p : Program) (class : ℕ) (stays : Staying) (first : TestTree) (
     → IsTold p.text (test_told p class stays first f) x l
     → ((g : Frame) → IsFrame p.text g l → IsTold p.text (walked (test_told p class stays) ts g) xs m)
     → ((g : Frame) → IsFrame p.text g m → IsTold p.text (others_told p class stays (trees.last_other last) g) (seen.last_other b) n)
-    → IsTold p.text (follow seen.If (test_told p class stays first f) (others_told p class stays (trees.other_row ts last))) (seen.If x (seen.other_row xs b)) n
+    → IsTold p.text (follow seen.If (test_told p class stays first f) (others_told p class stays (trees.other_sequence ts last))) (seen.If x (seen.other_sequence xs b)) n
 if_told p class stays first ts last f x xs b l m n one more end =
     let behind = (test_told p class stays first f).frame in
     let second = more behind one.frame in
     let third = end (walked (test_told p class stays) ts behind).frame second.frame in
     let all = others_walked p class stays ts last behind b third.is in
-    subst (λ t. IsTold p.text (made (seen.If (test_told p class stays first f).what) t) (seen.If x (seen.other_row xs b)) n) all (record {
-      is = ap (λ y. seen.If y (seen.other_row xs b)) one.is ∙ ap (λ ys. seen.If (test_told p class stays first f).what (seen.other_row ys b)) second.is;
+    subst (λ t. IsTold p.text (made (seen.If (test_told p class stays first f).what) t) (seen.If x (seen.other_sequence xs b)) n) all (record {
+      is = ap (λ y. seen.If y (seen.other_sequence xs b)) one.is ∙ ap (λ ys. seen.If (test_told p class stays first f).what (seen.other_sequence ys b)) second.is;
       frame = third.frame;
     })

@@ -12,7 +12,7 @@ use Rattle.declarations.specs.Declarations.{message_among, messages_of}
 use Rattle.declarations.specs.Program.{Program}
 use Rattle.program.specs.declared.kind.HeapKind.{HeapKind}
 use Rattle.resolving.specs.Brought.{brought, held_listed}
-use Rattle.program.specs.Programs.{rows}
+use Rattle.program.specs.Programs.{kind_lists}
 
 -- what these hold, one after another
 abbrev pub all_held : {X : Type 0} → (X → Option HeapKind) → List X → List HeapKind
@@ -37,8 +37,8 @@ held_none holds xs i d done lt before is =
     before ∙ sym (append-nil front) ∙ ap (λ (o : Option HeapKind). front ++ held_listed o) is ∙ sym (held_more holds xs i d lt)
 
 -- one more row
-pub rows_more : (done more : List (Vec HeapKind)) (kinds : Vec HeapKind) (bs : List HeapKind) → more ≡ done ++ kinds ∷ [] → kinds.items ≡ bs → rows more ≡ rows done ++ bs ∷ []
-rows_more done more kinds bs new is = ap rows new ∙ map-append (λ (k : Vec HeapKind). k.items) done (kinds ∷ []) ∙ ap (λ b. rows done ++ b ∷ []) is
+pub rows_more : (done more : List (Vec HeapKind)) (kinds : Vec HeapKind) (bs : List HeapKind) → more ≡ done ++ kinds ∷ [] → kinds.items ≡ bs → kind_lists more ≡ kind_lists done ++ bs ∷ []
+rows_more done more kinds bs new is = ap kind_lists new ∙ map-append (λ (k : Vec HeapKind). k.items) done (kinds ∷ []) ∙ ap (λ b. kind_lists done ++ b ∷ []) is
 
 -- what the messages among the first so many members bring
 abbrev pub first_members : Program → List Member → ℕ → List (List HeapKind)

@@ -7,7 +7,7 @@ use Rattle.std.proofs.Math.Seq.{drop-cons}
 use Rattle.std.proofs.lemmas.List.{drop_all, map-append}
 use Rattle.source.specs.declared.place.Place.{Place}
 use Rattle.tree.specs.StatementTrees as trees
-use Rattle.tree.specs.StatementTrees.{CaseTree, CaseTrees, SwitchTree, case_tree, case_row, statement_tree, statement_row, switch_tree}
+use Rattle.tree.specs.StatementTrees.{CaseTree, CaseTrees, SwitchTree, case_tree, case_sequence, statement_tree, statement_sequence, switch_tree}
 use Rattle.tree.specs.declared.statement as stated
 use Rattle.declarations.specs.Program.{Program}
 use Rattle.program.specs.Statements as seen
@@ -32,7 +32,7 @@ bound_in p case f = binds_told p (awaited_params (awaited_message p f case.endpo
 
 -- a case, part by part
 pub case_ends : (p : Program) (class : ℕ) (stays : Staying) (behind : Place) (f : Frame) (case : stated.Case.Case) (endpoint : Mention) (awaited : Awaited) (bound : Vec VarId Global) (body : found_block.Block) (l : Locals)
-    → (let m = awaited_message p f case.endpoint case.message in let t = statements_told p class stays (statement_row (map statement_tree case.statements.items)) (bound_in p case f).frame in
+    → (let m = awaited_message p f case.endpoint case.message in let t = statements_told p class stays (statement_sequence (map statement_tree case.statements.items)) (bound_in p case f).frame in
     endpoint ≡ case_endpoint p f case.endpoint → awaited ≡ awaited_as case.message m → bound.items ≡ (bound_in p case f).what → IsTold p.text (ended behind f t) (block_model body) l
     → IsTold p.text (case_told p class stays behind (case_tree case) f) (case_model (found_case.roll-Case (record { endpoint = endpoint; awaited = awaited; targets = bound; body = body }))) l)
 case_ends p class stays behind f case endpoint awaited bound body l at waits binds told =
@@ -54,7 +54,7 @@ before_more : (done : List CaseModel) (c : CaseModel) (rest : CasesModel) → ca
 before_more [] c rest = refl
 before_more (d ∷ done) c rest = ap (seen.MoreCases d) (before_more done c rest)
 
-before_none : (done : List CaseModel) → cases_before done seen.NoCase ≡ seen.case_row done
+before_none : (done : List CaseModel) → cases_before done seen.NoCase ≡ seen.case_sequence done
 before_none [] = refl
 before_none (d ∷ done) = ap (seen.MoreCases d) (before_none done)
 
@@ -87,39 +87,39 @@ cases_start p class stays close f first rest l h = record { here = f; stands = h
 
 -- one more case is told, behind which the next one stands
 pub cases_more : (p : Program) (class : ℕ) (stays : Staying) (close : Place) (f : Frame) (all : CaseTrees) (done : List found_case.Case) (next : CaseTree) (others : List stated.Case.Case) (i : ℕ) (after : stated.Case.Case) (l m : Locals) (x : found_case.Case)
-    → i < length others → after ≡ get_or others i after → CasesGo p class stays close f all (map case_model done) next (case_row (map case_tree (drop i others))) l
+    → i < length others → after ≡ get_or others i after → CasesGo p class stays close f all (map case_model done) next (case_sequence (map case_tree (drop i others))) l
     → ((g : Frame) → IsFrame p.text g l → IsTold p.text (case_told p class stays after.word.place next g) (case_model x) m)
-    → CasesGo p class stays close f all (map case_model (done ++ x ∷ [])) (case_tree after) (case_row (map case_tree (drop (i + 1) others))) m
+    → CasesGo p class stays close f all (map case_model (done ++ x ∷ [])) (case_tree after) (case_sequence (map case_tree (drop (i + 1) others))) m
 cases_more p class stays close f all done next others i after l m x lt is go tell =
     let seen_so : List CaseModel = map case_model done in
-    let rest : CaseTrees = case_row (map case_tree (drop (i + 1) others)) in
-    let row : case_row (map case_tree (drop i others)) ≡ trees.MoreCases (case_tree after) rest
-    = ap (λ cs. case_row (map case_tree cs)) (drop-cons others i after lt ∙ ap (λ k. k ∷ drop (suc i) others) (sym is) ∙ ap (λ k. after ∷ drop k others) (sym (add-one i))) in
+    let rest : CaseTrees = case_sequence (map case_tree (drop (i + 1) others)) in
+    let row : case_sequence (map case_tree (drop i others)) ≡ trees.MoreCases (case_tree after) rest
+    = ap (λ cs. case_sequence (map case_tree cs)) (drop-cons others i after lt ∙ ap (λ k. k ∷ drop (suc i) others) (sym is) ∙ ap (λ k. after ∷ drop k others) (sym (add-one i))) in
     subst (λ cs. CasesGo p class stays close f all cs (case_tree after) rest m) (sym (map-append case_model done (x ∷ [])))
     (case_then p class stays close f all seen_so next (case_tree after) rest l m (case_model x) (subst (λ cs. CasesGo p class stays close f all seen_so next cs l) row go)
     (λ g here. subst (λ k. IsTold p.text (case_told p class stays k next g) (case_model x) m) (sym (token_behind after rest close)) (tell g here)))
 
 -- the last case is told, behind which the switch ends
 pub cases_end : (p : Program) (class : ℕ) (stays : Staying) (close : Place) (f : Frame) (all : CaseTrees) (done : List found_case.Case) (next : CaseTree) (others : List stated.Case.Case) (i : ℕ) (l m : Locals) (x : found_case.Case)
-    → length others ≤ i → CasesGo p class stays close f all (map case_model done) next (case_row (map case_tree (drop i others))) l
+    → length others ≤ i → CasesGo p class stays close f all (map case_model done) next (case_sequence (map case_tree (drop i others))) l
     → ((g : Frame) → IsFrame p.text g l → IsTold p.text (case_told p class stays close next g) (case_model x) m)
-    → IsTold p.text (cases_told p class stays all close f) (seen.case_row (map case_model (done ++ x ∷ []))) m
+    → IsTold p.text (cases_told p class stays all close f) (seen.case_sequence (map case_model (done ++ x ∷ []))) m
 cases_end p class stays close f all done next others i l m x le go tell =
     let seen_so : List CaseModel = map case_model done in
-    let none : case_row (map case_tree (drop i others)) ≡ trees.NoCase = ap (λ cs. case_row (map case_tree cs)) (drop_all i others le) in
+    let none : case_sequence (map case_tree (drop i others)) ≡ trees.NoCase = ap (λ cs. case_sequence (map case_tree cs)) (drop_all i others le) in
     let last = subst (λ cs. CasesGo p class stays close f all seen_so next cs l) none go in
     let told = tell last.here last.stands in
     let t = case_told p class stays close next last.here in
-    subst (λ w. IsTold p.text w (seen.case_row (map case_model (done ++ x ∷ []))) m) (sym last.whole) (record {
-      is = ap seen.case_row (map-append case_model done (x ∷ [])) ∙ sym (before_none (seen_so ++ case_model x ∷ [])) ∙ before_more seen_so (case_model x) seen.NoCase ∙ ap (λ y. cases_before seen_so (seen.MoreCases y seen.NoCase)) told.is;
+    subst (λ w. IsTold p.text w (seen.case_sequence (map case_model (done ++ x ∷ []))) m) (sym last.whole) (record {
+      is = ap seen.case_sequence (map-append case_model done (x ∷ [])) ∙ sym (before_none (seen_so ++ case_model x ∷ [])) ∙ before_more seen_so (case_model x) seen.NoCase ∙ ap (λ y. cases_before seen_so (seen.MoreCases y seen.NoCase)) told.is;
       frame = told.frame;
     })
 
 -- the cases of a switch in memory, and in a row
 pub switch_cases : (p : Program) (class : ℕ) (stays : Staying) (f : Frame) (s : stated.Switch.Switch)
-    → (let parts = stated.Switch.out-Switch s in cases_told p class stays (trees.MoreCases (switch_tree s).first (case_row (switch_tree s).others)) (switch_tree s).close.place f
-    ≡ cases_told p class stays (trees.MoreCases (case_tree parts.first) (case_row (map case_tree parts.others.items))) parts.close.place f)
-switch_cases p class stays f s = ap (λ (t : SwitchTree). cases_told p class stays (trees.MoreCases t.first (case_row t.others)) t.close.place f) (switch_is s)
+    → (let parts = stated.Switch.out-Switch s in cases_told p class stays (trees.MoreCases (switch_tree s).first (case_sequence (switch_tree s).others)) (switch_tree s).close.place f
+    ≡ cases_told p class stays (trees.MoreCases (case_tree parts.first) (case_sequence (map case_tree parts.others.items))) parts.close.place f)
+switch_cases p class stays f s = ap (λ (t : SwitchTree). cases_told p class stays (trees.MoreCases t.first (case_sequence t.others)) t.close.place f) (switch_is s)
 
 -- the first case of a switch is less deep than the switch
 pub first_inside : (s : stated.Switch.Switch) → stated.Case.size-Case (stated.Switch.out-Switch s).first < stated.Switch.size-Switch s

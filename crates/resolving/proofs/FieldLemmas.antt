@@ -149,8 +149,8 @@ pub number_at : (p : Program) (n : ℕ) (field : Span) (place : ℕ) (row : List
     → Some (before_index place row) ≡ option_and_then (owning_before p field) (option_and_then (λ i. option_map (λ x. (n, x)) (as_struct i.definition)) o)
 number_at p n field place row None has is = cc
 number_at p n field place row (Some i) has is =
-    let rows : row ≡ owning_indices p i = cc in
-    ap (λ r. Some (before_index place r)) rows ∙ number_in p n field place i.definition is
+    let kind_lists : row ≡ owning_indices p i = cc in
+    ap (λ r. Some (before_index place r)) kind_lists ∙ number_in p n field place i.definition is
 
 -- the number of a field of what a variable holds, by the kind of the variable
 pub of_kind : (p : Program) (field : Span) (o : Option Local) → option_and_then (λ kind. field_number p kind field) (option_map (λ v. v.kind) o)
@@ -159,8 +159,8 @@ of_kind p field None = refl
 of_kind p field (Some v) = refl
 
 -- the places that are looked up at an item
-pub row_found : (p : Program) (rows : List (Vec ℕ)) (n : ℕ) (row : Vec ℕ) → map (λ x. x.items) rows ≡ map (owning_indices p) p.items → slice_get rows n ≡ Some row
+pub row_found : (p : Program) (kind_lists : List (Vec ℕ)) (n : ℕ) (row : Vec ℕ) → map (λ x. x.items) kind_lists ≡ map (owning_indices p) p.items → slice_get kind_lists n ≡ Some row
     → Some row.items ≡ option_map (owning_indices p) (slice_get p.items n)
-row_found p rows n row same at =
-    ap (option_map (λ (x : Vec ℕ). x.items)) (sym at) ∙ sym (slice_get-map (λ (x : Vec ℕ). x.items) rows n)
+row_found p kind_lists n row same at =
+    ap (option_map (λ (x : Vec ℕ). x.items)) (sym at) ∙ sym (slice_get-map (λ (x : Vec ℕ). x.items) kind_lists n)
     ∙ ap (λ l. slice_get l n) same ∙ slice_get-map (owning_indices p) p.items n

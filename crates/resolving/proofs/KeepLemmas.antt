@@ -86,11 +86,11 @@ pub statements_extend : (p : Program) (class : ℕ) (stays : Staying) (xs : Stat
 statements_extend p class stays trees.NoStatement f = same_extends f f refl
 statements_extend p class stays (trees.MoreStatements x xs) f = extends_then f _ _ (statement_extends p class stays x f) (statements_extend p class stays xs (statement_told p class stays x f).frame)
 
-binds_extend : (p : Program) (params : List tree.Param.Param) (binds : List made.Bind.Bind) (f : Frame) → Extends f (binds_told p params binds f).frame
+binds_extend : (p : Program) (params : List tree.MessageParameter.MessageParameter) (binds : List made.Bind.Bind) (f : Frame) → Extends f (binds_told p params binds f).frame
 binds_extend p params [] f = same_extends f f refl
 binds_extend p [] (b ∷ binds) f = extends_then f _ _ (declared_extends p.text (bind_declaration p None b) f) (binds_extend p [] binds (bind_told p None b f).frame)
 binds_extend p (x ∷ params) (b ∷ binds) f = extends_then f _ _ (declared_extends p.text (bind_declaration p (Some x) b) f) (binds_extend p params binds (bind_told p (Some x) b f).frame)
 
 -- and behind what a case binds, with the statements behind it
-pub case_extends : (p : Program) (class : ℕ) (stays : Staying) (params : List tree.Param.Param) (binds : List made.Bind.Bind) (xs : StatementTrees) (f : Frame) → Extends f (statements_told p class stays xs (binds_told p params binds f).frame).frame
+pub case_extends : (p : Program) (class : ℕ) (stays : Staying) (params : List tree.MessageParameter.MessageParameter) (binds : List made.Bind.Bind) (xs : StatementTrees) (f : Frame) → Extends f (statements_told p class stays xs (binds_told p params binds f).frame).frame
 case_extends p class stays params binds xs f = extends_then f _ _ (binds_extend p params binds f) (statements_extend p class stays xs (binds_told p params binds f).frame)

@@ -7,7 +7,7 @@ use Rattle.std.proofs.lemmas.Option.{slice_get-map, slice_get_past, slice_get_re
 use Rattle.tree.specs.Trees.{contracts_of}
 use Rattle.declarations.specs.Declarations.{messages_of, states_of}
 use Rattle.declarations.specs.Program.{Program}
-use Rattle.program.specs.Parts.{contract_model, message_parts, state_parts}
+use Rattle.program.specs.Parts.{contract_model, message_model, state_model}
 use Rattle.declarations.specs.Resolution.{each_behind, message_count, resolved_contract, resolved_contracts, state_count}
 use Rattle.program.specs.declared.contract.Contract.{Contract}
 use Rattle.program.specs.declared.contract.Message.{Message}
@@ -35,16 +35,16 @@ seen_at seen xs k (Some x) found = sym (slice_get-map seen xs k ∙ ap (option_m
 pub state_found : (contract : Contract) (states : List State) (at : ℕ) (r : Option (Bor State)) → states ≡ contract.states.items → LooksUp states at r
     → option_map (λ s. s.now.id) r ≡ option_map (λ s. s.id) (slice_get (contract_model contract).parts.states at)
 state_found contract states at None same found =
-    let parts = state_parts (string_bytes contract.state_names) in
+    let parts = state_model (string_bytes contract.state_names) in
     ap (option_map (λ s. s.id)) (seen_at parts states at None found ∙ ap (λ l. slice_get (map parts l) at) same)
 state_found contract states at (Some s) same found =
-    let parts = state_parts (string_bytes contract.state_names) in
+    let parts = state_model (string_bytes contract.state_names) in
     ap (option_map (λ s. s.id)) (seen_at parts states at (Some s) found ∙ ap (λ l. slice_get (map parts l) at) same)
 
 pub message_found : (contract : Contract) (messages : List Message) (at : ℕ) (r : Option (Bor Message)) → messages ≡ contract.messages.items → LooksUp messages at r
     → option_map (λ m. m.now.id) r ≡ option_map (λ m. m.id) (slice_get (contract_model contract).parts.messages at)
-message_found contract messages at None same found = ap (option_map (λ m. m.id)) (seen_at message_parts messages at None found ∙ ap (λ l. slice_get (map message_parts l) at) same)
-message_found contract messages at (Some m) same found = ap (option_map (λ m. m.id)) (seen_at message_parts messages at (Some m) found ∙ ap (λ l. slice_get (map message_parts l) at) same)
+message_found contract messages at None same found = ap (option_map (λ m. m.id)) (seen_at message_model messages at None found ∙ ap (λ l. slice_get (map message_model l) at) same)
+message_found contract messages at (Some m) same found = ap (option_map (λ m. m.id)) (seen_at message_model messages at (Some m) found ∙ ap (λ l. slice_get (map message_model l) at) same)
 
 singles : {X Y : Type 0} (f : List X → X → Y) (before xs : List X) → length (each_behind (λ b x. f b x ∷ []) before xs) ≡ length xs
 singles f before [] = refl

@@ -4,7 +4,7 @@ use Rattle.std.specs.Global.{Global}
 use Rattle.std.specs.Option.{option_map}
 use Rattle.source.specs.declared.place.Place.{Place}
 use Rattle.program.specs.Statements as seen
-use Rattle.program.specs.Statements.{StatementModel, BlockModel, CaseModel, IfModel, TestModel, statement_model, block_model, case_model, if_model, test_model, statement_step, block_step, case_step, if_step, test_step, statement_row, case_row, other_row}
+use Rattle.program.specs.Statements.{StatementModel, BlockModel, CaseModel, IfModel, TestModel, statement_model, block_model, case_model, if_model, test_model, statement_step, block_step, case_step, if_step, test_step, statement_sequence, case_sequence, other_sequence}
 use Rattle.program.specs.declared.number.VarId.{VarId}
 use Rattle.program.specs.declared.statement as made
 use Rattle.program.specs.declared.statement.Awaited.{Awaited}
@@ -16,11 +16,11 @@ use Rattle.program.specs.declared.statement.Statement.TheOpen as layer
 use Rattle.program.specs.declared.statement.Statement.TheVariants as variants
 
 -- a block
-pub block_made : (statements : Vec made.Statement.Statement Global) (forget : Option Forget) → block_model (made.Block.roll-Block (record { statements = statements; forget = forget })) ≡ seen.Braces (statement_row (map statement_model statements.items)) forget
+pub block_made : (statements : Vec made.Statement.Statement Global) (forget : Option Forget) → block_model (made.Block.roll-Block (record { statements = statements; forget = forget })) ≡ seen.Braces (statement_sequence (map statement_model statements.items)) forget
 block_made statements forget = folds.fold-roll-Block StatementModel BlockModel CaseModel IfModel TestModel statement_step block_step case_step if_step test_step (record { statements = statements; forget = forget })
 
 -- an `if`
-pub if_made : (first : made.Test.Test) (others : Vec made.Test.Test Global) (o : Option made.Block.Block) → if_model (made.If.roll-If (record { first = first; others = others; otherwise = o })) ≡ record { first = test_model first; others = other_row (map test_model others.items) (option_map block_model o) }
+pub if_made : (first : made.Test.Test) (others : Vec made.Test.Test Global) (o : Option made.Block.Block) → if_model (made.If.roll-If (record { first = first; others = others; otherwise = o })) ≡ record { first = test_model first; others = other_sequence (map test_model others.items) (option_map block_model o) }
 if_made first others None = folds.fold-roll-If StatementModel BlockModel CaseModel IfModel TestModel statement_step block_step case_step if_step test_step (record { first = first; others = others; otherwise = None })
 if_made first others (Some b) = folds.fold-roll-If StatementModel BlockModel CaseModel IfModel TestModel statement_step block_step case_step if_step test_step (record { first = first; others = others; otherwise = Some b })
 
@@ -45,5 +45,5 @@ pub of_while : (t : Box made.Test.Test Global) → statement_model (variants.Whi
 of_while t = ap statement_model (sym (variants.rolls-While t)) ∙ folds.fold-roll-Statement StatementModel BlockModel CaseModel IfModel TestModel statement_step block_step case_step if_step test_step (layer.While t)
 
 -- one that is a switch
-pub of_switch : (place : Place) (cases : Vec made.Case.Case Global) → statement_model (variants.Switch place cases) ≡ seen.Switch place (case_row (map case_model cases.items))
+pub of_switch : (place : Place) (cases : Vec made.Case.Case Global) → statement_model (variants.Switch place cases) ≡ seen.Switch place (case_sequence (map case_model cases.items))
 of_switch place cases = ap statement_model (sym (variants.rolls-Switch place cases)) ∙ folds.fold-roll-Statement StatementModel BlockModel CaseModel IfModel TestModel statement_step block_step case_step if_step test_step (layer.Switch place cases)

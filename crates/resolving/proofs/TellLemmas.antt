@@ -2,7 +2,7 @@
 use Rattle.std.proofs.Common.{◌≡◌, ℕ, List, map, sym, ap, ◌∙◌}
 use Rattle.std.specs.Prelude.{Bool, Option, is_some, option_map}
 use Rattle.source.specs.declared.place.Place.{Place}
-use Rattle.tree.specs.StatementTrees.{BlockTree, statement_tree, statement_row}
+use Rattle.tree.specs.StatementTrees.{BlockTree, statement_tree, statement_sequence}
 use Rattle.tree.specs.Trees.{MethodTree, method_tree}
 use Rattle.tree.specs.declared.class as made
 use Rattle.declarations.specs.Program.{Program}
@@ -29,13 +29,13 @@ with_body m b = record { access = m.access; result = m.result; name = m.name; op
 
 -- a method is what its parts come to
 pub method_is : (p : Program) (class : ℕ) (m : made.Method.Method) (r : Method) (l : Locals) → r.name ≡ m.name.place → r.takes ≡ takes_some m.params.items → r.gives ≡ is_some m.result → r.result ≡ result_held p m.result → r.close ≡ m.body.close.place
-    → IsTold p.text (statements_told p class (stays_here (parameters_frame p m.params.items no_variables)) (statement_row (map statement_tree m.body.statements.items)) (parameters_frame p m.params.items no_variables)) (seen.statement_row (map statement_model r.statements.items)) l
+    → IsTold p.text (statements_told p class (stays_here (parameters_frame p m.params.items no_variables)) (statement_sequence (map statement_tree m.body.statements.items)) (parameters_frame p m.params.items no_variables)) (seen.statement_sequence (map statement_model r.statements.items)) l
     → ((t : List ℕ) (f : Frame) → IsFrame t f l → map variable_model r.variables.items ≡ f.variables) → ((t : List ℕ) (f : Frame) → IsFrame t f l → r.scope ≡ option_map number_of f.last)
     → method_model r ≡ method_told p class (method_tree m)
 unfolding method_of with_body
 method_is p class m r l name takes gives result close body variables scope =
-    let b = statements_told p class (stays_here (parameters_frame p m.params.items no_variables)) (statement_row (map statement_tree m.body.statements.items)) (parameters_frame p m.params.items no_variables) in
-    let statements = seen.statement_row (map statement_model r.statements.items) in
+    let b = statements_told p class (stays_here (parameters_frame p m.params.items no_variables)) (statement_sequence (map statement_tree m.body.statements.items)) (parameters_frame p m.params.items no_variables) in
+    let statements = seen.statement_sequence (map statement_model r.statements.items) in
     let heap = map variable_model r.variables.items in
     let held = result_held p m.result in
     ap (λ n. method_of n r.takes r.gives r.result heap statements r.scope r.close) name

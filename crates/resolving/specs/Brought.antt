@@ -2,7 +2,7 @@
 use Rattle.std.specs.Prelude.{List, [], ◌∷◌, map, Option, None, Some}
 use Rattle.std.specs.List.{flat_map}
 use Rattle.tree.specs.Trees.{MessageTree, contracts_of}
-use Rattle.tree.specs.declared.contract.Param.{Param}
+use Rattle.tree.specs.declared.contract.MessageParameter.{MessageParameter}
 use Rattle.declarations.specs.Declarations.{messages_of}
 use Rattle.declarations.specs.Program.{Program}
 use Rattle.program.specs.declared.kind.HeapKind.{HeapKind}
@@ -13,7 +13,7 @@ held_listed None = []
 held_listed (Some held) = held ∷ []
 
 -- what stands for parameters of the exchange heap, in order
-abbrev pub params_held : Program → List Param → List HeapKind
+abbrev pub params_held : Program → List MessageParameter → List HeapKind
 params_held p params = flat_map (λ x. held_listed (type_held p x.ty)) params
 
 abbrev pub brought : Program → MessageTree → List HeapKind

@@ -7,19 +7,19 @@ ghost use Rattle.declarations.specs.Declarations.{message_among, messages_of};
 ghost use Rattle.declarations.specs.Program.{Program};
 ghost use Rattle.resolving.specs.Around.{IsTypes};
 ghost use Rattle.resolving.specs.Brought.{brought, params_held};
-ghost use Rattle.program.specs.Programs.{rows};
+ghost use Rattle.program.specs.Programs.{kind_lists};
 
 use crate::around::Types;
 use crate::kinds::type_held;
 use program::HeapKind;
 use std::alloc::{AllocError, Global};
-use tree::{Definition, Member, Message, Param};
+use tree::{Definition, Member, Message, MessageParameter};
 
 /// What stands for the parameters of the exchange heap among these, in order.
 fn params_held(
     alloc: Global,
     types: &Types<'_, '_>,
-    params: &[Param],
+    params: &[MessageParameter],
 ) -> Result<Vec<HeapKind>, AllocError>
     ensures { (p : Program) → IsTypes p types.now → IfOk result (λ kinds. kinds.items ≡ params_held p params.now) }
 {
@@ -40,7 +40,7 @@ fn add_messages(
     told: &mut Vec<Vec<HeapKind>>,
 ) -> Result<(), AllocError>
     ensures { (p : Program) → IsTypes p types.now
-        → OnOk result (rows told.new.items ≡ rows told.old.items ++ map (brought p) (map message_tree messages.now)) }
+        → OnOk result (kind_lists told.new.items ≡ kind_lists told.old.items ++ map (brought p) (map message_tree messages.now)) }
 {
     for message in messages {
         told.push(params_held(alloc, types, &message.params)?)?;
@@ -55,8 +55,8 @@ fn add_members(
     members: &[Member],
     told: &mut Vec<Vec<HeapKind>>,
 ) -> Result<(), AllocError>
-    ensures { (p : Program) → IsTypes p types.now → OnOk result (rows told.new.items
-        ≡ rows told.old.items ++ map (brought p) (flat_map message_among (map member_tree members.now))) }
+    ensures { (p : Program) → IsTypes p types.now → OnOk result (kind_lists told.new.items
+        ≡ kind_lists told.old.items ++ map (brought p) (flat_map message_among (map member_tree members.now))) }
 {
     for member in members {
         if let Member::Message(message) = member {
@@ -73,8 +73,8 @@ pub(crate) fn add_brought(
     definition: &Definition,
     told: &mut Vec<Vec<HeapKind>>,
 ) -> Result<(), AllocError>
-    ensures { (p : Program) → IsTypes p types.now → OnOk result (rows told.new.items
-        ≡ rows told.old.items ++ map (brought p) (flat_map messages_of (contract_of (definition_tree definition.now)))) }
+    ensures { (p : Program) → IsTypes p types.now → OnOk result (kind_lists told.new.items
+        ≡ kind_lists told.old.items ++ map (brought p) (flat_map messages_of (contract_of (definition_tree definition.now)))) }
 {
     if let Definition::Contract(contract) = definition {
         add_messages(alloc, types, &contract.messages, told)?;

@@ -18,7 +18,7 @@ use crate::messages::{Meant, message_named};
 use program::{Awaited, Mention, MessageId, Role, VarId};
 use source::Span;
 use std::alloc::{AllocError, Global};
-use tree::{Bind, Param};
+use tree::{Bind, MessageParameter};
 
 /// The endpoint of a case.
 pub(crate) fn case_endpoint(text: &[u8], locals: &Locals<'_>, name: Span) -> Mention
@@ -74,7 +74,7 @@ fn number_of(meant: Option<Meant<'_>>) -> MessageId
 }
 
 /// The parameters whose values a case binds.
-pub(crate) fn awaited_params<'a>(meant: Option<Meant<'a>>) -> &'a [Param]
+pub(crate) fn awaited_params<'a>(meant: Option<Meant<'a>>) -> &'a [MessageParameter]
     ensures { result.now ≡ told.awaited_params (option_map meant_model meant.entry) }
 {
     match meant {
@@ -84,7 +84,10 @@ pub(crate) fn awaited_params<'a>(meant: Option<Meant<'a>>) -> &'a [Param]
 }
 
 /// The kind of a name that a case binds without a type, for this parameter, if there is one.
-fn brought_kind(around: &Around<'_, '_>, param: Option<&Param>) -> declarations::ValueKind
+fn brought_kind(
+    around: &Around<'_, '_>,
+    param: Option<&MessageParameter>,
+) -> declarations::ValueKind
     ensures { (p : Program) (own : ℕ) → IsAround p own around.now → result ≡ brought_kind p (option_map (λ x. x.now) param.entry) }
 {
     match param {
@@ -94,7 +97,11 @@ fn brought_kind(around: &Around<'_, '_>, param: Option<&Param>) -> declarations:
 }
 
 /// What a case declares by a name that it binds for this parameter, if there is one.
-fn bind_declaration(around: &Around<'_, '_>, param: Option<&Param>, bind: Bind) -> Declaration
+fn bind_declaration(
+    around: &Around<'_, '_>,
+    param: Option<&MessageParameter>,
+    bind: Bind,
+) -> Declaration
     ensures { (p : Program) (own : ℕ) → IsAround p own around.now
         → result ≡ model.bind_declaration p (option_map (λ x. x.now) param.entry) bind }
 {
@@ -136,7 +143,7 @@ fn declare_bind<'a>(
     text: &'a [u8],
     around: &Around<'_, '_>,
     locals: &mut Locals<'a>,
-    param: Option<&Param>,
+    param: Option<&MessageParameter>,
     bind: Bind,
     targets: &mut Vec<VarId>,
 ) -> Result<(), AllocError>
@@ -151,7 +158,7 @@ fn declare_bind<'a>(
 }
 
 /// The parameter at this index, if there is one.
-fn param_at(params: &[Param], index: usize) -> Option<&Param>
+fn param_at(params: &[MessageParameter], index: usize) -> Option<&MessageParameter>
     ensures { option_map (λ x. x.now) result ≡ slice_get params.now index }
 {
     params.get(index)
@@ -163,7 +170,7 @@ pub(crate) fn declare_binds<'a>(
     text: &'a [u8],
     around: &Around<'_, '_>,
     locals: &mut Locals<'a>,
-    params: &[Param],
+    params: &[MessageParameter],
     binds: &[Bind],
 ) -> Result<Vec<VarId>, AllocError>
     ensures { (items : List ItemTree) (own : ℕ) (f : Frame) → IsAround (program_in text.now items) own around.now

@@ -4,7 +4,7 @@ ghost use Rattle.std.specs.Prelude.{◌≡◌, ℕ, IfOk, List, length, ltb, map
 ghost use Rattle.std.specs.List.{filter};
 ghost use Rattle.tree.specs.Trees.{item_tree};
 ghost use Rattle.declarations.specs.Program.{Program};
-ghost use Rattle.program.specs.Programs.{rows};
+ghost use Rattle.program.specs.Programs.{kind_lists};
 ghost use Rattle.resolving.specs.Around.{IsAround, IsTypes, indices_held, program_in, owning_indices};
 ghost use Rattle.resolving.specs.Fields as model;
 ghost use Rattle.resolving.specs.Fields.{fields_held, structs_told};
@@ -57,7 +57,7 @@ pub(crate) fn fields_of(
     items: &[Item],
 ) -> Result<Fields, AllocError>
     ensures { (text : List ℕ) → IsTypes (program_in text (map item_tree items.now)) types.now → IfOk result (λ fields.
-        (rows fields.structs.items ≡ structs_told (program_in text (map item_tree items.now)))
+        (kind_lists fields.structs.items ≡ structs_told (program_in text (map item_tree items.now)))
         × (map (λ x. x.items) fields.indices.items
         ≡ map (owning_indices (program_in text (map item_tree items.now))) (map item_tree items.now))) }
 {

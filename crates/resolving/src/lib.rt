@@ -21,4 +21,4 @@ mod staying;
 mod values;
 mod ways;
 
-pub use methods::{Program, resolve_methods};
+pub use methods::{ResolvedProgram, resolve_methods};

@@ -12,7 +12,7 @@ ghost use Rattle.program.specs.Methods.{method_model};
 ghost use Rattle.declarations.specs.Scopes.{IsScope};
 ghost use Rattle.resolving.specs.Around.{IsAround, program_in};
 ghost use Rattle.resolving.specs.Brought.{brought, messages_told};
-ghost use Rattle.program.specs.Programs.{rows};
+ghost use Rattle.program.specs.Programs.{kind_lists};
 ghost use Rattle.resolving.specs.Callees.{all_methods};
 ghost use Rattle.resolving.specs.Fields.{structs_told};
 ghost use Rattle.resolving.specs.Frames.{IsFrame};
@@ -144,7 +144,7 @@ fn add_methods(
 /// The messages, structs and methods of a program in order of the text: what a message brings for each of its parameters of the
 /// exchange heap, what a struct has in its fields that own, and the method with its names resolved.
 #[derive(Drop)]
-pub struct Program {
+pub struct ResolvedProgram {
     pub messages: Vec<Vec<HeapKind>>,
     pub structs: Vec<Vec<HeapKind>>,
     pub methods: Vec<Method>,
@@ -157,15 +157,15 @@ fn resolve_items<'a>(
     scope: &Scope<'a>,
     contracts: &Resolved,
     items: &'a [Item],
-) -> Result<Program, AllocError>
+) -> Result<ResolvedProgram, AllocError>
     requires contracts { map contract_model contracts.now.contracts.items
         ≡ resolved_contracts text.now (contracts_of (map item_tree items.now)) }
     requires room { length contracts.now.contracts.items < 2 ^ 32 }
     requires scope { IsScope (program_in text.now (map item_tree items.now)) scope.now }
     requires few { length (all_methods (map item_tree items.now)) ≤ MOST_METHODS }
-    ensures messages { IfOk result (λ program. rows program.messages.items
+    ensures messages { IfOk result (λ program. kind_lists program.messages.items
         ≡ messages_told (program_in text.now (map item_tree items.now))) }
-    ensures structs { IfOk result (λ program. rows program.structs.items
+    ensures structs { IfOk result (λ program. kind_lists program.structs.items
         ≡ structs_told (program_in text.now (map item_tree items.now))) }
     ensures methods { IfOk result (λ program. map method_model program.methods.items
         ≡ methods_told (program_in text.now (map item_tree items.now))) }
@@ -191,7 +191,7 @@ fn resolve_items<'a>(
         add_brought(alloc, &types, &item.definition, &mut messages)?;
         add_methods(text, &around, methods, &mut resolved)?;
     }
-    Ok(Program {
+    Ok(ResolvedProgram {
         messages,
         structs: fields.structs,
         methods: resolved,
@@ -208,13 +208,13 @@ pub fn resolve_methods(
     tree: &Tree,
     text: &[u8],
     contracts: &Resolved,
-) -> Result<Program, Memory>
+) -> Result<ResolvedProgram, Memory>
     requires contracts { map contract_model contracts.now.contracts.items
         ≡ resolved_contracts text.now (contracts_of (program_tree tree.now)) }
     requires room { length contracts.now.contracts.items < 2 ^ 32 }
     requires clean { items_mistakes (program_of text.now tree.now) ≡ [] }
-    ensures messages { IfOk result (λ program. rows program.messages.items ≡ messages_told (program_of text.now tree.now)) }
-    ensures structs { IfOk result (λ program. rows program.structs.items ≡ structs_told (program_of text.now tree.now)) }
+    ensures messages { IfOk result (λ program. kind_lists program.messages.items ≡ messages_told (program_of text.now tree.now)) }
+    ensures structs { IfOk result (λ program. kind_lists program.structs.items ≡ structs_told (program_of text.now tree.now)) }
     ensures resolved { IfOk result (λ program. map method_model program.methods.items
         ≡ methods_told (program_of text.now tree.now)) }
     ensures few { IfOk result (λ program. length program.methods.items ≤ MOST_METHODS) }

@@ -10,8 +10,8 @@ ghost use Rattle.resolving.specs.Steps.{IsTold, walked};
 ghost use Rattle.resolving.specs.Plain.{plain_told, frame_behind};
 ghost use Rattle.resolving.specs.Told.{follow, statement_told, statements_told, block_told, test_told, others_told, case_told, cases_told};
 ghost use Rattle.tree.specs.Trees.{ItemTree};
-ghost use Rattle.tree.specs.StatementTrees.{MoreCases, statement_tree, statement_row, block_tree, test_tree};
-ghost use Rattle.tree.specs.StatementTrees.{if_tree, last_other, case_tree, case_row, switch_tree};
+ghost use Rattle.tree.specs.StatementTrees.{MoreCases, statement_tree, statement_sequence, block_tree, test_tree};
+ghost use Rattle.tree.specs.StatementTrees.{if_tree, last_other, case_tree, case_sequence, switch_tree};
 
 use crate::around::Around;
 use crate::cases::{awaited_as, awaited_message, awaited_params, case_endpoint, declare_binds};
@@ -114,7 +114,7 @@ pub(crate) fn tell_statements<'a>(
     ensures { (items : List ItemTree) (own : ℕ) (f : Frame) → IsAround (program_in text.now items) own around.now
         → IsFrame text.now f locals.old → IfOk result
         (λ list. IsTold text.now (statements_told (program_in text.now items) own (staying_model stays)
-        (statement_row (map statement_tree statements.now)) f) (seen.statement_row (map statement_model list.items)) locals.new) }
+        (statement_sequence (map statement_tree statements.now)) f) (seen.statement_sequence (map statement_model list.items)) locals.new) }
 {
     let mut told = Vec::with_capacity(around.alloc, statements.len())?;
     for statement in statements {
@@ -248,8 +248,8 @@ fn tell_cases<'a>(
     ensures { (items : List ItemTree) (own : ℕ) (f : Frame)
         → IsAround (program_in text.now items) own around.now → IsFrame text.now f locals.old
         → IfOk result (λ list. IsTold text.now (cases_told (program_in text.now items) own
-        (staying_model stays) (MoreCases (switch_tree switch.now).first (case_row (switch_tree switch.now).others))
-        (switch_tree switch.now).close.place f) (seen.case_row (map case_model list.items)) locals.new) }
+        (staying_model stays) (MoreCases (switch_tree switch.now).first (case_sequence (switch_tree switch.now).others))
+        (switch_tree switch.now).close.place f) (seen.case_sequence (map case_model list.items)) locals.new) }
 {
     let mut told = Vec::new(around.alloc);
     let mut case = &switch.first;

@@ -6,7 +6,7 @@ use Rattle.std.specs.List.{list_any}
 use Rattle.std.specs.Ordering.{nat_cmp}
 use Rattle.std.proofs.lemmas.Bool.{cases_lt}
 use Rattle.std.proofs.lemmas.List.{at_drop_all, at_drop_more, drop_all}
-use Rattle.source.specs.Findings.{FindingParts}
+use Rattle.source.specs.Findings.{FindingModel}
 use Rattle.program.specs.Lists.{is_among}
 use Rattle.program.specs.Methods.{MethodModel}
 use Rattle.program.specs.declared.call.Argument.{Argument}
@@ -77,7 +77,7 @@ again_is m earlier (a ∷ arguments) more after =
     one m (is_among earlier x.variable.0) x (given_before m (x.variable.0 ∷ earlier) arguments) more (first_again (x.variable.0 ∷ earlier) arguments) after (again_is m (x.variable.0 ∷ earlier) arguments more after)
 
 -- what was found stands for the checks that none was given before
-pub again_stands : (m : MethodModel) (earlier : List ℕ) (arguments : List Argument) (again : Option Mention) (says : Breach → FindingParts) (found : Option Breach) → again ≡ first_again earlier arguments → check_model says found ≡ told_again m again → StandsFor says found (given_before m earlier arguments)
+pub again_stands : (m : MethodModel) (earlier : List ℕ) (arguments : List Argument) (again : Option Mention) (says : Breach → FindingModel) (found : Option Breach) → again ≡ first_again earlier arguments → check_model says found ≡ told_again m again → StandsFor says found (given_before m earlier arguments)
 again_stands m earlier arguments again says found is told =
     record { all = λ more after. again_is m earlier arguments more after ∙ ap (λ a. checked (told_again m a ∷ more) after) (sym is) ∙ ap (λ f. checked (f ∷ more) after) (sym told) }
 
@@ -89,7 +89,7 @@ pub record Left (checks left : List Check) : Type 0 where
 pub left_all : (checks : List Check) → Left checks checks
 left_all checks = record { all = λ more after. refl }
 
-module _ (says : Breach → FindingParts) where
+module _ (says : Breach → FindingModel) where
   left_behind : (checks before left rest : List Check) (found : Option Breach) → left ≡ before ++ rest → StandsFor says found before → Left checks left
       → (more : List Check) (after : List Pair) → checked (checks ++ more) after ≡ checked (check_model says found ∷ (rest ++ more)) after
   left_behind checks before left rest found is stands h more after =

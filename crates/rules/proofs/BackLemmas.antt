@@ -5,7 +5,7 @@ use Rattle.source.specs.declared.place.Place.{Place}
 use Rattle.program.specs.Methods.{MethodModel}
 use Rattle.program.specs.Programs.{ProgramModel}
 use Rattle.rules.specs.Mentions.{name_of}
-use Rattle.source.specs.Findings.{FindingParts}
+use Rattle.source.specs.Findings.{FindingModel}
 use Rattle.rules.specs.Checks.{StandsFor, check_model}
 use Rattle.rules.specs.Outcomes.{Check, checked, refused}
 use Rattle.rules.specs.RuleTable.{is_not_back}
@@ -32,7 +32,7 @@ module _ (p : ProgramModel) (m : MethodModel) (row : List Leaf) (place : Place) 
       ap (λ n. map back_check (range_with_len v n)) left
 
   -- what is said of one that is not back stands for its check
-  pub told_back : (v : ℕ) (says : Breach → FindingParts) (found : Option Breach) → is_not_back p m row v ≡ true → check_model says found ≡ Some (not_back (name_of m v) place) → StandsFor says found (back_check v ∷ [])
+  pub told_back : (v : ℕ) (says : Breach → FindingModel) (found : Option Breach) → is_not_back p m row v ≡ true → check_model says found ≡ Some (not_back (name_of m v) place) → StandsFor says found (back_check v ∷ [])
   told_back v says found out told = record {
     all = λ more after. ap (λ (b : Bool). checked (refused b (not_back (name_of m v) place) ∷ more) after) out ∙ ap (λ f. checked (f ∷ more) after) (sym told);
   }

@@ -1,11 +1,11 @@
 -- Calls and starts: the checks of arguments, and behind them those of what takes a block.
 use Rattle.std.proofs.Common.{◌≡◌, Bool, false, List, [], ◌∷◌, ◌++◌, Option, None, Some, sym, ap, ◌∙◌, append-nil, append_assoc}
-use Rattle.source.specs.Findings.{FindingParts}
+use Rattle.source.specs.Findings.{FindingModel}
 use Rattle.rules.specs.Checks.{StandsFor, check_model}
 use Rattle.rules.specs.Outcomes.{Check, Pair, checked, refused}
 use Rattle.rules.specs.declared.breach.Breach.{Breach}
 
-module _ (says : Breach → FindingParts) where
+module _ (says : Breach → FindingModel) where
   -- nothing comes behind these checks
   pub alone : (checks : List Check) (found : Option Breach) (answer : Option Breach) (after : List Pair) → found ≡ answer → StandsFor says found checks → checked (check_model says answer ∷ []) after ≡ checked checks after
   alone checks found answer after is stands =
@@ -38,7 +38,7 @@ module _ (says : Breach → FindingParts) where
   }
 
   -- a check that went well, before others
-  pub passes : (fails : Bool) (told : FindingParts) (checks : List Check) (found : Option Breach) → fails ≡ false → StandsFor says found checks → StandsFor says found (refused fails told ∷ checks)
+  pub passes : (fails : Bool) (told : FindingModel) (checks : List Check) (found : Option Breach) → fails ≡ false → StandsFor says found checks → StandsFor says found (refused fails told ∷ checks)
   passes fails told checks found well stands = record {
     all = λ more after. ap (λ b. checked (refused b told ∷ (checks ++ more)) after) well ∙ stands.all more after;
   }

@@ -12,7 +12,7 @@ use Rattle.contracts.specs.declared.sound.Sound.{Sound}
 use Rattle.program.specs.Lists.{Each}
 use Rattle.program.specs.Methods.{VariableModel, variable_model}
 use Rattle.program.specs.declared.method.Variable.{Variable}
-use Rattle.program.specs.Parts.{ContractModel, IsWhole, Parts, StateParts, state_ids}
+use Rattle.program.specs.Parts.{ContractModel, IsWhole, Parts, StateModel, state_ids}
 use Rattle.program.specs.WellFormed.{IsKind, IsStateOf}
 use Rattle.program.specs.declared.kind.HeapKind.{HeapKind}
 use Rattle.program.specs.declared.kind.HeapKind.TheVariants.{Struct, Array, Endpoint}
@@ -42,11 +42,11 @@ whole_at (s ∷ sounds) (d ∷ contracts) (suc n) c same there = whole_at sounds
 state_numbered : (c : ContractModel) (state : StateId) → ∥ IsWhole c.parts ∥₁ → IsStateOf c state → state.0 < MOST_STATES
 state_numbered c state whole is =
     ∥∥₁_elim whole le_prop (λ w.
-    let within = slice_get_within c.parts.states is.place is.state is.there in
-    let size = length-map c.parts.states (λ (s : StateParts). s.id) in
-    let at = All-get_or (λ (q : StateId). q.0 < MOST_STATES) (state_ids c.parts) is.place state (omega (arith, within, size)) w.numbered in
-    let read = slice_get-map (λ (s : StateParts). s.id) c.parts.states is.place ∙ ap (option_map (λ (s : StateParts). s.id)) is.there in
-    subst (λ (q : StateId). q.0 < MOST_STATES) (get_or_from_slice_get (state_ids c.parts) is.place is.state.id state read ∙ is.is) at)
+    let within = slice_get_within c.parts.states is.index is.state is.there in
+    let size = length-map c.parts.states (λ (s : StateModel). s.id) in
+    let at = All-get_or (λ (q : StateId). q.0 < MOST_STATES) (state_ids c.parts) is.index state (omega (arith, within, size)) w.numbered in
+    let read = slice_get-map (λ (s : StateModel). s.id) c.parts.states is.index ∙ ap (option_map (λ (s : StateModel). s.id)) is.there in
+    subst (λ (q : StateId). q.0 < MOST_STATES) (get_or_from_slice_get (state_ids c.parts) is.index is.state.id state read ∙ is.is) at)
 
 -- and so is that of a leaf that a kind declares
 pub kind_numbered : (sounds : List Sound) (contracts : List ContractModel) (kind : HeapKind) → map sound_parts sounds ≡ map (λ (x : ContractModel). x.parts) contracts → IsKind contracts kind → IsNumbered (declared_leaf kind)

@@ -1,6 +1,6 @@
 -- Variables that are given back: the first that still has something is the finding.
 use Rattle.std.proofs.Common.{◌≡◌, ℕ, Bool, true, false, List, [], ◌∷◌, ◌++◌, Option, None, Some, if◌then◌else◌, refl}
-use Rattle.source.specs.Findings.{FindingParts}
+use Rattle.source.specs.Findings.{FindingModel}
 use Rattle.source.specs.declared.place.Place.{Place}
 use Rattle.program.specs.Methods.{MethodModel}
 use Rattle.program.specs.declared.statement.Mention.{Mention}
@@ -11,7 +11,7 @@ use Rattle.rules.specs.Texts.{still_owned}
 use Rattle.rules.specs.declared.row.Leaf.{Leaf}
 
 -- what comes of the first variable that still has something, if there is one, and what of the checks behind
-abbrev pub given : MethodModel → Place → Option ℕ → List Check → List Pair → Step Pair FindingParts
+abbrev pub given : MethodModel → Place → Option ℕ → List Check → List Pair → Step Pair FindingModel
 given m place None more after = checked more after
 given m place (Some v) more after = Fails (still_owned (name_of m v) place)
 

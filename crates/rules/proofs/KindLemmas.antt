@@ -5,7 +5,7 @@ use Rattle.std.specs.Option.{option_map, option_map_or}
 use Rattle.std.proofs.lemmas.Option.{slice_get-map}
 use Rattle.std.proofs.lemmas.List.{at_drop_all, at_drop_more}
 use Rattle.program.specs.Methods.{MethodModel, VariableModel, variable_model}
-use Rattle.program.specs.Programs.{rows}
+use Rattle.program.specs.Programs.{kind_lists}
 use Rattle.program.specs.WellFormed.{is_parameter, parameters}
 use Rattle.program.specs.declared.kind.HeapKind.{HeapKind}
 use Rattle.program.specs.declared.method.Variable.{Variable}
@@ -53,14 +53,14 @@ read_kinds : (o : Option MethodModel) → option_map_or (λ m. map (λ v. v.kind
 read_kinds None = refl
 read_kinds (Some m) = refl
 
-kinds_at : (listed : List (Vec HeapKind Global)) (methods : List MethodModel) (n : ℕ) → rows listed ≡ taken methods
+kinds_at : (listed : List (Vec HeapKind Global)) (methods : List MethodModel) (n : ℕ) → kind_lists listed ≡ taken methods
     → option_map_or (λ m. map (λ v. v.kind) (parameters m)) (slice_get methods n) [] ≡ option_map_or (λ (kinds : List HeapKind). kinds) (option_map (λ (kinds : Vec HeapKind Global). kinds.items) (slice_get listed n)) []
 kinds_at listed methods n are =
     read_kinds (slice_get methods n)
     ∙ ap (λ o. option_map_or (λ (kinds : List HeapKind). kinds) o []) (sym (slice_get-map (λ m. map (λ v. v.kind) (parameters m)) methods n) ∙ ap (λ l. slice_get l n) (sym are) ∙ slice_get-map (λ (kinds : Vec HeapKind Global). kinds.items) listed n)
 
-pub kinds_there : (listed : List (Vec HeapKind Global)) (methods : List MethodModel) (n : ℕ) (kinds : Vec HeapKind Global) → rows listed ≡ taken methods → slice_get listed n ≡ Some kinds → kinds.items ≡ option_map_or (λ m. map (λ v. v.kind) (parameters m)) (slice_get methods n) []
+pub kinds_there : (listed : List (Vec HeapKind Global)) (methods : List MethodModel) (n : ℕ) (kinds : Vec HeapKind Global) → kind_lists listed ≡ taken methods → slice_get listed n ≡ Some kinds → kinds.items ≡ option_map_or (λ m. map (λ v. v.kind) (parameters m)) (slice_get methods n) []
 kinds_there listed methods n kinds are there = sym (kinds_at listed methods n are ∙ ap (λ o. option_map_or (λ (x : List HeapKind). x) (option_map (λ (x : Vec HeapKind Global). x.items) o) []) there)
 
-pub kinds_past : (listed : List (Vec HeapKind Global)) (methods : List MethodModel) (n : ℕ) → rows listed ≡ taken methods → slice_get listed n ≡ None → [] ≡ option_map_or (λ m. map (λ v. v.kind) (parameters m)) (slice_get methods n) []
+pub kinds_past : (listed : List (Vec HeapKind Global)) (methods : List MethodModel) (n : ℕ) → kind_lists listed ≡ taken methods → slice_get listed n ≡ None → [] ≡ option_map_or (λ m. map (λ v. v.kind) (parameters m)) (slice_get methods n) []
 kinds_past listed methods n are past = sym (kinds_at listed methods n are ∙ ap (λ o. option_map_or (λ (x : List HeapKind). x) (option_map (λ (x : Vec HeapKind Global). x.items) o) []) past)

@@ -4,7 +4,7 @@ use Rattle.std.specs.List.{All}
 use Rattle.std.specs.Option.{option_map_or}
 use Rattle.std.proofs.lemmas.List.{length-map, length-set}
 use Rattle.std.proofs.lemmas.List.Elements.{All-append, All-nil, All-cons}
-use Rattle.source.specs.Findings.{FindingParts}
+use Rattle.source.specs.Findings.{FindingModel}
 use Rattle.flow.specs.Graphs.{Instruction, Use, New, Move, Delete, Exchange, NewChannel, Send, Switch, Branch, Forget, Call, Start, Return, Stop}
 use Rattle.flow.specs.Lowering.{graph_of}
 use Rattle.flow.specs.declared.graph.Branches.{Branches}
@@ -51,7 +51,7 @@ bound_size row [] kinds = refl
 bound_size row (v ∷ bound) [] = refl
 bound_size row (v ∷ bound) (kind ∷ kinds) = bound_size (set row v.0 (declared_leaf kind)) bound kinds ∙ length-set row v.0 (declared_leaf kind)
 
-same_goes : (a b : List Pair) → Path (Step Pair FindingParts) (Goes a) (Goes b) → a ≡ b
+same_goes : (a b : List Pair) → Path (Step Pair FindingModel) (Goes a) (Goes b) → a ≡ b
 same_goes a b e = cc
 
 -- where checks go well, the step leads to what comes then
@@ -60,7 +60,7 @@ goes_on [] after to e = same_goes after to e
 goes_on (None ∷ checks) after to e = goes_on checks after to e
 goes_on (Some finding ∷ checks) after to e = absurd (no_step finding e)
   where
-    no_step : (f : FindingParts) → Path (Step Pair FindingParts) (Fails f) (Goes to) → ⊥
+    no_step : (f : FindingModel) → Path (Step Pair FindingModel) (Fails f) (Goes to) → ⊥
     no_step f k = cc
 
 module _ (p : ProgramModel) (m : MethodModel) where
@@ -88,17 +88,17 @@ module _ (p : ProgramModel) (m : MethodModel) where
   each_row f [] all = no_rows
   each_row f (x ∷ xs) all = both_rows (f x) (flat_map f xs) (all x) (each_row f xs all)
 
-  case_row : (o : Option EntranceModel) (after : EntranceModel → List Leaf) → ((c : EntranceModel) → IsRowOf m (after c)) → AreRows (pair_at o after)
-  case_row None after is = no_rows
-  case_row (Some c) after is = one_row c.next (after c) [] (is c) no_rows
+  case_sequence : (o : Option EntranceModel) (after : EntranceModel → List Leaf) → ((c : EntranceModel) → IsRowOf m (after c)) → AreRows (pair_at o after)
+  case_sequence None after is = no_rows
+  case_sequence (Some c) after is = one_row c.next (after c) [] (is c) no_rows
 
   received_on : (row : List Leaf) (cases : List EntranceModel) (e : ℕ) (d : Edge) → IsRowOf m row → AreRows (received p m row cases e d)
   received_on row cases e d is =
-      case_row (case_for cases e (Some d.message.0)) (λ c. bound_leaves (set row e (State d.to.0)) c.targets (brought p d.message.0))
+      case_sequence (case_for cases e (Some d.message.0)) (λ c. bound_leaves (set row e (State d.to.0)) c.targets (brought p d.message.0))
       (λ c. bound_size (set row e (State d.to.0)) c.targets (brought p d.message.0) ∙ length-set row e (State d.to.0) ∙ is)
 
   closed_on : (row : List Leaf) (cases : List EntranceModel) (e : ℕ) → IsRowOf m row → AreRows (closed p m row cases e)
-  closed_on row cases e is = case_row (case_for cases e None) (λ c. set row e CutOff) (λ c. length-set row e CutOff ∙ is)
+  closed_on row cases e is = case_sequence (case_for cases e None) (λ c. set row e CutOff) (λ c. length-set row e CutOff ∙ is)
 
   switch_on : (row : List Leaf) (cases : List EntranceModel) → IsRowOf m row → AreRows (switch_pairs p m row cases)
   switch_on row cases is =
@@ -157,7 +157,7 @@ module _ (p : ProgramModel) (m : MethodModel) where
       subst AreRows (goes_on (value_checks p m row value ++ (given_back m row place value (declared_between m None scope) ++ back_checks p m row place)) [] to e) no_rows
   instruction_on (Stop place) row to is e = absurd (no_step e)
     where
-      no_step : {f : FindingParts} → Path (Step Pair FindingParts) (Fails f) (Goes to) → ⊥
+      no_step : {f : FindingModel} → Path (Step Pair FindingModel) (Fails f) (Goes to) → ⊥
       no_step k = cc
 
   point_on : (o : Option Instruction) (row : List Leaf) (to : List Pair)

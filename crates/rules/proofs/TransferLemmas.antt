@@ -1,7 +1,7 @@
 -- What an instruction with a transfer comes to.
 use Rattle.std.proofs.Common.{◌≡◌, ℕ, Bool, true, false, not, ◌&&◌, ◌==◌, List, [], ◌∷◌, ◌++◌, flat_map, Option, Some, None, set, IfSome, IsSomeAnd, slice_get, if◌then◌else◌, refl, sym, ap, subst, ◌∙◌, true≢false}
 use Rattle.std.specs.Option.{option_map}
-use Rattle.source.specs.Findings.{FindingParts}
+use Rattle.source.specs.Findings.{FindingModel}
 use Rattle.flow.specs.declared.graph.Graph.{Graph}
 use Rattle.flow.specs.declared.graph.Instr.{Instr}
 use Rattle.flow.specs.Graphs.{Instruction, graph_model, instruction_model}
@@ -48,7 +48,7 @@ one_of true x y e = (refl, one_some x y e)
 one_of false x y e = absurd (none_some x (sym e))
 
 -- a check that passes
-pass : (b : Bool) (f : FindingParts) (checks : List Check) (after : List Pair) → b ≡ false
+pass : (b : Bool) (f : FindingModel) (checks : List Check) (after : List Pair) → b ≡ false
     → checked (refused b f ∷ checks) after ≡ checked checks after
 pass b f checks after e = ap (λ c. checked (refused c f ∷ checks) after) e
 
@@ -58,13 +58,13 @@ module _ (p : ProgramModel) (m : MethodModel) (row : List Leaf) where
   Comes i u = fits m u.0 ≡ true → allows u.0 row ≡ true → instruction_outcome p m i row ≡ Goes ((u.1, transferred u.0 row) ∷ [])
 
   -- the checks of a variable
-  abbrev lent_one : Mention → FindingParts
+  abbrev lent_one : Mention → FindingModel
   lent_one v = lent (name_of m v.variable.0) v.place
 
-  abbrev lacking : Mention → FindingParts
+  abbrev lacking : Mention → FindingModel
   lacking v = not_owned (name_of m v.variable.0) v.place
 
-  abbrev having : Mention → FindingParts
+  abbrev having : Mention → FindingModel
   having v = overwritten (name_of m v.variable.0) v.place
 
   use_comes : (v : Mention) (next : ℕ) → Comes (graphs.Use v next) (Use v.variable, next)

@@ -2,7 +2,7 @@
 use Rattle.std.specs.Prelude.{ℕ, Bool, true, false, ◌&&◌, List, [], ◌∷◌, ◌++◌, Option, Some, None}
 use Rattle.std.specs.Prelude.{flat_map, is_none, set, zip, if◌then◌else◌}
 use Rattle.std.specs.Option.{option_map_or}
-use Rattle.source.specs.Findings.{FindingParts}
+use Rattle.source.specs.Findings.{FindingModel}
 use Rattle.source.specs.declared.place.Place.{Place}
 use Rattle.program.specs.Lists.{is_among}
 use Rattle.program.specs.Methods.{MethodModel}
@@ -63,7 +63,7 @@ module _ (m : MethodModel) where
 
   -- The checks of what goes into a message or a field: it is not lent, there, and in the state that is asked. Where it is in a wrong
   -- one, this is said.
-  abbrev pub taken_checks : List Leaf → (wrong : List ℕ → Place → FindingParts) → HeapKind → Argument → List Check
+  abbrev pub taken_checks : List Leaf → (wrong : List ℕ → Place → FindingModel) → HeapKind → Argument → List Check
   taken_checks row wrong kind a =
       is_not_lent m a.mention
       ∷ has_something m row a.mention
@@ -71,7 +71,7 @@ module _ (m : MethodModel) where
       ∷ []
 
   -- the checks of all that goes there at once; none of it is one of these
-  abbrev pub all_taken : (besides : List ℕ) → List Leaf → (wrong : List ℕ → Place → FindingParts) → List HeapKind → List Argument
+  abbrev pub all_taken : (besides : List ℕ) → List Leaf → (wrong : List ℕ → Place → FindingModel) → List HeapKind → List Argument
       → List Check
   all_taken besides row wrong kinds given = given_before besides given ++ flat_map (λ x. taken_checks row wrong x.0 x.1) (zip kinds given)
 

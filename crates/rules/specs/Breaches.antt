@@ -1,7 +1,7 @@
 -- What breaches say: the finding of each.
 use Rattle.std.specs.Prelude.{ℕ, List, slice_get}
 use Rattle.std.specs.Option.{option_map_or}
-use Rattle.source.specs.Findings.{FindingParts}
+use Rattle.source.specs.Findings.{FindingModel}
 use Rattle.source.specs.declared.place.Place.{Place}
 use Rattle.program.specs.Methods.{MethodModel}
 use Rattle.program.specs.Programs.{ProgramModel}
@@ -23,7 +23,7 @@ module _ (p : ProgramModel) (m : MethodModel) where
   name_along endpoint message = message_name p (kind_of m endpoint.0) message.0
 
   -- the finding at a place, a line for each reason
-  abbrev pub told : Place → Reason → FindingParts
+  abbrev pub told : Place → Reason → FindingModel
   told place (NotOwned variable) = not_owned (name_of m variable.0) place
   told place (NotSent endpoint message) = not_sent (name_along endpoint message) place
   told place (WrongFor variable endpoint message) = wrong_for (name_of m variable.0) (name_along endpoint message) place
@@ -40,9 +40,9 @@ module _ (p : ProgramModel) (m : MethodModel) where
   told place (WrongForField variable) = wrong_for_field (name_of m variable.0) place
 
   -- the finding of a breach
-  abbrev pub breach_model : Breach → FindingParts
+  abbrev pub breach_model : Breach → FindingModel
   breach_model breach = told breach.place breach.reason
 
 -- the finding of a breach in the method of a number; calls ask for methods of the program alone
-abbrev pub breach_in : ProgramModel → ℕ → Breach → FindingParts
+abbrev pub breach_in : ProgramModel → ℕ → Breach → FindingModel
 breach_in p method breach = option_map_or (λ m. breach_model p m breach) (slice_get p.methods method) (no_result breach.place)

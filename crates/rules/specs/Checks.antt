@@ -3,7 +3,7 @@ use Rattle.std.specs.Prelude.{◌≡◌, ◌<◌, ◌≤◌, ℕ, true, false, l
 use Rattle.std.specs.BTreeSet.{BTreeSet, contains}
 use Rattle.std.specs.Option.{option_map}
 use Rattle.std.specs.Ordering.{nat_cmp}
-use Rattle.source.specs.Findings.{FindingParts}
+use Rattle.source.specs.Findings.{FindingModel}
 use Rattle.program.specs.Lists.{is_among}
 use Rattle.program.specs.Methods.{MethodModel, VariableModel}
 use Rattle.program.specs.Scopes.{outer_of}
@@ -15,7 +15,7 @@ use Rattle.rules.specs.declared.breach.Breach.{Breach}
 use Rattle.rules.specs.declared.row.Leaf.{Leaf}
 
 -- the check that found this, by what breaches say
-abbrev pub check_model : (Breach → FindingParts) → Option Breach → Check
+abbrev pub check_model : (Breach → FindingModel) → Option Breach → Check
 check_model says found = option_map says found
 
 -- the first of these variables that still has something, but for the one that is given
@@ -58,5 +58,5 @@ abbrev pub AreIn : List ℕ → BTreeSet ℕ → Type 0
 AreIn listed set = (q : ℕ) → contains nat_cmp set q ≡ is_among listed q
 
 -- What was found stands for these checks, whatever checks come behind them.
-pub record StandsFor (says : Breach → FindingParts) (found : Option Breach) (checks : List Check) : Type 0 where
+pub record StandsFor (says : Breach → FindingModel) (found : Option Breach) (checks : List Check) : Type 0 where
   pub all : (more : List Check) (after : List Pair) → checked (checks ++ more) after ≡ checked (check_model says found ∷ more) after

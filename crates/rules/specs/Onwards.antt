@@ -2,7 +2,7 @@
 use Rattle.std.specs.Prelude.{◌≡◌, List, [], ◌∷◌, Option, None, Some, map}
 use Rattle.flow.specs.Graphs.{Instruction, Branch}
 use Rattle.flow.specs.declared.graph.Branches.{Branches}
-use Rattle.source.specs.Findings.{FindingParts}
+use Rattle.source.specs.Findings.{FindingModel}
 use Rattle.rules.specs.Outcomes.{Step, Goes, Fails, Pair}
 use Rattle.rules.specs.Steps.{pair_model}
 use Rattle.rules.specs.declared.breach.Breach.{Breach}
@@ -11,7 +11,7 @@ use Rattle.rules.specs.declared.onward.Onward.TheVariants.{Ends, Same, Both, Cha
 use Rattle.rules.specs.declared.row.Leaf.{Leaf}
 
 -- what this answer means where that row stands in place, by what breaches say
-abbrev pub onward_model : (Breach → FindingParts) → Onward → List Leaf → Step Pair FindingParts
+abbrev pub onward_model : (Breach → FindingModel) → Onward → List Leaf → Step Pair FindingModel
 onward_model says Ends row = Goes []
 onward_model says (Same point) row = Goes ((point, row) ∷ [])
 onward_model says (Both first second) row = Goes ((first, row) ∷ (second, row) ∷ [])

@@ -3,7 +3,7 @@
 use Rattle.std.specs.Prelude.{ℕ, Bool, false, ◌&&◌, List, [], ◌∷◌, ◌++◌, length, Option, Some, None, map, set}
 use Rattle.std.specs.List.{range_with_len}
 use Rattle.std.specs.Option.{option_map_or}
-use Rattle.source.specs.Findings.{FindingParts}
+use Rattle.source.specs.Findings.{FindingModel}
 use Rattle.source.specs.declared.place.Place.{Place}
 use Rattle.program.specs.Methods.{MethodModel}
 use Rattle.program.specs.Programs.{ProgramModel}
@@ -52,7 +52,7 @@ module _ (p : ProgramModel) (m : MethodModel) where
   back_checks row place = map (λ v. refused (is_not_back row v) (not_back (name_of m v) place)) (range_with_len 0 (length m.variables))
 
   -- An exchange with a field of this kind. What the field held is in the state that the field asks.
-  abbrev pub exchanged : List Leaf → stated.Exchange.Exchange → ℕ → Option HeapKind → Step Pair FindingParts
+  abbrev pub exchanged : List Leaf → stated.Exchange.Exchange → ℕ → Option HeapKind → Step Pair FindingModel
   exchanged row e next kind =
       checked
       (is_another m e.holder e.given
@@ -61,7 +61,7 @@ module _ (p : ProgramModel) (m : MethodModel) where
       ((next, set row e.given.variable.0 (option_map_or declared_leaf kind Nothing)) ∷ [])
 
   -- a line for each instruction
-  abbrev pub instruction_outcome : Instruction → List Leaf → Step Pair FindingParts
+  abbrev pub instruction_outcome : Instruction → List Leaf → Step Pair FindingModel
   instruction_outcome (Use v next) row = checked (has_something m row v ∷ []) ((next, row) ∷ [])
   instruction_outcome (New v arguments next) row =
       let given = map payload arguments in

@@ -1,6 +1,6 @@
 -- What takes something away from a variable for good: a message that is sent along an endpoint, or a field of a block.
 use Rattle.std.specs.Prelude.{ℕ, List, [], ◌∷◌}
-use Rattle.source.specs.Findings.{FindingParts}
+use Rattle.source.specs.Findings.{FindingModel}
 use Rattle.source.specs.declared.place.Place.{Place}
 use Rattle.program.specs.Methods.{MethodModel}
 use Rattle.program.specs.Programs.{ProgramModel}
@@ -15,6 +15,6 @@ besides (Message endpoint message) = endpoint.variable.0 ∷ []
 besides Field = []
 
 -- what is said of an endpoint that goes there in a wrong state
-abbrev pub wrong_in : ProgramModel → MethodModel → Taker → (name : List ℕ) → Place → FindingParts
+abbrev pub wrong_in : ProgramModel → MethodModel → Taker → (name : List ℕ) → Place → FindingModel
 wrong_in p m (Message endpoint message) name place = wrong_for name (name_along p m endpoint.variable message) place
 wrong_in p m Field name place = wrong_for_field name place

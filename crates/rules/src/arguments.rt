@@ -12,7 +12,7 @@ ghost use Rattle.rules.specs.Programs.{model_of};
 ghost use Rattle.rules.specs.Repeats.{first_again};
 ghost use Rattle.rules.specs.Texts.{lent, wrong_for_call};
 ghost use Rattle.rules.specs.Leaves.{IsNumbered};
-ghost use Rattle.rules.specs.Rows.{leaf_at, leaves_of};
+ghost use Rattle.rules.specs.Rows.{leaf_at, row_model};
 
 use crate::breach::{Breach, Reason};
 use crate::checks::{gives_none_again, has_nothing, has_something, is_not_lent};
@@ -36,7 +36,7 @@ fn can_be_claimed(here: &Here<'_>, argument: Argument) -> Option<Breach>
 /// That what is given for a parameter of this kind is in its state.
 fn is_in_state(here: &Here<'_>, kind: HeapKind, mention: Mention) -> Option<Breach>
     ensures { check_model (breach_model (model_of here.now.program.now) (method_model here.now.method.now)) result ≡ refused
-        (is_wrong kind (leaf_at (leaves_of here.now.row.now) mention.variable.0))
+        (is_wrong kind (leaf_at (row_model here.now.row.now) mention.variable.0))
         (wrong_for_call (name_of (method_model here.now.method.now) mention.variable.0) mention.place) }
 {
     if !is_wrong(kind, here.row.leaf(mention.variable)) {
@@ -48,7 +48,7 @@ fn is_in_state(here: &Here<'_>, kind: HeapKind, mention: Mention) -> Option<Brea
 /// That what an argument gives is there, not lent where it is claimed, and in the state that the parameter asks.
 fn can_give(here: &Here<'_>, kind: HeapKind, argument: Argument) -> Option<Breach>
     ensures { StandsFor (breach_model (model_of here.now.program.now) (method_model here.now.method.now)) result
-        (argument_checks (method_model here.now.method.now) (leaves_of here.now.row.now) kind argument) }
+        (argument_checks (method_model here.now.method.now) (row_model here.now.row.now) kind argument) }
 {
     if let Some(breach) = has_something(here, argument.mention) {
         return Some(breach);
@@ -68,7 +68,7 @@ pub(crate) fn can_give_all(
 ) -> Option<Breach>
     requires { again ≡ first_again [] arguments.now }
     ensures { StandsFor (breach_model (model_of here.now.program.now) (method_model here.now.method.now)) result
-        (all_arguments (method_model here.now.method.now) (leaves_of here.now.row.now) kinds.now arguments.now) }
+        (all_arguments (method_model here.now.method.now) (row_model here.now.row.now) kinds.now arguments.now) }
 {
     if let Some(breach) = gives_none_again(here, again) {
         return Some(breach);
@@ -84,7 +84,7 @@ pub(crate) fn can_give_all(
 /// That what takes a block, if something does, is not lent and has nothing.
 pub(crate) fn can_take(here: &Here<'_>, target: Option<Mention>) -> Option<Breach>
     ensures { StandsFor (breach_model (model_of here.now.program.now) (method_model here.now.method.now)) result
-        (target_checks (method_model here.now.method.now) (leaves_of here.now.row.now) target) }
+        (target_checks (method_model here.now.method.now) (row_model here.now.row.now) target) }
 {
     let target = target?;
     if let Some(breach) = is_not_lent(here, target) {
@@ -95,7 +95,7 @@ pub(crate) fn can_take(here: &Here<'_>, target: Option<Mention>) -> Option<Breac
 
 /// Takes away what is claimed of an argument.
 fn claim(row: &mut Row, argument: Argument)
-    ensures { leaves_of row.new ≡ claimed (leaves_of row.old) (argument ∷ []) }
+    ensures { row_model row.new ≡ claimed (row_model row.old) (argument ∷ []) }
 {
     if argument.claimed {
         row.set(argument.mention.variable, Leaf::Nothing);
@@ -104,7 +104,7 @@ fn claim(row: &mut Row, argument: Argument)
 
 /// Takes away what is claimed of arguments.
 pub(crate) fn claim_all(row: &mut Row, arguments: &[Argument])
-    ensures { leaves_of row.new ≡ claimed (leaves_of row.old) arguments.now }
+    ensures { row_model row.new ≡ claimed (row_model row.old) arguments.now }
 {
     for argument in arguments {
         claim(row, *argument);
@@ -114,7 +114,7 @@ pub(crate) fn claim_all(row: &mut Row, arguments: &[Argument])
 /// Gives what a method gives to the variable that takes it, if one does.
 pub(crate) fn give(row: &mut Row, kind: Option<HeapKind>, target: Option<Mention>)
     requires numbered { IfSome kind (λ kind. IsNumbered (declared_leaf kind)) }
-    ensures { leaves_of row.new ≡ given_leaf (leaves_of row.old) kind target }
+    ensures { row_model row.new ≡ given_leaf (row_model row.old) kind target }
 {
     if let (Some(kind), Some(target)) = (kind, target) {
         row.set(target.variable, declared_leaf(kind));

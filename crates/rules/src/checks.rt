@@ -5,7 +5,7 @@ ghost use Rattle.program.specs.Methods.{method_model};
 ghost use Rattle.rules.specs.Breaches.{breach_model};
 ghost use Rattle.rules.specs.Checks.{check_model};
 ghost use Rattle.rules.specs.Programs.{model_of};
-ghost use Rattle.rules.specs.Rows.{leaves_of};
+ghost use Rattle.rules.specs.Rows.{row_model};
 ghost use Rattle.rules.specs.Mentions as table;
 ghost use Rattle.rules.specs.Repeats.{told_again};
 
@@ -46,7 +46,7 @@ pub(crate) fn lends(method: &Method, variable: VarId) -> bool
 /// That the variable has something.
 pub(crate) fn has_something(here: &Here<'_>, mention: Mention) -> Option<Breach>
     ensures { check_model (breach_model (model_of here.now.program.now) (method_model here.now.method.now)) result
-        ≡ table.has_something (method_model here.now.method.now) (leaves_of here.now.row.now) mention }
+        ≡ table.has_something (method_model here.now.method.now) (row_model here.now.row.now) mention }
 {
     if here.row.owns(mention.variable) {
         return None;
@@ -57,7 +57,7 @@ pub(crate) fn has_something(here: &Here<'_>, mention: Mention) -> Option<Breach>
 /// That the variable has nothing.
 pub(crate) fn has_nothing(here: &Here<'_>, mention: Mention) -> Option<Breach>
     ensures { check_model (breach_model (model_of here.now.program.now) (method_model here.now.method.now)) result
-        ≡ table.has_nothing (method_model here.now.method.now) (leaves_of here.now.row.now) mention }
+        ≡ table.has_nothing (method_model here.now.method.now) (row_model here.now.row.now) mention }
 {
     if !here.row.owns(mention.variable) {
         return None;

@@ -12,7 +12,7 @@ ghost use Rattle.rules.specs.Endpoints as table;
 ghost use Rattle.rules.specs.Leaves.{IsNumbered};
 ghost use Rattle.rules.specs.Onwards.{IsKept, onward_model};
 ghost use Rattle.rules.specs.Programs.{model_of};
-ghost use Rattle.rules.specs.Rows.{leaves_of};
+ghost use Rattle.rules.specs.Rows.{row_model};
 ghost use Rattle.rules.specs.RuleTable.{instruction_outcome};
 ghost use Rattle.rules.specs.declared.row.Leaf.TheVariants.{Nothing};
 
@@ -35,10 +35,10 @@ pub(crate) fn new(
     next: usize,
 ) -> Onward
     ensures outcome { onward_model (breach_model (model_of site.now.program.now) (method_model site.now.method.now)) result
-        (leaves_of row.new)
+        (row_model row.new)
         ≡ instruction_outcome (model_of site.now.program.now) (method_model site.now.method.now) (New target arguments.now next)
-        (leaves_of row.old) }
-    ensures kept { IsKept result (leaves_of row.old) (leaves_of row.new) }
+        (row_model row.old) }
+    ensures kept { IsKept result (row_model row.old) (row_model row.new) }
 {
     let here = Here {
         program: site.program,
@@ -65,7 +65,7 @@ pub(crate) fn new(
 /// That what is given for a field, if there is such a field, is not lent, there, and in the state that the field asks.
 fn can_be_inside(here: &Here<'_>, field: Option<HeapKind>, given: Mention) -> Option<Breach>
     ensures { StandsFor (breach_model (model_of here.now.program.now) (method_model here.now.method.now)) result
-        (option_map_or (λ kind. field_checks (method_model here.now.method.now) (leaves_of here.now.row.now) kind (payload given))
+        (option_map_or (λ kind. field_checks (method_model here.now.method.now) (row_model here.now.row.now) kind (payload given))
         field []) }
 {
     let kind = field?;
@@ -87,10 +87,10 @@ fn leaf_out_of(field: Option<HeapKind>) -> Leaf
 /// What a field holds and what a variable has change places.
 pub(crate) fn exchange(site: &Site<'_>, row: &mut Row, exchange: Exchange, next: usize) -> Onward
     ensures outcome { onward_model (breach_model (model_of site.now.program.now) (method_model site.now.method.now)) result
-        (leaves_of row.new)
+        (row_model row.new)
         ≡ instruction_outcome (model_of site.now.program.now) (method_model site.now.method.now) (graphs.Exchange exchange next)
-        (leaves_of row.old) }
-    ensures kept { IsKept result (leaves_of row.old) (leaves_of row.new) }
+        (row_model row.old) }
+    ensures kept { IsKept result (row_model row.old) (row_model row.new) }
 {
     let here = Here {
         program: site.program,

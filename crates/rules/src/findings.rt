@@ -1,7 +1,7 @@
 //! The finding of a breach.
 
 ghost use Rattle.std.specs.Prelude.{◌≡◌, ◌<◌, IfOk, length};
-ghost use Rattle.source.specs.Findings.{finding_parts};
+ghost use Rattle.source.specs.Findings.{finding_model};
 ghost use Rattle.program.specs.Methods.{method_model};
 ghost use Rattle.rules.specs.Breaches as table;
 ghost use Rattle.rules.specs.Breaches.{breach_in, breach_model};
@@ -26,14 +26,14 @@ impl Program {
         breach: Breach,
     ) -> Result<Finding, Memory>
         requires there { method.0 < length (model_of self.now).methods }
-        ensures { IfOk result (λ finding. finding_parts finding ≡ breach_in (model_of self.now) method.0 breach) }
+        ensures { IfOk result (λ finding. finding_model finding ≡ breach_in (model_of self.now) method.0 breach) }
     {
         self.finding_in(alloc, self.method(method), breach)
     }
 
     /// The same, of a method.
     fn finding_in(&self, alloc: Global, method: &Method, breach: Breach) -> Result<Finding, Memory>
-        ensures { IfOk result (λ finding. finding_parts finding ≡ breach_model (model_of self.now) (method_model method.now) breach) }
+        ensures { IfOk result (λ finding. finding_model finding ≡ breach_model (model_of self.now) (method_model method.now) breach) }
     {
         let place = breach.place;
         match breach.reason {

@@ -30,5 +30,5 @@ pub use onward::Onward;
 pub use outcome::Outcome;
 pub use row::{Leaf, Row};
 pub use spare::Spare;
-pub use stepping::{condition, entry, step, step_in_place};
+pub use stepping::{condition, entry_pair, step, step_in_place};
 pub use transfer::{Transfer, transfer_at};

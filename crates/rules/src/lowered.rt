@@ -7,7 +7,7 @@ ghost use Rattle.flow.specs.Graphs.{graph_model};
 ghost use Rattle.flow.specs.Lowering.{graph_of};
 ghost use Rattle.program.specs.Methods.{method_model, variable_model};
 ghost use Rattle.program.specs.Parts.{contract_model};
-ghost use Rattle.program.specs.Programs.{contracts_model, methods_model, program_model, rows};
+ghost use Rattle.program.specs.Programs.{contracts_model, methods_model, program_model, kind_lists};
 ghost use Rattle.program.specs.WellFormed as formed;
 ghost use Rattle.program.specs.WellFormed.{IsWellFormed, parameters};
 ghost use Rattle.program.specs.declared.limits.TheConstants.{MOST_VARIABLES};
@@ -32,7 +32,7 @@ pub struct Program {
     ghost sound: { map sound_parts sounds.items ≡ map (λ c. c.parts) (contracts_model methods) },
     ghost lowered: { map graph_model graphs.items ≡ map graph_of (methods_model methods) },
     ghost told: { map repeated_in repeats.items ≡ map (λ m. again_in (graph_of m)) (methods_model methods) } by { Prim.hlevel props },
-    ghost asked: { rows parameters.items ≡ map (λ m. map (λ v. v.kind) (formed.parameters m)) (methods_model methods) },
+    ghost asked: { kind_lists parameters.items ≡ map (λ m. map (λ v. v.kind) (formed.parameters m)) (methods_model methods) },
 }
 
 impl Program {
@@ -159,7 +159,7 @@ fn kinds_of(alloc: Global, method: &Method) -> Result<Vec<HeapKind>, Memory>
 
 /// What each of these methods takes for its parameters of the exchange heap.
 fn parameters_of(alloc: Global, methods: &[Method]) -> Result<Vec<Vec<HeapKind>>, Memory>
-    ensures { IfOk result (λ kinds. rows kinds.items ≡ map (λ m. map (λ v. v.kind) (parameters m)) (map method_model methods.now)) }
+    ensures { IfOk result (λ kinds. kind_lists kinds.items ≡ map (λ m. map (λ v. v.kind) (parameters m)) (map method_model methods.now)) }
 {
     let mut parameters = Vec::new(alloc);
     for method in methods {

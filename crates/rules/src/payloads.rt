@@ -15,7 +15,7 @@ ghost use Rattle.rules.specs.Mentions.{name_of};
 ghost use Rattle.rules.specs.Outcomes.{refused};
 ghost use Rattle.rules.specs.Programs.{model_of};
 ghost use Rattle.rules.specs.Repeats.{first_again};
-ghost use Rattle.rules.specs.Rows.{leaf_at, leaves_of};
+ghost use Rattle.rules.specs.Rows.{leaf_at, row_model};
 ghost use Rattle.rules.specs.Takers.{besides, wrong_in};
 
 use crate::breach::{Breach, Reason};
@@ -96,7 +96,7 @@ fn first_again(taker: Taker, payloads: &[Mention]) -> Option<Mention>
 /// That what goes there, where this kind is asked, is in its state.
 fn is_in_state(here: &Here<'_>, taker: Taker, kind: HeapKind, mention: Mention) -> Option<Breach>
     ensures { check_model (breach_model (model_of here.now.program.now) (method_model here.now.method.now)) result ≡ refused
-        (is_wrong kind (leaf_at (leaves_of here.now.row.now) mention.variable.0))
+        (is_wrong kind (leaf_at (row_model here.now.row.now) mention.variable.0))
         (wrong_in (model_of here.now.program.now) (method_model here.now.method.now) taker
         (name_of (method_model here.now.method.now) mention.variable.0) mention.place) }
 {
@@ -115,7 +115,7 @@ pub(crate) fn can_be_taken(
     mention: Mention,
 ) -> Option<Breach>
     ensures { StandsFor (breach_model (model_of here.now.program.now) (method_model here.now.method.now)) result
-        (taken_checks (method_model here.now.method.now) (leaves_of here.now.row.now)
+        (taken_checks (method_model here.now.method.now) (row_model here.now.row.now)
         (wrong_in (model_of here.now.program.now) (method_model here.now.method.now) taker) kind (payload mention)) }
 {
     if let Some(breach) = is_not_lent(here, mention) {
@@ -135,7 +135,7 @@ pub(crate) fn can_all_be_taken(
     payloads: &[Mention],
 ) -> Option<Breach>
     ensures { StandsFor (breach_model (model_of here.now.program.now) (method_model here.now.method.now)) result
-        (all_taken (method_model here.now.method.now) (besides taker) (leaves_of here.now.row.now)
+        (all_taken (method_model here.now.method.now) (besides taker) (row_model here.now.row.now)
         (wrong_in (model_of here.now.program.now) (method_model here.now.method.now) taker) kinds.now (map payload payloads.now)) }
 {
     let again = first_again(taker, payloads);
@@ -153,7 +153,7 @@ pub(crate) fn can_all_be_taken(
 
 /// Takes away what goes there.
 pub(crate) fn claim_payloads(row: &mut Row, payloads: &[Mention])
-    ensures { leaves_of row.new ≡ claimed (leaves_of row.old) (map payload payloads.now) }
+    ensures { row_model row.new ≡ claimed (row_model row.old) (map payload payloads.now) }
 {
     for mention in payloads {
         row.set(mention.variable, Leaf::Nothing);

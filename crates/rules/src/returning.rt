@@ -12,7 +12,7 @@ ghost use Rattle.rules.specs.Onwards.{onward_model};
 ghost use Rattle.rules.specs.Outcomes.{refused};
 ghost use Rattle.rules.specs.Texts.{wrong_for_result};
 ghost use Rattle.rules.specs.Programs.{model_of};
-ghost use Rattle.rules.specs.Rows.{leaf_at, leaves_of};
+ghost use Rattle.rules.specs.Rows.{leaf_at, row_model};
 ghost use Rattle.rules.specs.RuleTable as table;
 ghost use Rattle.rules.specs.RuleTable.{back_checks, instruction_outcome, value_checks};
 
@@ -31,9 +31,9 @@ use source::Place;
 /// have nothing, and each endpoint that is lent is back in its state.
 pub(crate) fn return_(here: &Here<'_>, returning: Returning) -> Onward
     ensures { onward_model (breach_model (model_of here.now.program.now) (method_model here.now.method.now)) result
-        (leaves_of here.now.row.now)
+        (row_model here.now.row.now)
         ≡ instruction_outcome (model_of here.now.program.now) (method_model here.now.method.now)
-        (graphs.Return returning.place returning.value returning.scope) (leaves_of here.now.row.now) }
+        (graphs.Return returning.place returning.value returning.scope) (row_model here.now.row.now) }
 {
     let Returning {
         place,
@@ -55,7 +55,7 @@ pub(crate) fn return_(here: &Here<'_>, returning: Returning) -> Onward
 /// That what a method gives is in the state of its result.
 fn is_in_state(here: &Here<'_>, value: Mention) -> Option<Breach>
     ensures { check_model (breach_model (model_of here.now.program.now) (method_model here.now.method.now)) result ≡ refused
-        (option_map_or (λ kind. endpoints.is_wrong kind (leaf_at (leaves_of here.now.row.now) value.variable.0))
+        (option_map_or (λ kind. endpoints.is_wrong kind (leaf_at (row_model here.now.row.now) value.variable.0))
         (method_model here.now.method.now).result false)
         (wrong_for_result (mentions.name_of (method_model here.now.method.now) value.variable.0) value.place) }
 {
@@ -69,7 +69,7 @@ fn is_in_state(here: &Here<'_>, value: Mention) -> Option<Breach>
 /// That what a method gives, if it is of the exchange heap, is not lent, there, and in the state of the result.
 fn can_return(here: &Here<'_>, value: Option<Mention>) -> Option<Breach>
     ensures { StandsFor (breach_model (model_of here.now.program.now) (method_model here.now.method.now)) result
-        (value_checks (model_of here.now.program.now) (method_model here.now.method.now) (leaves_of here.now.row.now) value) }
+        (value_checks (model_of here.now.program.now) (method_model here.now.method.now) (row_model here.now.row.now) value) }
 {
     let value = value?;
     if let Some(breach) = is_not_lent(here, value) {
@@ -84,7 +84,7 @@ fn can_return(here: &Here<'_>, value: Option<Mention>) -> Option<Breach>
 /// Whether an endpoint was lent, and is neither cut off nor in its declared state. The variable is looked up only where it has an
 /// endpoint in some state.
 fn is_not_back(here: &Here<'_>, variable: VarId) -> bool
-    ensures { result ≡ table.is_not_back (model_of here.now.program.now) (method_model here.now.method.now) (leaves_of here.now.row.now)
+    ensures { result ≡ table.is_not_back (model_of here.now.program.now) (method_model here.now.method.now) (row_model here.now.row.now)
         variable.0 }
 {
     match here.row.leaf(variable) {
@@ -108,7 +108,7 @@ fn is_lent_elsewhere(method: &Method, variable: VarId, state: u32) -> bool
 /// That each endpoint which was lent is cut off, or back in its state.
 fn are_back(here: &Here<'_>, place: Place) -> Option<Breach>
     ensures { StandsFor (breach_model (model_of here.now.program.now) (method_model here.now.method.now)) result
-        (back_checks (model_of here.now.program.now) (method_model here.now.method.now) (leaves_of here.now.row.now) place) }
+        (back_checks (model_of here.now.program.now) (method_model here.now.method.now) (row_model here.now.row.now) place) }
 {
     for variable in 0..here.method.variables.len() {
         if is_not_back(here, VarId(variable)) {

@@ -53,13 +53,13 @@ pub struct Row {
 }
 
 impl Row {
-    ghost use Rattle.rules.specs.Rows.{is_owned, leaf_at, leaves_of};
+    ghost use Rattle.rules.specs.Rows.{is_owned, leaf_at, row_model};
 
     /// The row of these leaves. There is none where they are more than `MOST_VARIABLES`, or where the number of a state is
     /// `MOST_STATES` or more.
     pub fn of(leaves: Vec<Leaf>) -> Option<Row>
         ensures some { IsSome result ↔ AreLeaves leaves.items }
-        ensures row { IfSome result (λ row. leaves_of row ≡ leaves.items) }
+        ensures row { IfSome result (λ row. row_model row ≡ leaves.items) }
     {
         let few = leaves.len() <= MOST_VARIABLES;
         if few && leaves.iter().all(|leaf| leaf.is_numbered()) {
@@ -70,7 +70,7 @@ impl Row {
 
     /// The row of no leaves. It takes no memory.
     pub fn empty(alloc: Global) -> Row
-        ensures { leaves_of result ≡ [] }
+        ensures { row_model result ≡ [] }
     {
         Row {
             leaves: Vec::new(alloc),
@@ -79,7 +79,7 @@ impl Row {
 
     /// Takes all leaves away, and keeps their memory.
     pub fn clear(&mut self)
-        ensures { leaves_of self.new ≡ [] }
+        ensures { row_model self.new ≡ [] }
     {
         self.leaves.clear();
     }
@@ -88,10 +88,10 @@ impl Row {
     ///
     /// `Memory` is answered where a growth was refused. The row is as it was then.
     pub fn push(&mut self, leaf: Leaf) -> Result<(), Memory>
-        requires room { length (leaves_of self.old) < MOST_VARIABLES }
+        requires room { length (row_model self.old) < MOST_VARIABLES }
         requires numbered { IsNumbered leaf }
-        ensures ok { OnOk result (leaves_of self.new ≡ leaves_of self.old ++ leaf ∷ []) }
-        ensures err { OnErr result (leaves_of self.new ≡ leaves_of self.old) }
+        ensures ok { OnOk result (row_model self.new ≡ row_model self.old ++ leaf ∷ []) }
+        ensures err { OnErr result (row_model self.new ≡ row_model self.old) }
     {
         self.leaves.push(leaf)?;
         Ok(())
@@ -101,7 +101,7 @@ impl Row {
     ///
     /// `Memory` is answered where a growth was refused. The row may have any leaves then.
     pub fn copy_from(&mut self, other: &Row) -> Result<(), Memory>
-        ensures { OnOk result (leaves_of self.new ≡ leaves_of other.now) }
+        ensures { OnOk result (row_model self.new ≡ row_model other.now) }
     {
         self.clear();
         self.leaves.extend_from_slice(&other.leaves)?;
@@ -110,7 +110,7 @@ impl Row {
 
     /// Its leaves.
     pub fn leaves(&self) -> &[Leaf]
-        ensures leaves { result.now ≡ leaves_of self.now }
+        ensures leaves { result.now ≡ row_model self.now }
         ensures within { AreLeaves result.now }
     {
         &self.leaves
@@ -118,7 +118,7 @@ impl Row {
 
     /// What a variable has: nothing, where there is no such variable.
     pub(crate) fn leaf(&self, variable: VarId) -> Leaf
-        ensures leaf { result ≡ leaf_at (leaves_of self.now) variable.0 }
+        ensures leaf { result ≡ leaf_at (row_model self.now) variable.0 }
         ensures numbered { IsNumbered result }
     {
         match self.leaves.get(variable.0) {
@@ -129,7 +129,7 @@ impl Row {
 
     /// Whether a variable has something.
     pub(crate) fn owns(&self, variable: VarId) -> bool
-        ensures { result ≡ is_owned (leaves_of self.now) variable.0 }
+        ensures { result ≡ is_owned (row_model self.now) variable.0 }
     {
         self.leaf(variable).is_something()
     }
@@ -137,7 +137,7 @@ impl Row {
     /// Gives a variable this in place of what it has.
     pub(crate) fn set(&mut self, variable: VarId, leaf: Leaf)
         requires numbered { IsNumbered leaf }
-        ensures { leaves_of self.new ≡ set (leaves_of self.old) variable.0 leaf }
+        ensures { row_model self.new ≡ set (row_model self.old) variable.0 leaf }
     {
         if variable.0 < self.leaves.len() {
             self.leaves[variable.0] = leaf;
@@ -146,7 +146,7 @@ impl Row {
 
     /// A row of the same leaves.
     pub(crate) fn copy(&self, alloc: Global) -> Result<Row, Memory>
-        ensures { IfOk result (λ row. leaves_of row ≡ leaves_of self.now) }
+        ensures { IfOk result (λ row. row_model row ≡ row_model self.now) }
     {
         let leaves = Vec::from_slice(alloc, &self.leaves)?;
         Ok(Row { leaves })

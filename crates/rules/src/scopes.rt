@@ -9,7 +9,7 @@ ghost use Rattle.rules.specs.Checks.{AllLeadTo, IsFirst, IsPlain, LeadsTo, Stand
 ghost use Rattle.rules.specs.Mentions as table;
 ghost use Rattle.rules.specs.Mentions.{given_back};
 ghost use Rattle.rules.specs.Programs.{model_of};
-ghost use Rattle.rules.specs.Rows.{leaves_of};
+ghost use Rattle.rules.specs.Rows.{row_model};
 ghost use Rattle.rules.specs.Scopes.{declared_between, is_this};
 
 use crate::breach::{Breach, Reason};
@@ -30,7 +30,7 @@ fn is_named(mention: Option<Mention>, variable: VarId) -> bool
 
 /// Whether a variable still has something that is not lent, but for the one that is given.
 fn is_kept(here: &Here<'_>, given: Option<Mention>, variable: VarId) -> bool
-    ensures { result ≡ table.is_kept (method_model here.now.method.now) (leaves_of here.now.row.now) given variable.0 }
+    ensures { result ≡ table.is_kept (method_model here.now.method.now) (row_model here.now.row.now) given variable.0 }
 {
     !is_named(given, variable) && !lends(here.method, variable) && here.row.owns(variable)
 }
@@ -60,7 +60,7 @@ fn kept_or(
     before: Option<VarId>,
 ) -> Option<VarId>
     ensures { option_map (λ v. v.0) result
-        ≡ checks.kept_or (checks.if_kept (method_model here.now.method.now) (leaves_of here.now.row.now) given variable.0)
+        ≡ checks.kept_or (checks.if_kept (method_model here.now.method.now) (row_model here.now.row.now) given variable.0)
         (option_map (λ v. v.0) before) }
 {
     if is_kept(here, given, variable) {
@@ -74,8 +74,8 @@ fn kept_or(
 /// It goes over the row, which is short, and looks up only the variables that have something.
 fn first_of_all(here: &Here<'_>, given: Option<Mention>) -> Option<VarId>
     ensures none { result ≡ None
-        → (v : ℕ) → table.is_kept (method_model here.now.method.now) (leaves_of here.now.row.now) given v ≡ false }
-    ensures some { IfSome result (λ first. IsFirst (method_model here.now.method.now) (leaves_of here.now.row.now) given first.0) }
+        → (v : ℕ) → table.is_kept (method_model here.now.method.now) (row_model here.now.row.now) given v ≡ false }
+    ensures some { IfSome result (λ first. IsFirst (method_model here.now.method.now) (row_model here.now.row.now) given first.0) }
 {
     for (number, leaf) in here.row.leaves().iter().enumerate() {
         if leaf.is_something() && is_kept(here, given, VarId(number)) {
@@ -140,7 +140,7 @@ fn first_kept(
     last: Option<VarId>,
 ) -> Option<VarId>
     ensures { option_map (λ v. v.0) result
-        ≡ checks.first_kept (method_model here.now.method.now) (leaves_of here.now.row.now) given
+        ≡ checks.first_kept (method_model here.now.method.now) (row_model here.now.row.now) given
         (declared_between (method_model here.now.method.now) outer last) }
 {
     let Some(first) = first_of_all(here, given) else {
@@ -160,7 +160,7 @@ fn first_outwards(
     last: Option<VarId>,
 ) -> Option<VarId>
     ensures { option_map (λ v. v.0) result
-        ≡ checks.first_kept (method_model here.now.method.now) (leaves_of here.now.row.now) given
+        ≡ checks.first_kept (method_model here.now.method.now) (row_model here.now.row.now) given
         (declared_between (method_model here.now.method.now) outer last) }
 {
     let mut first = None;
@@ -188,7 +188,7 @@ pub(crate) fn is_given_back(
     last: Option<VarId>,
 ) -> Option<Breach>
     ensures { StandsFor (breach_model (model_of here.now.program.now) (method_model here.now.method.now)) result
-        (given_back (method_model here.now.method.now) (leaves_of here.now.row.now) place given
+        (given_back (method_model here.now.method.now) (row_model here.now.row.now) place given
         (declared_between (method_model here.now.method.now) outer last)) }
 {
     let variable = first_kept(here, given, outer, last)?;

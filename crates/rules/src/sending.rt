@@ -10,7 +10,7 @@ ghost use Rattle.rules.specs.Breaches.{breach_model};
 ghost use Rattle.rules.specs.Leaves.{IsNumbered};
 ghost use Rattle.rules.specs.Onwards.{IsKept, onward_model};
 ghost use Rattle.rules.specs.Programs.{model_of};
-ghost use Rattle.rules.specs.Rows.{leaves_of};
+ghost use Rattle.rules.specs.Rows.{row_model};
 ghost use Rattle.rules.specs.RuleTable.{instruction_outcome};
 
 use crate::breach::{Breach, Reason};
@@ -27,11 +27,11 @@ use program::{HeapKind, MessageId};
 /// A message is sent. What it takes with it is gone, and its endpoint is in the next state, or still cut off.
 pub(crate) fn send(site: &Site<'_>, row: &mut Row, sending: &Sending) -> Onward
     ensures outcome { onward_model (breach_model (model_of site.now.program.now) (method_model site.now.method.now)) result
-        (leaves_of row.new)
+        (row_model row.new)
         ≡ instruction_outcome (model_of site.now.program.now) (method_model site.now.method.now)
         (instruction_model (Instr.Send sending.now))
-        (leaves_of row.old) }
-    ensures kept { IsKept result (leaves_of row.old) (leaves_of row.new) }
+        (row_model row.old) }
+    ensures kept { IsKept result (row_model row.old) (row_model row.new) }
 {
     let here = Here {
         program: site.program,

@@ -1,7 +1,7 @@
 //! What a switch makes its rows of.
 
 ghost use Rattle.std.specs.Prelude.{◌≡◌, [], IfOk};
-ghost use Rattle.rules.specs.Rows.{leaves_of};
+ghost use Rattle.rules.specs.Rows.{row_model};
 
 use crate::row::Row;
 use source::Memory;
@@ -43,7 +43,7 @@ impl Spare {
     ///
     /// `Memory` is answered where a growth was refused.
     pub(crate) fn copy_of(&mut self, row: &Row) -> Result<Row, Memory>
-        ensures { IfOk result (λ copy. leaves_of copy ≡ leaves_of row.now) }
+        ensures { IfOk result (λ copy. row_model copy ≡ row_model row.now) }
     {
         match self.rows.pop() {
             Some(mut copy) => {

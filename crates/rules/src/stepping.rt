@@ -1,7 +1,7 @@
 //! Steps: from a point and a row to what comes of them.
 
 ghost use Rattle.std.specs.Prelude.{◌≡◌, ◌<◌, ◌≤◌, ◌∷◌, [], All, IfOk, IfSome, IsSomeAnd, List, length, map, slice_get};
-ghost use Rattle.source.specs.Findings.{FindingParts};
+ghost use Rattle.source.specs.Findings.{FindingModel};
 ghost use Rattle.flow.specs.Graphs.{instruction_model};
 ghost use Rattle.flow.specs.Lowering.{graph_of};
 ghost use Rattle.program.specs.declared.limits.TheConstants.{MOST_VARIABLES};
@@ -11,7 +11,7 @@ ghost use Rattle.rules.specs.Leaves.{IsNumbered};
 ghost use Rattle.rules.specs.Onwards.{IsKept, condition_at, onward_model};
 ghost use Rattle.rules.specs.Outcomes.{Goes};
 ghost use Rattle.rules.specs.Programs.{model_of};
-ghost use Rattle.rules.specs.Rows.{leaves_of};
+ghost use Rattle.rules.specs.Rows.{row_model};
 ghost use Rattle.rules.specs.RuleTable.{ways};
 ghost use Rattle.rules.specs.Steps.{entry_leaf, entry_of, outcome, outcome_model, pair_model};
 ghost use Rattle.rules.specs.declared.breach.Breach.{Breach as BreachModel};
@@ -44,7 +44,7 @@ fn first_leaf(role: Role, kind: HeapKind) -> Leaf
 fn first_row(alloc: Global, variables: &[Variable]) -> Result<Row, Memory>
     requires few { length variables.now ≤ MOST_VARIABLES }
     requires numbered { All (λ v. IsNumbered (declared_leaf v.kind)) variables.now }
-    ensures { IfOk result (λ row. leaves_of row ≡ map (λ v. entry_leaf v.role v.kind) variables.now) }
+    ensures { IfOk result (λ row. row_model row ≡ map (λ v. entry_leaf v.role v.kind) variables.now) }
 {
     let leaves = variables
         .iter()
@@ -57,7 +57,11 @@ fn first_row(alloc: Global, variables: &[Variable]) -> Result<Row, Memory>
 /// its state, and every other variable nothing.
 ///
 /// `Memory` is answered where a growth was refused.
-pub fn entry(alloc: Global, program: &Program, method: MethodId) -> Result<(usize, Row), Memory>
+pub fn entry_pair(
+    alloc: Global,
+    program: &Program,
+    method: MethodId,
+) -> Result<(usize, Row), Memory>
     requires there { method.0 < length (model_of program.now).methods }
     ensures { IfOk result (λ pair. pair_model pair ≡ entry_of (model_of program.now) method.0) }
 {
@@ -78,7 +82,7 @@ pub fn step(
 ) -> Result<Outcome, Memory>
     requires there { method.0 < length (model_of program.now).methods }
     ensures { IfOk result (λ o. outcome_model (breach_in (model_of program.now) method.0) o
-        ≡ outcome (model_of program.now) method.0 (point, leaves_of row.now)) }
+        ≡ outcome (model_of program.now) method.0 (point, row_model row.now)) }
 {
     let mut after = row.copy(alloc)?;
     let mut spare = Spare::new(alloc);
@@ -99,9 +103,9 @@ pub fn step_in_place(
     spare: &mut Spare,
 ) -> Result<Onward, Memory>
     requires there { method.0 < length (model_of program.now).methods }
-    ensures outcome { IfOk result (λ o. onward_model (breach_in (model_of program.now) method.0) o (leaves_of row.new)
-        ≡ outcome (model_of program.now) method.0 (point, leaves_of row.old)) }
-    ensures kept { IfOk result (λ o. IsKept o (leaves_of row.old) (leaves_of row.new)) }
+    ensures outcome { IfOk result (λ o. onward_model (breach_in (model_of program.now) method.0) o (row_model row.new)
+        ≡ outcome (model_of program.now) method.0 (point, row_model row.old)) }
+    ensures kept { IfOk result (λ o. IsKept o (row_model row.old) (row_model row.new)) }
 {
     let site = Site {
         program,
@@ -148,7 +152,7 @@ fn branches_of(instruction: &Instr) -> Option<Branches>
 
 /// An answer of a step in place as an outcome with rows of its own.
 fn apart(alloc: Global, onward: Onward, row: Row) -> Result<Outcome, Memory>
-    ensures { IfOk result (λ o. (says : BreachModel → FindingParts) → outcome_model says o ≡ onward_model says onward (leaves_of row)) }
+    ensures { IfOk result (λ o. (says : BreachModel → FindingModel) → outcome_model says o ≡ onward_model says onward (row_model row)) }
 {
     match onward {
         Onward::Ends => Ok(Outcome::Next(Vec::new(alloc))),
@@ -161,7 +165,7 @@ fn apart(alloc: Global, onward: Onward, row: Row) -> Result<Outcome, Memory>
 
 /// The method goes on at one point, with this row.
 fn goes(alloc: Global, point: usize, row: Row) -> Result<Outcome, Memory>
-    ensures { IfOk result (λ o. (says : BreachModel → FindingParts) → outcome_model says o ≡ Goes ((point, leaves_of row) ∷ [])) }
+    ensures { IfOk result (λ o. (says : BreachModel → FindingModel) → outcome_model says o ≡ Goes ((point, row_model row) ∷ [])) }
 {
     let mut pairs = Vec::new(alloc);
     pairs.push((point, row))?;
@@ -170,8 +174,8 @@ fn goes(alloc: Global, point: usize, row: Row) -> Result<Outcome, Memory>
 
 /// The method goes on at one of two points, with this row.
 fn goes_both(alloc: Global, first: usize, second: usize, row: Row) -> Result<Outcome, Memory>
-    ensures { IfOk result (λ o. (says : BreachModel → FindingParts)
-        → outcome_model says o ≡ Goes ((first, leaves_of row) ∷ (second, leaves_of row) ∷ [])) }
+    ensures { IfOk result (λ o. (says : BreachModel → FindingModel)
+        → outcome_model says o ≡ Goes ((first, row_model row) ∷ (second, row_model row) ∷ [])) }
 {
     let mut pairs = Vec::new(alloc);
     pairs.push((first, row.copy(alloc)?))?;

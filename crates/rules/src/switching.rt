@@ -14,7 +14,7 @@ ghost use Rattle.rules.specs.Leaves.{IsNumbered};
 ghost use Rattle.rules.specs.Mentions.{has_something};
 ghost use Rattle.rules.specs.Onwards.{onward_model};
 ghost use Rattle.rules.specs.Programs.{model_of};
-ghost use Rattle.rules.specs.Rows.{leaves_of};
+ghost use Rattle.rules.specs.Rows.{row_model};
 ghost use Rattle.rules.specs.RuleTable.{instruction_outcome};
 ghost use Rattle.rules.specs.Steps.{pair_model};
 ghost use Rattle.rules.specs.Switches as table;
@@ -41,9 +41,9 @@ pub(crate) fn switch(
     spare: &mut Spare,
 ) -> Result<Onward, Memory>
     ensures { IfOk result (λ o. onward_model (breach_model (model_of here.now.program.now) (method_model here.now.method.now))
-        o (leaves_of here.now.row.now)
+        o (row_model here.now.row.now)
         ≡ instruction_outcome (model_of here.now.program.now) (method_model here.now.method.now)
-        (graphs.Switch place (cases_model cases.now)) (leaves_of here.now.row.now)) }
+        (graphs.Switch place (cases_model cases.now)) (row_model here.now.row.now)) }
 {
     if let Some(breach) = are_there(here, cases.endpoints()) {
         return Ok(Onward::Found(breach));
@@ -65,7 +65,7 @@ pub(crate) fn switch(
 /// That each endpoint has something.
 fn are_there(here: &Here<'_>, endpoints: &[Mention]) -> Option<Breach>
     ensures { StandsFor (breach_model (model_of here.now.program.now) (method_model here.now.method.now)) result
-        (map (has_something (method_model here.now.method.now) (leaves_of here.now.row.now)) endpoints.now) }
+        (map (has_something (method_model here.now.method.now) (row_model here.now.row.now)) endpoints.now) }
 {
     for endpoint in endpoints {
         if let Some(breach) = has_something(here, *endpoint) {
@@ -77,7 +77,7 @@ fn are_there(here: &Here<'_>, endpoints: &[Mention]) -> Option<Breach>
 
 /// Whether an endpoint is in a state in which it sends.
 fn is_to_send(here: &Here<'_>, endpoint: Mention) -> bool
-    ensures { result ≡ table.is_to_send (model_of here.now.program.now) (method_model here.now.method.now) (leaves_of here.now.row.now)
+    ensures { result ≡ table.is_to_send (model_of here.now.program.now) (method_model here.now.method.now) (row_model here.now.row.now)
         endpoint }
 {
     match here.row.leaf(endpoint.variable) {
@@ -92,7 +92,7 @@ fn is_to_send(here: &Here<'_>, endpoint: Mention) -> bool
 /// Whether all endpoints are to send.
 fn are_to_send(here: &Here<'_>, endpoints: &[Mention]) -> bool
     ensures { result ≡ list_all
-        (table.is_to_send (model_of here.now.program.now) (method_model here.now.method.now) (leaves_of here.now.row.now)) endpoints.now }
+        (table.is_to_send (model_of here.now.program.now) (method_model here.now.method.now) (row_model here.now.row.now)) endpoints.now }
 {
     endpoints.iter().all(|endpoint| is_to_send(here, *endpoint))
 }
@@ -100,7 +100,7 @@ fn are_to_send(here: &Here<'_>, endpoints: &[Mention]) -> bool
 /// The edges on which an endpoint may receive in its state, in order of the contract.
 fn awaited_edges<'a>(here: &Here<'a>, endpoint: Mention) -> &'a [Edge]
     ensures edges { result.now
-        ≡ table.awaited_edges (model_of here.now.program.now) (method_model here.now.method.now) (leaves_of here.now.row.now) endpoint }
+        ≡ table.awaited_edges (model_of here.now.program.now) (method_model here.now.method.now) (row_model here.now.row.now) endpoint }
     ensures numbered { All (λ e. e.to.0 < MOST_STATES) result.now }
 {
     match here.row.leaf(endpoint.variable) {
@@ -115,7 +115,7 @@ fn awaited_edges<'a>(here: &Here<'a>, endpoint: Mention) -> &'a [Edge]
 /// That each message which may come at an endpoint has a case.
 fn is_covered(here: &Here<'_>, cases: &Cases, endpoint: Mention) -> Option<Breach>
     ensures { StandsFor (breach_model (model_of here.now.program.now) (method_model here.now.method.now)) result
-        (table.covered (model_of here.now.program.now) (method_model here.now.method.now) (leaves_of here.now.row.now)
+        (table.covered (model_of here.now.program.now) (method_model here.now.method.now) (row_model here.now.row.now)
         (cases_model cases.now)
         endpoint) }
 {
@@ -133,7 +133,7 @@ fn is_covered(here: &Here<'_>, cases: &Cases, endpoint: Mention) -> Option<Breac
 /// That each message which may come at one of the endpoints has a case.
 fn are_covered(here: &Here<'_>, cases: &Cases) -> Option<Breach>
     ensures { StandsFor (breach_model (model_of here.now.program.now) (method_model here.now.method.now)) result
-        (flat_map (table.covered (model_of here.now.program.now) (method_model here.now.method.now) (leaves_of here.now.row.now)
+        (flat_map (table.covered (model_of here.now.program.now) (method_model here.now.method.now) (row_model here.now.row.now)
         (cases_model cases.now)) (first_mentions [] (cases_model cases.now))) }
 {
     let endpoints = cases.endpoints();
@@ -148,7 +148,7 @@ fn are_covered(here: &Here<'_>, cases: &Cases) -> Option<Breach>
 /// What the variables take that a case binds.
 fn bind(row: &mut Row, targets: &[VarId], kinds: &[HeapKind])
     requires numbered { All (λ kind. IsNumbered (declared_leaf kind)) kinds.now }
-    ensures { leaves_of row.new ≡ bound_leaves (leaves_of row.old) targets.now kinds.now }
+    ensures { row_model row.new ≡ bound_leaves (row_model row.old) targets.now kinds.now }
 {
     for number in 0..targets.len().min(kinds.len()) {
         row.set(targets[number], declared_leaf(kinds[number]));
@@ -166,7 +166,7 @@ fn receive(
 ) -> Result<(), Memory>
     requires numbered { edge.to.0 < MOST_STATES }
     ensures { OnOk result (map pair_model pairs.new.items ≡ map pair_model pairs.old.items
-        ++ table.received (model_of here.now.program.now) (method_model here.now.method.now) (leaves_of here.now.row.now)
+        ++ table.received (model_of here.now.program.now) (method_model here.now.method.now) (row_model here.now.row.now)
         (cases_model cases.now) endpoint.0 edge) }
 {
     if let Some(case) = cases.find(endpoint, Some(edge.message)) {
@@ -187,7 +187,7 @@ fn close(
     pairs: &mut Vec<(usize, Row)>,
 ) -> Result<(), Memory>
     ensures { OnOk result (map pair_model pairs.new.items ≡ map pair_model pairs.old.items
-        ++ table.closed (model_of here.now.program.now) (method_model here.now.method.now) (leaves_of here.now.row.now)
+        ++ table.closed (model_of here.now.program.now) (method_model here.now.method.now) (row_model here.now.row.now)
         (cases_model cases.now) endpoint.0) }
 {
     if let Some(case) = cases.find(endpoint, None) {
@@ -207,7 +207,7 @@ fn come_at(
     pairs: &mut Vec<(usize, Row)>,
 ) -> Result<(), Memory>
     ensures { OnOk result (map pair_model pairs.new.items ≡ map pair_model pairs.old.items
-        ++ table.comes_at (model_of here.now.program.now) (method_model here.now.method.now) (leaves_of here.now.row.now)
+        ++ table.comes_at (model_of here.now.program.now) (method_model here.now.method.now) (row_model here.now.row.now)
         (cases_model cases.now) endpoint) }
 {
     let edges = awaited_edges(here, endpoint);

@@ -5,14 +5,14 @@ ghost use Rattle.std.specs.Prelude.{◌≡◌, IfOk, List, []};
 ghost use Rattle.flow.specs.Graphs as graphs;
 ghost use Rattle.flow.specs.Graphs.{Use, Move, Delete, instruction_model};
 ghost use Rattle.flow.specs.declared.graph.Instr.{Instr};
-ghost use Rattle.source.specs.Findings.{FindingParts};
+ghost use Rattle.source.specs.Findings.{FindingModel};
 ghost use Rattle.program.specs.Methods.{method_model};
 ghost use Rattle.rules.specs.Breaches.{breach_model};
 ghost use Rattle.rules.specs.Onwards.{IsKept, onward_model};
 ghost use Rattle.rules.specs.Outcomes.{Goes, Fails};
 ghost use Rattle.rules.specs.Programs.{model_of};
 ghost use Rattle.rules.specs.Repeats.{first_again, given_again, repeated_in};
-ghost use Rattle.rules.specs.Rows.{leaves_of};
+ghost use Rattle.rules.specs.Rows.{row_model};
 ghost use Rattle.rules.specs.RuleTable.{ways, instruction_outcome};
 ghost use Rattle.rules.specs.declared.breach.Breach.{Breach as BreachModel};
 ghost use Rattle.rules.specs.declared.breach.Reason.TheVariants as reasons;
@@ -45,10 +45,10 @@ pub(crate) fn apply(
 ) -> Result<Onward, Memory>
     requires { repeated_in site.now.repeats.now site.now.point ≡ given_again (instruction_model instruction.now) }
     ensures outcome { IfOk result (λ o. onward_model (breach_model (model_of site.now.program.now) (method_model site.now.method.now))
-        o (leaves_of row.new)
+        o (row_model row.new)
         ≡ instruction_outcome (model_of site.now.program.now) (method_model site.now.method.now) (instruction_model instruction.now)
-        (leaves_of row.old)) }
-    ensures kept { IfOk result (λ o. IsKept o (leaves_of row.old) (leaves_of row.new)) }
+        (row_model row.old)) }
+    ensures kept { IfOk result (λ o. IsKept o (row_model row.old) (row_model row.new)) }
 {
     let here = Here {
         program: site.program,
@@ -84,9 +84,9 @@ pub(crate) fn apply(
 /// A read or a write of the block that a variable has. The row stays as it is.
 fn use_(here: &Here<'_>, at: Mention, next: usize) -> Onward
     ensures { onward_model (breach_model (model_of here.now.program.now) (method_model here.now.method.now)) result
-        (leaves_of here.now.row.now)
+        (row_model here.now.row.now)
         ≡ instruction_outcome (model_of here.now.program.now) (method_model here.now.method.now) (Use at next)
-        (leaves_of here.now.row.now) }
+        (row_model here.now.row.now) }
 {
     match has_something(here, at) {
         Some(breach) => Onward::Found(breach),
@@ -97,10 +97,10 @@ fn use_(here: &Here<'_>, at: Mention, next: usize) -> Onward
 /// Two variables take the two ends of a new channel, each in the first state of its contract.
 fn new_channel(site: &Site<'_>, row: &mut Row, channel: Channel, next: usize) -> Onward
     ensures outcome { onward_model (breach_model (model_of site.now.program.now) (method_model site.now.method.now)) result
-        (leaves_of row.new)
+        (row_model row.new)
         ≡ instruction_outcome (model_of site.now.program.now) (method_model site.now.method.now) (graphs.NewChannel channel next)
-        (leaves_of row.old) }
-    ensures kept { IsKept result (leaves_of row.old) (leaves_of row.new) }
+        (row_model row.old) }
+    ensures kept { IsKept result (row_model row.old) (row_model row.new) }
 {
     let here = Here {
         program: site.program,
@@ -128,10 +128,10 @@ fn new_channel(site: &Site<'_>, row: &mut Row, channel: Channel, next: usize) ->
 /// The target takes what the source has, which then has nothing.
 fn move_(site: &Site<'_>, row: &mut Row, target: Mention, source: Mention, next: usize) -> Onward
     ensures outcome { onward_model (breach_model (model_of site.now.program.now) (method_model site.now.method.now)) result
-        (leaves_of row.new)
+        (row_model row.new)
         ≡ instruction_outcome (model_of site.now.program.now) (method_model site.now.method.now) (Move target source next)
-        (leaves_of row.old) }
-    ensures kept { IsKept result (leaves_of row.old) (leaves_of row.new) }
+        (row_model row.old) }
+    ensures kept { IsKept result (row_model row.old) (row_model row.new) }
 {
     let here = Here {
         program: site.program,
@@ -162,10 +162,10 @@ fn move_(site: &Site<'_>, row: &mut Row, target: Mention, source: Mention, next:
 /// Frees what a variable has.
 fn delete(site: &Site<'_>, row: &mut Row, freed: Mention, next: usize) -> Onward
     ensures outcome { onward_model (breach_model (model_of site.now.program.now) (method_model site.now.method.now)) result
-        (leaves_of row.new)
+        (row_model row.new)
         ≡ instruction_outcome (model_of site.now.program.now) (method_model site.now.method.now) (Delete freed next)
-        (leaves_of row.old) }
-    ensures kept { IsKept result (leaves_of row.old) (leaves_of row.new) }
+        (row_model row.old) }
+    ensures kept { IsKept result (row_model row.old) (row_model row.new) }
 {
     let here = Here {
         program: site.program,
@@ -186,11 +186,11 @@ fn delete(site: &Site<'_>, row: &mut Row, freed: Mention, next: usize) -> Onward
 fn call(site: &Site<'_>, row: &mut Row, calling: &Calling) -> Onward
     requires { repeated_in site.now.repeats.now site.now.point ≡ first_again [] calling.now.arguments.items }
     ensures outcome { onward_model (breach_model (model_of site.now.program.now) (method_model site.now.method.now)) result
-        (leaves_of row.new)
+        (row_model row.new)
         ≡ instruction_outcome (model_of site.now.program.now) (method_model site.now.method.now)
         (instruction_model (Instr.Call calling.now))
-        (leaves_of row.old) }
-    ensures kept { IsKept result (leaves_of row.old) (leaves_of row.new) }
+        (row_model row.old) }
+    ensures kept { IsKept result (row_model row.old) (row_model row.new) }
 {
     let here = Here {
         program: site.program,
@@ -220,10 +220,10 @@ fn call(site: &Site<'_>, row: &mut Row, calling: &Calling) -> Onward
 fn start(site: &Site<'_>, row: &mut Row, starting: &Starting) -> Onward
     requires { repeated_in site.now.repeats.now site.now.point ≡ first_again [] starting.now.arguments.items }
     ensures outcome { onward_model (breach_model (model_of site.now.program.now) (method_model site.now.method.now)) result
-        (leaves_of row.new)
+        (row_model row.new)
         ≡ instruction_outcome (model_of site.now.program.now) (method_model site.now.method.now)
-        (instruction_model (Instr.Start starting.now)) (leaves_of row.old) }
-    ensures kept { IsKept result (leaves_of row.old) (leaves_of row.new) }
+        (instruction_model (Instr.Start starting.now)) (row_model row.old) }
+    ensures kept { IsKept result (row_model row.old) (row_model row.new) }
 {
     let here = Here {
         program: site.program,
@@ -241,7 +241,7 @@ fn start(site: &Site<'_>, row: &mut Row, starting: &Starting) -> Onward
 
 /// A condition. The row stays as it is, each way that it can go.
 fn branch(branches: Branches) -> Onward
-    ensures outcome { (says : BreachModel → FindingParts) (row : List LeafModel) → onward_model says result row ≡ Goes (ways branches row) }
+    ensures outcome { (says : BreachModel → FindingModel) (row : List LeafModel) → onward_model says result row ≡ Goes (ways branches row) }
     ensures kept { (row : List LeafModel) → IsKept result row row }
 {
     match branches {
@@ -253,9 +253,9 @@ fn branch(branches: Branches) -> Onward
 /// Variables go out of scope; they have nothing.
 fn forget_(here: &Here<'_>, forget: Forget, next: usize) -> Onward
     ensures { onward_model (breach_model (model_of here.now.program.now) (method_model here.now.method.now)) result
-        (leaves_of here.now.row.now)
+        (row_model here.now.row.now)
         ≡ instruction_outcome (model_of here.now.program.now) (method_model here.now.method.now) (graphs.Forget forget next)
-        (leaves_of here.now.row.now) }
+        (row_model here.now.row.now) }
 {
     let last = Some(forget.last);
     match is_given_back(here, forget.place, None, forget.outer, last) {
@@ -266,7 +266,7 @@ fn forget_(here: &Here<'_>, forget: Forget, next: usize) -> Onward
 
 /// The end of a method that ought to have given something.
 fn stop(place: Place) -> Onward
-    ensures { (says : BreachModel → FindingParts) (row : List LeafModel)
+    ensures { (says : BreachModel → FindingModel) (row : List LeafModel)
         → onward_model says result row ≡ Fails (says (record { place = place; reason = reasons.NoResult })) }
 {
     Onward::Found(Breach::at(place, Reason::NoResult))

@@ -6,7 +6,7 @@ ghost use Rattle.flow.specs.Lowering.{graph_of};
 ghost use Rattle.program.specs.Methods.{method_model};
 ghost use Rattle.rules.specs.Outcomes.{Goes};
 ghost use Rattle.rules.specs.Programs.{model_of};
-ghost use Rattle.rules.specs.Rows.{leaves_of};
+ghost use Rattle.rules.specs.Rows.{row_model};
 ghost use Rattle.rules.specs.Steps.{outcome};
 ghost use Rattle.rules.specs.Transfers as table;
 ghost use Rattle.rules.specs.Transfers.{allows, transferred};
@@ -35,7 +35,7 @@ pub enum Transfer {
 impl Transfer {
     /// Whether a row passes the checks of the transfer.
     pub fn allows(self, row: &Row) -> bool
-        ensures { result ≡ allows self (leaves_of row.now) }
+        ensures { result ≡ allows self (row_model row.now) }
     {
         match self {
             Transfer::Use(variable) | Transfer::Delete(variable) => row.owns(variable),
@@ -46,7 +46,7 @@ impl Transfer {
 
     /// Changes a row as the transfer does.
     pub fn apply(self, row: &mut Row)
-        ensures { leaves_of row.new ≡ transferred self (leaves_of row.old) }
+        ensures { row_model row.new ≡ transferred self (row_model row.old) }
     {
         match self {
             Transfer::Use(_) => {}

@@ -1,6 +1,6 @@
 -- Receipts and shelves as callers see them.
 use Rattle.std.specs.Prelude.{ℕ, map}
-use Rattle.source.specs.Findings.{finding_parts}
+use Rattle.source.specs.Findings.{finding_model}
 use Rattle.rules.specs.Programs.{model_of}
 use Rattle.analyse.specs.Tasks.{findings_of, program_of, verdict_number}
 use Rattle.analyse.specs.Verdicts.{IsMethodVerdict}
@@ -23,4 +23,4 @@ index_of receipt = receipt.pushed.index
 
 -- the findings are the verdict of its method in the program that it remembers
 abbrev pub IsJudged : Verdict → Type 0
-IsJudged verdict = ∥ IsMethodVerdict (model_of (program_of verdict)) (verdict_number verdict) (map finding_parts (findings_of verdict)) ∥₁
+IsJudged verdict = ∥ IsMethodVerdict (model_of (program_of verdict)) (verdict_number verdict) (map finding_model (findings_of verdict)) ∥₁

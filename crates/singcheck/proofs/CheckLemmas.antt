@@ -1,7 +1,7 @@
 -- From stage to stage of a check.
 use Rattle.std.proofs.Common.{◌≡◌, ℕ, List, [], ◌∷◌, map, refl, sym, subst}
 use Rattle.std.specs.Prelude.{◌≢◌, All, length, Contains, Result, Ok, Err, IfOk}
-use Rattle.source.specs.Findings.{FindingParts, finding_parts}
+use Rattle.source.specs.Findings.{FindingModel, finding_model}
 use Rattle.source.specs.declared.finding.Finding.{Finding}
 use Rattle.source.specs.declared.fault.Memory.{Memory}
 use Rattle.tree.specs.Trees.{ItemTree}
@@ -24,21 +24,21 @@ use Rattle.singcheck.proofs.JudgeLemmas.{none_of}
 use Rattle.singcheck.proofs.StageLemmas.{unsound}
 
 -- the report of the findings of a text
-pub reported_is : (text bytes : List ℕ) (status : Status) (found : List FindingParts) → AreCheckFindings text found → IsReport found bytes → status ≡ Found → Checks text bytes status
+pub reported_is : (text bytes : List ℕ) (status : Status) (found : List FindingModel) → AreCheckFindings text found → IsReport found bytes → status ≡ Found → Checks text bytes status
 reported_is text bytes status found are told is = subst (Checks text bytes) (sym is) (record { found = found; are = are; told = told })
 
 -- the same of what a call answers
-pub reported_ok : (text : List ℕ) (found : List FindingParts) → AreCheckFindings text found → (result : Result Report Memory) → IfOk result (λ r. IsReport found r.bytes.items) → IfOk result (λ r. r.status ≡ Found)
+pub reported_ok : (text : List ℕ) (found : List FindingModel) → AreCheckFindings text found → (result : Result Report Memory) → IfOk result (λ r. IsReport found r.bytes.items) → IfOk result (λ r. r.status ≡ Found)
     → IfOk result (λ r. Checks text r.bytes.items r.status)
 reported_ok text found are (Ok r) told is = reported_is text r.bytes.items r.status found are told is
 reported_ok text found are (Err fault) told is = tt
 
 -- what is wrong with the contracts of a text
-pub unsound_named : (text : List ℕ) (items : List ItemTree) (p : ProgramModel) (found : List FindingParts) → HasNames text items p → AreBroken p.contracts found → AreFindings text found
+pub unsound_named : (text : List ℕ) (items : List ItemTree) (p : ProgramModel) (found : List FindingModel) → HasNames text items p → AreBroken p.contracts found → AreFindings text found
 unsound_named text items p found names broken = unsound text p.contracts found (record { items = items; parsed = names.parsed; clean = names.clean; are = names.contracts }) broken
 
 -- what is wrong with the contracts of a text
-pub broken_findings : (text : List ℕ) (contracts : List ContractModel) (found : List FindingParts) → AreBrokenOf text contracts found → AreFindings text found
+pub broken_findings : (text : List ℕ) (contracts : List ContractModel) (found : List FindingModel) → AreBrokenOf text contracts found → AreFindings text found
 broken_findings text contracts found are = unsound text contracts found are.resolved are.broken
 
 -- where they are sound, this is the program of the text
@@ -52,37 +52,37 @@ has_program text items p names sound = record {
 }
 
 -- what is found in its methods
-pub misowned : (text : List ℕ) (p : ProgramModel) (found : List Finding) → HasProgram text p → found ≢ [] → AreExactly (IsWrong p) (map finding_parts found) → AreCheckFindings text (map finding_parts found)
+pub misowned : (text : List ℕ) (p : ProgramModel) (found : List Finding) → HasProgram text p → found ≢ [] → AreExactly (IsWrong p) (map finding_model found) → AreCheckFindings text (map finding_model found)
 misowned text p found has some are = OfMethods (record { program = p; has = has; some = none_mapped found some; are = are })
   where
-    none_mapped : (found : List Finding) → found ≢ [] → map finding_parts found ≢ []
+    none_mapped : (found : List Finding) → found ≢ [] → map finding_model found ≢ []
     none_mapped [] h = λ _. h refl
     none_mapped (x ∷ xs) h = λ e. absurd (cc)
 
 -- the report of what is found in the methods is that of each text that comes to them
-pub reported_methods : (p : ProgramModel) (found : List Finding) → found ≢ [] → AreExactly (IsWrong p) (map finding_parts found) → (result : Result Report Memory) → IfOk result (λ r. IsReport (map finding_parts found) r.bytes.items)
+pub reported_methods : (p : ProgramModel) (found : List Finding) → found ≢ [] → AreExactly (IsWrong p) (map finding_model found) → (result : Result Report Memory) → IfOk result (λ r. IsReport (map finding_model found) r.bytes.items)
     → IfOk result (λ r. r.status ≡ Found) → IfOk result (λ r. (text : List ℕ) → HasProgram text p → Checks text r.bytes.items r.status)
-reported_methods p found some are (Ok r) told is = λ text has. reported_is text r.bytes.items r.status (map finding_parts found) (misowned text p found has some are) told is
+reported_methods p found some are (Ok r) told is = λ text has. reported_is text r.bytes.items r.status (map finding_model found) (misowned text p found has some are) told is
 reported_methods p found some are (Err fault) told is = tt
 
 -- nothing is found in its methods
-pub clear_is : (text bytes : List ℕ) (p : ProgramModel) (found : List Finding) → HasProgram text p → found ≡ [] → AreExactly (IsWrong p) (map finding_parts found) → bytes ≡ clear_line (length p.contracts) (length p.methods) → Checks text bytes Empty
+pub clear_is : (text bytes : List ℕ) (p : ProgramModel) (found : List Finding) → HasProgram text p → found ≡ [] → AreExactly (IsWrong p) (map finding_model found) → bytes ≡ clear_line (length p.contracts) (length p.methods) → Checks text bytes Empty
 clear_is text bytes p found has none are is = record {
   program = p;
   has = has;
-  none = λ f w. none_of f (subst (λ l. Contains (map finding_parts l) f) none (are.all f w));
+  none = λ f w. none_of f (subst (λ l. Contains (map finding_model l) f) none (are.all f w));
   are = is;
 }
 
 -- what `clear` answers for such a program
-pub clear_ok : (p : ProgramModel) (found : List Finding) → found ≡ [] → AreExactly (IsWrong p) (map finding_parts found) → (result : Result Report Memory) → IfOk result (λ r. r.bytes.items ≡ clear_line (length p.contracts) (length p.methods)) → IfOk result (λ r. r.status ≡ Empty)
+pub clear_ok : (p : ProgramModel) (found : List Finding) → found ≡ [] → AreExactly (IsWrong p) (map finding_model found) → (result : Result Report Memory) → IfOk result (λ r. r.bytes.items ≡ clear_line (length p.contracts) (length p.methods)) → IfOk result (λ r. r.status ≡ Empty)
     → IfOk result (λ r. (text : List ℕ) → HasProgram text p → Checks text r.bytes.items r.status)
 clear_ok p found none are (Ok r) bytes is = λ text has. subst (Checks text r.bytes.items) (sym is) (clear_is text r.bytes.items p found has none are bytes)
 clear_ok p found none are (Err fault) bytes is = tt
 
 -- what a text comes to, from what its names and its contracts come to
 pub built_of : (text : List ℕ) (items : List ItemTree) (p : ProgramModel) → AreNamed text items p → (b : Built) → IsBuilt p b → IsBuiltIn text b
-built_of text items p named (built.Broken methods findings) is = subst (λ l. AreBrokenOf text l (map finding_parts findings.items)) (sym is.0) (record {
+built_of text items p named (built.Broken methods findings) is = subst (λ l. AreBrokenOf text l (map finding_model findings.items)) (sym is.0) (record {
   resolved = record { items = items; parsed = named.names.parsed; clean = named.names.clean; are = named.names.contracts };
   whole = named.whole;
   room = named.room;

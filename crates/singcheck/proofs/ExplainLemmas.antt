@@ -8,7 +8,7 @@ use Rattle.std.proofs.lemmas.List.{length-map, take_all, take_more}
 use Rattle.std.proofs.lemmas.List.Concat.{flat_map-cons}
 use Rattle.std.proofs.lemmas.List.Folds.{flat_map-map}
 use Rattle.std.proofs.lemmas.List.Elements.{All-cons, All-contains, All-contains_itself, All-map, All-nil, All-weaker, Contains-append_left, Contains-push}
-use Rattle.source.specs.Findings.{FindingParts, finding_parts}
+use Rattle.source.specs.Findings.{FindingModel, finding_model}
 use Rattle.source.specs.declared.fault.Memory.{Memory}
 use Rattle.source.specs.declared.place.Place.{Place}
 use Rattle.contracts.specs.Conditions.{AreExactly}
@@ -35,23 +35,23 @@ use Rattle.contracts.proofs.PartLemmas.{contains_map}
 use Rattle.singcheck.proofs.JudgeLemmas.{none_of}
 use Rattle.singcheck.proofs.StageLemmas.{unsound}
 
-explained_view : (xs : List Explained) → map (λ (e : ExplainedModel). e.finding) (map explained_model xs) ≡ map (λ (e : Explained). finding_parts e.finding) xs
+explained_view : (xs : List Explained) → map (λ (e : ExplainedModel). e.finding) (map explained_model xs) ≡ map (λ (e : Explained). finding_model e.finding) xs
 explained_view [] = refl
-explained_view (x ∷ xs) = ap (λ l. finding_parts x.finding ∷ l) (explained_view xs)
+explained_view (x ∷ xs) = ap (λ l. finding_model x.finding ∷ l) (explained_view xs)
 
 -- a finding without lines
-abbrev bare : FindingParts → ExplainedModel
+abbrev bare : FindingModel → ExplainedModel
 bare f = record { finding = f; lines = [] }
 
-bare_view : (fs : List FindingParts) → map (λ (e : ExplainedModel). e.finding) (map bare fs) ≡ fs
+bare_view : (fs : List FindingModel) → map (λ (e : ExplainedModel). e.finding) (map bare fs) ≡ fs
 bare_view [] = refl
 bare_view (f ∷ fs) = ap (λ l. f ∷ l) (bare_view fs)
 
-bare_lines : (fs : List FindingParts) → flat_map explained_lines (map bare fs) ≡ flat_map finding_line fs
-bare_lines fs = flat_map-map explained_lines bare fs ∙ ap (λ (each : FindingParts → List ℕ). flat_map each fs) (λ i f. append-nil (finding_line f) i)
+bare_lines : (fs : List FindingModel) → flat_map explained_lines (map bare fs) ≡ flat_map finding_line fs
+bare_lines fs = flat_map-map explained_lines bare fs ∙ ap (λ (each : FindingModel → List ℕ). flat_map each fs) (λ i f. append-nil (finding_line f) i)
 
 -- the report of what is wrong before the methods
-pub explains_before : (named : Option Place) (text : List ℕ) (found : List FindingParts) → AreFindings text found → (result : Result Report Memory) → IfOk result (λ r. IsReport found r.bytes.items) → IfOk result (λ r. r.status ≡ Found)
+pub explains_before : (named : Option Place) (text : List ℕ) (found : List FindingModel) → AreFindings text found → (result : Result Report Memory) → IfOk result (λ r. IsReport found r.bytes.items) → IfOk result (λ r. r.status ≡ Found)
     → IfOk result (λ r. Explains named text r.bytes.items r.status)
 explains_before named text found are (Ok r) told is = subst (Explains named text r.bytes.items) (sym is) (inl (record {
   found = found;
@@ -66,13 +66,13 @@ explains_before named text found are (Err fault) told is = tt
 
 -- all that the first stage with findings finds, in order
 pub explains_noted : (named : Option Place) (text bytes : List ℕ) (found listed : List Explained) → AreExplained named text (map explained_model found)
-    → ((f : FindingParts) → Contains (map (λ e. finding_parts e.finding) listed) f ↔ Contains (map (λ e. finding_parts e.finding) found) f) → ((e : Explained) → Contains listed e → Contains found e) → IsStrictlySortedBy report_cmp (map (λ e. finding_parts e.finding) listed)
+    → ((f : FindingModel) → Contains (map (λ e. finding_model e.finding) listed) f ↔ Contains (map (λ e. finding_model e.finding) found) f) → ((e : Explained) → Contains listed e → Contains found e) → IsStrictlySortedBy report_cmp (map (λ e. finding_model e.finding) listed)
     → bytes ≡ explained_bytes (map explained_model listed) → Explains named text bytes Found
 explains_noted named text bytes found listed all same among ordered bytes_are = inl (record {
-  found = map (λ e. finding_parts e.finding) found;
+  found = map (λ e. finding_model e.finding) found;
   are = subst (AreFindings text) (explained_view found) all.are;
   listed = map explained_model listed;
-  same = subst (AreExactly (Contains (map (λ (e : Explained). finding_parts e.finding) found))) (sym (explained_view listed)) (record { right = λ f h. (same f).0 h; all = λ f h. (same f).1 h });
+  same = subst (AreExactly (Contains (map (λ (e : Explained). finding_model e.finding) found))) (sym (explained_view listed)) (record { right = λ f h. (same f).0 h; all = λ f h. (same f).1 h });
   each = All-map (IsNoted named text) explained_model listed
       (All-weaker (Contains listed) (λ (e : Explained). IsNoted named text (explained_model e)) (λ e h. All-contains (λ (x : ExplainedModel). IsNoted named text x) (map explained_model found) (explained_model e) all.each (contains_map explained_model found e (among e h))) listed (All-contains_itself listed));
   ordered = subst (IsStrictlySortedBy report_cmp) (sym (explained_view listed)) ordered;
@@ -96,7 +96,7 @@ fault_explained named text e is = record {
 }
 
 -- all mistakes in the names of the text
-pub names_explained : (named : Option Place) (text : List ℕ) (items : List ItemTree) (found : List Explained) → IsProgram text items → map (λ e. finding_parts e.finding) found ≡ program_findings (record { text = text; items = items })
+pub names_explained : (named : Option Place) (text : List ℕ) (items : List ItemTree) (found : List Explained) → IsProgram text items → map (λ e. finding_model e.finding) found ≡ program_findings (record { text = text; items = items })
     → All (λ e. IsMistake named (record { text = text; items = items }) (explained_model e)) found → IsExplainedText named text (map explained_model found)
 names_explained named text items found parsed all each = λ some. record {
   are = OfNames (record {
@@ -108,36 +108,36 @@ names_explained named text items found parsed all each = λ some. record {
   each = All-map (IsNoted named text) explained_model found (All-weaker (λ (e : Explained). IsMistake named (record { text = text; items = items }) (explained_model e)) (λ (e : Explained). IsNoted named text (explained_model e)) (λ e h. ByMistake (record { items = items; parsed = parsed; is = h })) found each);
 }
   where
-    no_view : (xs : List Explained) → map (λ (e : Explained). finding_parts e.finding) xs ≡ [] → map explained_model xs ≡ []
+    no_view : (xs : List Explained) → map (λ (e : Explained). finding_model e.finding) xs ≡ [] → map explained_model xs ≡ []
     no_view [] none = refl
     no_view (x ∷ xs) none = cc
 
 -- what is wrong with contracts, with the edges that show it
-pub contracts_explained : (named : Option Place) (text : List ℕ) (contracts : List ContractModel) (some : List FindingParts) (found : List Explained) → AreBrokenOf text contracts some → AreExactly (IsBroken contracts) (map (λ e. finding_parts e.finding) found)
+pub contracts_explained : (named : Option Place) (text : List ℕ) (contracts : List ContractModel) (some : List FindingModel) (found : List Explained) → AreBrokenOf text contracts some → AreExactly (IsBroken contracts) (map (λ e. finding_model e.finding) found)
     → All (λ e. IsShownIn named contracts (explained_model e)) found → AreExplained named text (map explained_model found)
 contracts_explained named text contracts some found is are each = record {
-  are = subst (AreFindings text) (sym (explained_view found)) (unsound text contracts (map (λ e. finding_parts e.finding) found) is.resolved (record { some = some_found some found is.broken.some is.broken.are are; are = are }));
+  are = subst (AreFindings text) (sym (explained_view found)) (unsound text contracts (map (λ e. finding_model e.finding) found) is.resolved (record { some = some_found some found is.broken.some is.broken.are are; are = are }));
   each = All-map (IsNoted named text) explained_model found (All-weaker (λ (e : Explained). IsShownIn named contracts (explained_model e)) (λ (e : Explained). IsNoted named text (explained_model e)) (λ e h. ByContract contracts is.resolved h) found each);
 }
   where
-    some_found : (fs : List FindingParts) (es : List Explained) → fs ≢ [] → AreExactly (IsBroken contracts) fs → AreExactly (IsBroken contracts) (map (λ (e : Explained). finding_parts e.finding) es) → map (λ (e : Explained). finding_parts e.finding) es ≢ []
+    some_found : (fs : List FindingModel) (es : List Explained) → fs ≢ [] → AreExactly (IsBroken contracts) fs → AreExactly (IsBroken contracts) (map (λ (e : Explained). finding_model e.finding) es) → map (λ (e : Explained). finding_model e.finding) es ≢ []
     some_found [] es none left right = absurd (none refl)
     some_found (f ∷ fs) es none left right = λ e. none_of f (subst (λ l. Contains l f) e (right.all f (left.right f (Contains-append_left (f ∷ []) fs f (Contains-push [] f)))))
 
 -- nothing is found
-pub explains_clear : (named : Option Place) (p : ProgramModel) (found : List Explained) → found ≡ [] → AreExactly (IsWrong p) (map (λ e. finding_parts e.finding) found) → (result : Result Report Memory) → IfOk result (λ r. r.bytes.items ≡ clear_line (length p.contracts) (length p.methods)) → IfOk result (λ r. r.status ≡ Empty)
+pub explains_clear : (named : Option Place) (p : ProgramModel) (found : List Explained) → found ≡ [] → AreExactly (IsWrong p) (map (λ e. finding_model e.finding) found) → (result : Result Report Memory) → IfOk result (λ r. r.bytes.items ≡ clear_line (length p.contracts) (length p.methods)) → IfOk result (λ r. r.status ≡ Empty)
     → IfOk result (λ r. (text : List ℕ) → HasProgram text p → Explains named text r.bytes.items r.status)
 explains_clear named p found none are (Ok r) bytes is = λ text has. subst (Explains named text r.bytes.items) (sym is) (record {
   program = p;
   has = has;
-  none = λ f w. none_of f (subst (λ l. Contains (map (λ e. finding_parts e.finding) l) f) none (are.all f w));
+  none = λ f w. none_of f (subst (λ l. Contains (map (λ e. finding_model e.finding) l) f) none (are.all f w));
   are = bytes;
 })
 explains_clear named p found none are (Err fault) bytes is = tt
 
 -- something is: all of it, in order, each with its trace
-pub explains_reasons : (named : Option Place) (text bytes : List ℕ) (p : ProgramModel) (found listed : List Explained) → HasProgram text p → found ≢ [] → AreExactly (IsWrong p) (map (λ e. finding_parts e.finding) found) → All (λ e. IsExplainedIn named p (explained_model e)) found
-    → ((f : FindingParts) → Contains (map (λ e. finding_parts e.finding) listed) f ↔ Contains (map (λ e. finding_parts e.finding) found) f) → ((e : Explained) → Contains listed e → Contains found e) → IsStrictlySortedBy report_cmp (map (λ e. finding_parts e.finding) listed)
+pub explains_reasons : (named : Option Place) (text bytes : List ℕ) (p : ProgramModel) (found listed : List Explained) → HasProgram text p → found ≢ [] → AreExactly (IsWrong p) (map (λ e. finding_model e.finding) found) → All (λ e. IsExplainedIn named p (explained_model e)) found
+    → ((f : FindingModel) → Contains (map (λ e. finding_model e.finding) listed) f ↔ Contains (map (λ e. finding_model e.finding) found) f) → ((e : Explained) → Contains listed e → Contains found e) → IsStrictlySortedBy report_cmp (map (λ e. finding_model e.finding) listed)
     → bytes ≡ explained_bytes (map explained_model listed) → Explains named text bytes Found
 explains_reasons named text bytes p found listed has some are each same among ordered is = inr (record {
   program = p;
@@ -155,9 +155,9 @@ explains_reasons named text bytes p found listed has some are each same among or
     no_mapped [] e = refl
     no_mapped (x ∷ xs) e = cc
 
-    all_gone : (xs ys : List Explained) → ys ≡ [] → ((f : FindingParts) → Contains (map (λ (e : Explained). finding_parts e.finding) ys) f ↔ Contains (map (λ (e : Explained). finding_parts e.finding) xs) f) → xs ≡ []
+    all_gone : (xs ys : List Explained) → ys ≡ [] → ((f : FindingModel) → Contains (map (λ (e : Explained). finding_model e.finding) ys) f ↔ Contains (map (λ (e : Explained). finding_model e.finding) xs) f) → xs ≡ []
     all_gone [] ys none alike = refl
-    all_gone (x ∷ xs) ys none alike = absurd (none_of (finding_parts x.finding) (subst (λ l. Contains (map (λ (e : Explained). finding_parts e.finding) l) (finding_parts x.finding)) none ((alike (finding_parts x.finding)).1 (Contains-append_left (finding_parts x.finding ∷ []) (map (λ (e : Explained). finding_parts e.finding) xs) (finding_parts x.finding) (Contains-push [] (finding_parts x.finding))))))
+    all_gone (x ∷ xs) ys none alike = absurd (none_of (finding_model x.finding) (subst (λ l. Contains (map (λ (e : Explained). finding_model e.finding) l) (finding_model x.finding)) none ((alike (finding_model x.finding)).1 (Contains-append_left (finding_model x.finding ∷ []) (map (λ (e : Explained). finding_model e.finding) xs) (finding_model x.finding) (Contains-push [] (finding_model x.finding))))))
 
 pub no_explained : (found : List Explained) → length found ≡ 0 → found ≡ []
 no_explained [] e = refl

@@ -3,7 +3,7 @@ use Rattle.std.proofs.Common.{◌≡◌, ℕ, zero, suc, ◌+◌, ◌<◌, List,
 use Rattle.std.specs.Prelude.{All, Contains, slice_get, ◌≢◌}
 use Rattle.std.proofs.lemmas.List.{map-append}
 use Rattle.std.proofs.lemmas.List.Elements.{Contains-append_left, Contains-append_right, Contains-append_cases, Contains-get_or, Contains-push, Contains-push_cases}
-use Rattle.source.specs.Findings.{FindingParts, finding_parts}
+use Rattle.source.specs.Findings.{FindingModel, finding_model}
 use Rattle.source.specs.declared.finding.Finding.{Finding}
 use Rattle.program.specs.Parts.{Parts, contract_parts, ContractModel, contract_model}
 use Rattle.program.specs.declared.contract.Contract.{Contract}
@@ -33,17 +33,17 @@ keeps_is c parts old new sound same is its e f = Keeps (record {
 })
 
 -- all that is wrong with a contract was added
-pub adds_is : (c : ContractModel) (some parts : Parts) (old new : Judging) → c.parts ≡ some → c.parts ≡ parts → (f : FindingParts) × conditions.IsFault some f → AddsAll parts old.findings.items new.findings.items → Judges c old new
+pub adds_is : (c : ContractModel) (some parts : Parts) (old new : Judging) → c.parts ≡ some → c.parts ≡ parts → (f : FindingModel) × conditions.IsFault some f → AddsAll parts old.findings.items new.findings.items → Judges c old new
 adds_is c some parts old new first same broken all = Adds (record {
   broken = (broken.0, subst (λ p. conditions.IsFault p broken.0) (sym first) broken.1);
   all = subst (λ p. AddsAll p old.findings.items new.findings.items) (sym same) all;
 })
 
-pub none_of : (f : FindingParts) → Contains [] f → ⊥
+pub none_of : (f : FindingModel) → Contains [] f → ⊥
 none_of f c = let below = c.1 in omega arith
 
 -- what is wrong with some contracts, and with one more
-pub broken_more : (contracts : List ContractModel) (c : ContractModel) (old more new : List FindingParts) → AreExactly (IsBroken contracts) old → AreExactly (conditions.IsFault c.parts) more → new ≡ old ++ more → AreExactly (IsBroken (contracts ++ c ∷ [])) new
+pub broken_more : (contracts : List ContractModel) (c : ContractModel) (old more new : List FindingModel) → AreExactly (IsBroken contracts) old → AreExactly (conditions.IsFault c.parts) more → new ≡ old ++ more → AreExactly (IsBroken (contracts ++ c ∷ [])) new
 broken_more contracts c old more new so_far here added = record {
   right = λ f h. ⊎_elim
       (λ earlier. let r = so_far.right f earlier in (r.0, Contains-append_left contracts (c ∷ []) r.0 r.1, r.2))
@@ -60,9 +60,9 @@ pub judged_more : (contracts : List ContractModel) (c : ContractModel) (old new 
 judged_more contracts c old new so_far (Keeps k) = record {
   exactly = record {
     right = λ f h.
-        let r = so_far.exactly.right f (subst (λ l. Contains (map finding_parts l) f) k.same h) in
+        let r = so_far.exactly.right f (subst (λ l. Contains (map finding_model l) f) k.same h) in
         (r.0, Contains-append_left contracts (c ∷ []) r.0 r.1, r.2);
-    all = λ f b. subst (λ l. Contains (map finding_parts l) f) (sym k.same) (⊎_elim
+    all = λ f b. subst (λ l. Contains (map finding_model l) f) (sym k.same) (⊎_elim
         (λ h. so_far.exactly.all f (b.0, h, b.2))
         (λ e. absurd (k.sound f (subst (λ x. conditions.IsFault x.parts f) (sym e) b.2)))
         (Contains-push_cases contracts c b.0 b.1));
@@ -70,10 +70,10 @@ judged_more contracts c old new so_far (Keeps k) = record {
   kept = λ e. k.kept ∙ ap (λ l. l ++ c.parts ∷ []) (so_far.kept (sym k.same ∙ e)) ∙ sym (map-append (λ (x : ContractModel). x.parts) contracts (c ∷ []));
 }
 judged_more contracts c old new so_far (Adds a) =
-    let exactly = broken_more contracts c (map finding_parts old.findings.items) a.all.more (map finding_parts new.findings.items) so_far.exactly a.all.exactly a.all.added in
+    let exactly = broken_more contracts c (map finding_model old.findings.items) a.all.more (map finding_model new.findings.items) so_far.exactly a.all.exactly a.all.added in
     record {
       exactly = exactly;
-      kept = λ e. absurd (none_of a.broken.0 (subst (λ l. Contains (map finding_parts l) a.broken.0) e (exactly.all a.broken.0 (c, Contains-push contracts c, a.broken.1))));
+      kept = λ e. absurd (none_of a.broken.0 (subst (λ l. Contains (map finding_model l) a.broken.0) e (exactly.all a.broken.0 (c, Contains-push contracts c, a.broken.1))));
     }
 
 -- what stands at a place, and the contracts up to it
@@ -87,7 +87,7 @@ judged_turn all n old new lt so_far judges =
     let r = at_turn all n lt in
     rw add-one (subst (λ l. AreJudged l new) (sym r.2) (judged_more (take n all) r.0 old new so_far (judges r.0 r.1)))
 
-pub broken_turn : (all : List ContractModel) (n : ℕ) (old more new : List FindingParts) → n < length all → AreExactly (IsBroken (take n all)) old → ((c : ContractModel) → slice_get all n ≡ Some c → AreExactly (conditions.IsFault c.parts) more) → new ≡ old ++ more → AreExactly (IsBroken (take (n + 1) all)) new
+pub broken_turn : (all : List ContractModel) (n : ℕ) (old more new : List FindingModel) → n < length all → AreExactly (IsBroken (take n all)) old → ((c : ContractModel) → slice_get all n ≡ Some c → AreExactly (conditions.IsFault c.parts) more) → new ≡ old ++ more → AreExactly (IsBroken (take (n + 1) all)) new
 broken_turn all n old more new lt so_far here added =
     let r = at_turn all n lt in
     rw add-one (subst (λ l. AreExactly (IsBroken l) new) (sym r.2) (broken_more (take n all) r.0 old more new so_far (here r.0 r.1) added))
@@ -101,13 +101,13 @@ no_items [] e = refl
 no_items (x ∷ xs) e = absurd (omega (arith, e))
 
 -- where something was found, that is all that is wrong
-pub found_all : (contracts : List ContractModel) (judging : Judging) → AreJudged contracts judging → 0 < length judging.findings.items → AreBroken contracts (map finding_parts judging.findings.items)
+pub found_all : (contracts : List ContractModel) (judging : Judging) → AreJudged contracts judging → 0 < length judging.findings.items → AreBroken contracts (map finding_model judging.findings.items)
 found_all contracts judging judged some = record { some = none_mapped judging.findings.items some; are = judged.exactly }
   where
-    none_mapped : (found : List Finding) → 0 < length found → map finding_parts found ≢ []
+    none_mapped : (found : List Finding) → 0 < length found → map finding_model found ≢ []
     none_mapped [] h = λ _. absurd (omega (arith, h))
     none_mapped (x ∷ xs) h = λ e. absurd (cc)
 
 -- where nothing was found, each is sound
 pub clean_all : (contracts : List ContractModel) (judging : Judging) → AreJudged contracts judging → judging.findings.items ≡ [] → All (λ c. IsSound c.parts) contracts
-clean_all contracts judging judged none = λ k d lt f broken. none_of f (subst (λ l. Contains (map finding_parts l) f) none (judged.exactly.all f (_, Contains-get_or contracts k d lt, broken)))
+clean_all contracts judging judged none = λ k d lt f broken. none_of f (subst (λ l. Contains (map finding_model l) f) none (judged.exactly.all f (_, Contains-get_or contracts k d lt, broken)))

@@ -4,7 +4,7 @@ use Rattle.std.proofs.lemmas.Bool.{cases_lt}
 use Rattle.std.proofs.lemmas.List.{take_all}
 use Rattle.std.proofs.lemmas.List.Elements.{All-weaker}
 use Rattle.source.specs.Faults.{IsFault}
-use Rattle.source.specs.Findings.{FindingParts}
+use Rattle.source.specs.Findings.{FindingModel}
 use Rattle.source.specs.Tokens.{AreTokens}
 use Rattle.source.specs.declared.fault.TextFault.{TextFault}
 use Rattle.source.specs.declared.fault.TextFault.TheVariants.{Stray, OpenComment, TooLong, TooDeep, TooLarge, Memory}
@@ -41,7 +41,7 @@ fault_long text other (TooDeep place) long is = absurd (never MAX_TEXT (length t
 fault_long text other (TooLarge place) long is = absurd (never MAX_TEXT (length text) long.one is.0)
 fault_long text other Memory long is = absurd (never MAX_TEXT (length text) long.one is.0)
 
-findings_long : (text other : List ℕ) (found : List FindingParts) → AreLong text other → AreFindings text found → AreFindings other found
+findings_long : (text other : List ℕ) (found : List FindingModel) → AreLong text other → AreFindings text found → AreFindings other found
 findings_long text other found long (OfText is) = OfText (record { fault = is.fault; first = fault_long text other is.fault long is.first; are = is.are })
 findings_long text other found long (OfSyntax is) = no_program text long.one is.tokens is.lexed
 findings_long text other found long (OfNames is) = no_program text long.one is.parsed.tokens is.parsed.lexed
@@ -51,7 +51,7 @@ pub answers_long : (text other bytes : List ℕ) (status : Status) → AreLong t
 answers_long text other bytes Empty long told = no_program text long.one told.resolved.parsed.tokens told.resolved.parsed.lexed
 answers_long text other bytes Found long told = record { found = told.found; are = findings_long text other told.found long told.are; told = told.told }
 
-checked_long : (text other : List ℕ) (found : List FindingParts) → AreLong text other → AreCheckFindings text found → AreCheckFindings other found
+checked_long : (text other : List ℕ) (found : List FindingModel) → AreLong text other → AreCheckFindings text found → AreCheckFindings other found
 checked_long text other found long (Before is) = Before (findings_long text other found long is)
 checked_long text other found long (OfMethods is) = no_program text long.one is.has.program.parsed.tokens is.has.program.parsed.lexed
 

@@ -4,7 +4,7 @@ use Rattle.std.specs.Prelude.{All, Contains}
 use Rattle.std.proofs.lemmas.List.{map-append, take_all, take_more}
 use Rattle.std.proofs.lemmas.List.Elements.{All-nil, All-push}
 use Rattle.std.proofs.lemmas.Option.{get_or_from_slice_get, slice_get-get_or}
-use Rattle.source.specs.Findings.{finding_parts}
+use Rattle.source.specs.Findings.{finding_model}
 use Rattle.source.specs.declared.place.Place.{Place}
 use Rattle.declarations.specs.Mistakes.{finding_in}
 use Rattle.declarations.specs.Program.{Program}
@@ -17,7 +17,7 @@ use Rattle.singcheck.specs.Remarked.{IsMistake, remark_lines, remark_within}
 
 -- the first so many mistakes are explained
 pub record Remarked (named : Option Place) (p : Program) (mistakes : List Mistake) (n : ℕ) (found : List Explained) : Type 0 where
-  pub view : map (λ e. finding_parts e.finding) found ≡ map (finding_in p.text) (take n mistakes)
+  pub view : map (λ e. finding_model e.finding) found ≡ map (finding_in p.text) (take n mistakes)
   pub each : All (λ e. IsMistake named p (explained_model e)) found
 
 pub remarked_none : (named : Option Place) (p : Program) (mistakes : List Mistake) (found : List Explained) → found ≡ [] → Remarked named p mistakes 0 found
@@ -25,13 +25,13 @@ remarked_none named p mistakes [] none = record { view = refl; each = All-nil (�
 remarked_none named p mistakes (x ∷ found) none = cc
 
 pub remarked_more : (named : Option Place) (p : Program) (mistakes : List Mistake) (n : ℕ) (d : Mistake) (within : Bool) (found : List Explained) (e : Explained) → n < length mistakes → mistakes ≡ program_mistakes p
-    → finding_parts e.finding ≡ finding_in p.text (get_or mistakes n d) → map line_model e.lines.items ≡ remark_lines named e.finding.place (remark_within within p (get_or mistakes n d)) → Remarked named p mistakes n found
+    → finding_model e.finding ≡ finding_in p.text (get_or mistakes n d) → map line_model e.lines.items ≡ remark_lines named e.finding.place (remark_within within p (get_or mistakes n d)) → Remarked named p mistakes n found
     → Remarked named p mistakes (n + 1) (found ++ e ∷ [])
 remarked_more named p mistakes n d within found e lt all finding lines so =
     let says = finding_in p.text in
     let m = get_or mistakes n d in
     record {
-      view = map-append (λ (x : Explained). finding_parts x.finding) found (e ∷ []) ∙ ap (λ l. l ++ finding_parts e.finding ∷ []) so.view
+      view = map-append (λ (x : Explained). finding_model x.finding) found (e ∷ []) ∙ ap (λ l. l ++ finding_model e.finding ∷ []) so.view
           ∙ ap (λ f. map says (take n mistakes) ++ f ∷ []) finding ∙ sym (map-append says (take n mistakes) (m ∷ []))
           ∙ ap (map says) (sym (take_more mistakes n d lt));
       each = All-push (λ (x : Explained). IsMistake named p (explained_model x)) found e so.each
@@ -39,5 +39,5 @@ remarked_more named p mistakes n d within found e lt all finding lines so =
     }
 
 pub remarked_all : (named : Option Place) (p : Program) (mistakes : List Mistake) (n : ℕ) (found : List Explained) → length mistakes ≤ n → mistakes ≡ program_mistakes p → Remarked named p mistakes n found
-    → map (λ e. finding_parts e.finding) found ≡ program_findings p
+    → map (λ e. finding_model e.finding) found ≡ program_findings p
 remarked_all named p mistakes n found le all so = so.view ∙ ap (map (finding_in p.text)) (take_all n mistakes le ∙ all)

@@ -2,7 +2,7 @@
 use Rattle.std.proofs.Common.{◌≡◌, ℕ, zero, suc, Bool, true, false, List, [], ◌∷◌, take, Option, Some, None, refl, subst}
 use Rattle.std.specs.Prelude.{◌&&◌, IfSome, IsSomeAnd, not, slice_get}
 use Rattle.std.specs.Io.KnownBytes.{Appends}
-use Rattle.source.specs.Findings.{FindingParts}
+use Rattle.source.specs.Findings.{FindingModel}
 use Rattle.source.specs.declared.lexer.TheConstants.{MAX_TEXT}
 use Rattle.source.specs.declared.place.Place.{Place}
 use Rattle.program.specs.Lists.{Each}
@@ -203,7 +203,7 @@ pub record KnownOf (text : List ℕ) : Type 0 where
 -- where a check finds nothing, nothing is found in the methods
 none_found : (text : List ℕ) (p : ProgramModel) → KnownOf text → HasProgram text p → HasEmptyReport text → NothingIsFound p
 none_found text p known has empty =
-    let none = subst (λ (q : ProgramModel). (f : FindingParts) → IsWrong q f → ⊥)
+    let none = subst (λ (q : ProgramModel). (f : FindingModel) → IsWrong q f → ⊥)
     (known.one empty.1.program p empty.1.has has) empty.1.none in
     λ n lt. empty_verdict p n (λ f w. none f (n, lt, w))
 

@@ -1,7 +1,7 @@
 -- Why an empty report is safe.
 use Rattle.std.proofs.Common.{◌≡◌, ℕ, List, [], map, take, Option, Some, None, refl, sym, subst, inl, ◌∙◌}
 use Rattle.std.specs.Prelude.{Contains, Err, IfOk, IfSome, Ok, Result}
-use Rattle.source.specs.Findings.{FindingParts, finding_parts}
+use Rattle.source.specs.Findings.{FindingModel, finding_model}
 use Rattle.source.specs.declared.fault.Memory.{Memory}
 use Rattle.source.specs.declared.finding.Finding.{Finding}
 use Rattle.source.specs.declared.lexer.TheConstants.{MAX_TEXT}
@@ -20,15 +20,15 @@ use Rattle.singcheck.proofs.JudgeLemmas.{none_of}
 use Rattle.singcheck.proofs.LongLemmas.{no_program, of_front}
 
 -- where no finding is found in a method, that is its verdict
-pub empty_verdict : (p : ProgramModel) (n : ℕ) → ((f : FindingParts) → IsFoundIn p n f → ⊥) → IsMethodVerdict p n []
+pub empty_verdict : (p : ProgramModel) (n : ℕ) → ((f : FindingModel) → IsFoundIn p n f → ⊥) → IsMethodVerdict p n []
 empty_verdict p n none = record {
   exactly = λ f. (λ h. absurd (none_of f h), λ w. absurd (none f w));
   once = λ many. absurd (none (too_many_pairs (place_of_method p n)) (inl (many, refl)));
 }
 
 -- where all that is wrong is nothing, nothing is found in any method
-pub nothing_found : (p : ProgramModel) (found : List Finding) → found ≡ [] → AreExactly (IsWrong p) (map finding_parts found) → NothingIsFound p
-nothing_found p found none are = λ n lt. empty_verdict p n (λ f w. none_of f (subst (λ l. Contains (map finding_parts l) f) none (are.all f (n, lt, w))))
+pub nothing_found : (p : ProgramModel) (found : List Finding) → found ≡ [] → AreExactly (IsWrong p) (map finding_model found) → NothingIsFound p
+nothing_found p found none are = λ n lt. empty_verdict p n (λ f w. none_of f (subst (λ l. Contains (map finding_model l) f) none (are.all f (n, lt, w))))
 
 -- the text of a program in which nothing is wrong is safe
 pub safe_text : (text : List ℕ) (p : ProgramModel) → ((q : ProgramModel) → HasProgram text q → p ≡ q) → NothingIsFound p → AreCleanSafe p → IsSafeText text

@@ -2,7 +2,7 @@
 use Rattle.std.proofs.Common.{◌≡◌, ℕ, List, [], ◌∷◌, map, refl, subst}
 use Rattle.std.specs.Prelude.{◌≢◌, Vec}
 use Rattle.std.specs.Global.{Global}
-use Rattle.source.specs.Findings.{FindingParts, finding_parts}
+use Rattle.source.specs.Findings.{FindingModel, finding_model}
 use Rattle.source.specs.declared.finding.Finding.{Finding}
 use Rattle.tree.specs.Trees.{ItemTree}
 use Rattle.program.specs.Parts.{ContractModel}
@@ -18,7 +18,7 @@ pub explained : (p : Program) (fault : NameFaults) (found : Vec Finding Global) 
 explained p fault found e told = subst (Explains p) e told
 
 -- what is wrong with its names
-pub misnamed : (text : List ℕ) (items : List ItemTree) (found : List Finding) → IsProgram text items → AreAll (record { text = text; items = items }) found → AreFindings text (map finding_parts found)
+pub misnamed : (text : List ℕ) (items : List ItemTree) (found : List Finding) → IsProgram text items → AreAll (record { text = text; items = items }) found → AreFindings text (map finding_model found)
 misnamed text items found parsed all = OfNames (record {
   items = items;
   parsed = parsed;
@@ -29,10 +29,10 @@ misnamed text items found parsed all = OfNames (record {
   };
 })
   where
-    none_mapped : (found : List Finding) → found ≢ [] → map finding_parts found ≢ []
+    none_mapped : (found : List Finding) → found ≢ [] → map finding_model found ≢ []
     none_mapped [] h = λ _. h refl
     none_mapped (x ∷ xs) h = λ e. absurd (cc)
 
 -- what is wrong with its contracts
-pub unsound : (text : List ℕ) (contracts : List ContractModel) (found : List FindingParts) → IsResolved text contracts → AreBroken contracts found → AreFindings text found
+pub unsound : (text : List ℕ) (contracts : List ContractModel) (found : List FindingModel) → IsResolved text contracts → AreBroken contracts found → AreFindings text found
 unsound text contracts found resolved broken = OfContracts (record { contracts = contracts; resolved = resolved; some = broken.some; are = broken.are })

@@ -5,7 +5,7 @@ use Rattle.std.proofs.Math.Nat.{eq-or-lt_of_le}
 use Rattle.std.proofs.lemmas.Bool.{eqb-true, eqb-false}
 use Rattle.std.proofs.lemmas.List.Elements.{Contains-append_left, Contains-append_right, Contains-append_cases, Contains-push, Contains-push_cases}
 use Rattle.std.proofs.lemmas.List.Sums.{sum_by-cons}
-use Rattle.source.specs.Findings.{FindingParts, finding_parts}
+use Rattle.source.specs.Findings.{FindingModel, finding_model}
 use Rattle.source.specs.declared.finding.Finding.{Finding}
 use Rattle.contracts.specs.Conditions.{AreExactly}
 use Rattle.program.specs.Programs.{ProgramModel}
@@ -21,11 +21,11 @@ use Rattle.singcheck.specs.Verdicts.{AddsVerdict, AreOfMethods, HasVerdict, IsPu
 use Rattle.singcheck.proofs.one_answer.SameLemmas.{nothing_in}
 
 -- a verdict is all that is found in its method
-pub verdict_exactly : (p : ProgramModel) (n : ℕ) (found : List FindingParts) → IsMethodVerdict p n found → AreExactly (IsFoundIn p n) found
+pub verdict_exactly : (p : ProgramModel) (n : ℕ) (found : List FindingModel) → IsMethodVerdict p n found → AreExactly (IsFoundIn p n) found
 verdict_exactly p n found verdict = record { right = λ f h. (verdict.exactly f).0 h; all = λ f w. (verdict.exactly f).1 w }
 
 -- one more method
-pub of_methods_then : (p : ProgramModel) (methods : List ℕ) (n : ℕ) (old more new : List FindingParts) → AreOfMethods p methods old → AreExactly (IsFoundIn p n) more → new ≡ old ++ more → AreOfMethods p (methods ++ n ∷ []) new
+pub of_methods_then : (p : ProgramModel) (methods : List ℕ) (n : ℕ) (old more new : List FindingModel) → AreOfMethods p methods old → AreExactly (IsFoundIn p n) more → new ≡ old ++ more → AreOfMethods p (methods ++ n ∷ []) new
 of_methods_then p methods n old more new so_far exactly added = record {
   right = λ f h. ⊎_elim
       (λ earlier. let r = so_far.right f earlier in (r.0, Contains-append_left methods (n ∷ []) r.0 r.1, r.2))
@@ -34,14 +34,14 @@ of_methods_then p methods n old more new so_far exactly added = record {
   all = λ f w. subst (λ l. Contains l f) (sym added) (which f w);
 }
   where
-    which : (f : FindingParts) → IsWrongAmong p (methods ++ n ∷ []) f → Contains (old ++ more) f
+    which : (f : FindingModel) → IsWrongAmong p (methods ++ n ∷ []) f → Contains (old ++ more) f
     which f w = ⊎_elim
         (λ earlier. Contains-append_left old more f (so_far.all f (w.0, earlier, w.2)))
         (λ (same : n ≡ w.0). Contains-append_right old more f (exactly.all f (subst (λ k. IsFoundIn p k f) (sym same) w.2)))
         (Contains-push_cases methods n w.0 w.1)
 
-pub of_methods_more : (p : ProgramModel) (methods : List ℕ) (n : ℕ) (old new : List Finding) → AreOfMethods p methods (map finding_parts old) → AddsVerdict p n old new → AreOfMethods p (methods ++ n ∷ []) (map finding_parts new)
-of_methods_more p methods n old new so_far adds = of_methods_then p methods n (map finding_parts old) adds.more (map finding_parts new) so_far adds.exactly adds.added
+pub of_methods_more : (p : ProgramModel) (methods : List ℕ) (n : ℕ) (old new : List Finding) → AreOfMethods p methods (map finding_model old) → AddsVerdict p n old new → AreOfMethods p (methods ++ n ∷ []) (map finding_model new)
+of_methods_more p methods n old new so_far adds = of_methods_then p methods n (map finding_model old) adds.more (map finding_model new) so_far adds.exactly adds.added
 
 -- no method yet
 pub of_no_methods : (p : ProgramModel) → AreOfMethods p [] []
@@ -87,7 +87,7 @@ below_of (suc n) k h = ⊎_elim
     (Contains-push_cases (numbers_below n) n k h)
 
 -- all methods, each as often as there is a task for it
-pub of_all_methods : (p : ProgramModel) (methods : List ℕ) (found : List FindingParts) → ((n : ℕ) → times n methods ≡ times n (numbers_below (length p.methods))) → AreOfMethods p methods found → AreExactly (IsWrong p) found
+pub of_all_methods : (p : ProgramModel) (methods : List ℕ) (found : List FindingModel) → ((n : ℕ) → times n methods ≡ times n (numbers_below (length p.methods))) → AreOfMethods p methods found → AreExactly (IsWrong p) found
 of_all_methods p methods found each of = record {
   right = λ f h. let r = of.right f h in
       let some = times_of r.0 methods r.1 in

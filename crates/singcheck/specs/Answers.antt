@@ -3,7 +3,7 @@
 use Rattle.std.specs.Prelude.{◌≡◌, ◌≢◌, ℕ, List, [], ◌∷◌, ◌++◌, length, All, Contains, Option, Some, None, slice_get, codes}
 use Rattle.std.specs.List.{AllZip, concat}
 use Rattle.source.specs.Faults.{IsFault}
-use Rattle.source.specs.Findings.{FindingParts}
+use Rattle.source.specs.Findings.{FindingModel}
 use Rattle.source.specs.Marks.{body_of}
 use Rattle.source.specs.Places.{first_place, place_of}
 use Rattle.source.specs.Tokens.{AreTokens}
@@ -28,7 +28,7 @@ use Rattle.singcheck.specs.Lines.{bounds_line, ok_line}
 use Rattle.singcheck.specs.Reports.{IsReport}
 
 -- the finding that a fault of a text is; want of memory is none
-abbrev pub fault_findings : TextFault → List FindingParts
+abbrev pub fault_findings : TextFault → List FindingModel
 fault_findings (faults.Stray place) = record { place = place; code = S01; text = codes "stray byte" } ∷ []
 fault_findings (faults.OpenComment place) = record { place = place; code = S02; text = codes "comment not closed" } ∷ []
 fault_findings faults.TooLong = record { place = first_place; code = S03; text = codes "text too long" } ∷ []
@@ -37,18 +37,18 @@ fault_findings (faults.TooLarge place) = record { place = place; code = S06; tex
 fault_findings faults.Memory = []
 
 -- the text has a fault: its finding
-pub record IsFaulty (text : List ℕ) (found : List FindingParts) : Type 0 where
+pub record IsFaulty (text : List ℕ) (found : List FindingModel) : Type 0 where
   pub fault : TextFault
   pub first : IsFault text fault
   pub are : found ≡ fault_findings fault
 
 -- the finding of a wrong token, or of the end where there is none
-abbrev pub wrong_token : List ℕ → Option Token → FindingParts
+abbrev pub wrong_token : List ℕ → Option Token → FindingModel
 wrong_token text (Some token) = record { place = token.span.place; code = S05; text = codes "unexpected token" }
 wrong_token text None = record { place = place_of (body_of text); code = S05; text = codes "unexpected end" }
 
 -- the tokens of the text are no program: the first wrong one, or the end
-pub record IsNoProgram (text : List ℕ) (found : List FindingParts) : Type 0 where
+pub record IsNoProgram (text : List ℕ) (found : List FindingModel) : Type 0 where
   pub tokens : List Token
   pub lexed : AreTokens text tokens
   pub number : ℕ
@@ -62,7 +62,7 @@ pub record IsProgram (text : List ℕ) (items : List ItemTree) : Type 0 where
   pub spelled : Spells program items tokens
 
 -- something is wrong with the names of the program: all of it
-pub record IsMisnamed (text : List ℕ) (found : List FindingParts) : Type 0 where
+pub record IsMisnamed (text : List ℕ) (found : List FindingModel) : Type 0 where
   pub items : List ItemTree
   pub parsed : IsProgram text items
   pub some : found ≢ []
@@ -76,18 +76,18 @@ pub record IsResolved (text : List ℕ) (contracts : List ContractModel) : Type 
   pub are : contracts ≡ resolved_contracts text (contracts_of items)
 
 -- a condition is broken in one of the contracts, which is this finding
-abbrev pub IsBroken : List ContractModel → FindingParts → Type 0
+abbrev pub IsBroken : List ContractModel → FindingModel → Type 0
 IsBroken contracts f = (c : ContractModel) × Contains contracts c × conditions.IsFault c.parts f
 
 -- conditions are broken in contracts of the program: all that is so
-pub record IsUnsound (text : List ℕ) (found : List FindingParts) : Type 0 where
+pub record IsUnsound (text : List ℕ) (found : List FindingModel) : Type 0 where
   pub contracts : List ContractModel
   pub resolved : IsResolved text contracts
   pub some : found ≢ []
   pub are : AreExactly (IsBroken contracts) found
 
 -- these are the findings of the first stage of the text that has some
-pub data AreFindings (text : List ℕ) (found : List FindingParts) : Type 0 where
+pub data AreFindings (text : List ℕ) (found : List FindingModel) : Type 0 where
   OfText : IsFaulty text found → AreFindings text found
   OfSyntax : IsNoProgram text found → AreFindings text found
   OfNames : IsMisnamed text found → AreFindings text found
@@ -103,7 +103,7 @@ pub record IsBoundsLine (c : ContractModel) (line : List ℕ) : Type 0 where
 
 -- these are the findings of the text, and the bytes their report
 pub record IsReported (text bytes : List ℕ) : Type 0 where
-  pub found : List FindingParts
+  pub found : List FindingModel
   pub are : AreFindings text found
   pub told : IsReport found bytes
 

@@ -1,7 +1,7 @@
 -- What `check` answers for a text. Its methods are analysed where nothing is wrong before: with the text, its tokens, its
 -- names and its contracts.
 use Rattle.std.specs.Prelude.{◌≡◌, ◌≢◌, ◌<◌, ℕ, List, [], length, All}
-use Rattle.source.specs.Findings.{FindingParts}
+use Rattle.source.specs.Findings.{FindingModel}
 use Rattle.tree.specs.Trees.{ItemTree, contracts_of}
 use Rattle.names.specs.Findings.{program_mistakes}
 use Rattle.program.specs.Parts.{ContractModel}
@@ -34,24 +34,24 @@ pub record HasProgram (text : List ℕ) (p : ProgramModel) : Type 0 where
   pub methods : p.methods ≡ methods_told (record { text = text; items = items })
 
 -- this is found in one of the methods
-abbrev pub IsWrong : ProgramModel → FindingParts → Type 0
+abbrev pub IsWrong : ProgramModel → FindingModel → Type 0
 IsWrong p f = (n : ℕ) × (n < length p.methods) × IsFoundIn p n f
 
 -- something is wrong in the methods of the text: all of it
-pub record IsMisowned (text : List ℕ) (found : List FindingParts) : Type 0 where
+pub record IsMisowned (text : List ℕ) (found : List FindingModel) : Type 0 where
   pub program : ProgramModel
   pub has : HasProgram text program
   pub some : found ≢ []
   pub are : AreExactly (IsWrong program) found
 
 -- these are the findings of the first stage of the text that has some, its methods the last stage
-pub data AreCheckFindings (text : List ℕ) (found : List FindingParts) : Type 0 where
+pub data AreCheckFindings (text : List ℕ) (found : List FindingModel) : Type 0 where
   Before : AreFindings text found → AreCheckFindings text found
   OfMethods : IsMisowned text found → AreCheckFindings text found
 
 -- these are the findings of the text, and the bytes their report
 pub record IsCheckReport (text bytes : List ℕ) : Type 0 where
-  pub found : List FindingParts
+  pub found : List FindingModel
   pub are : AreCheckFindings text found
   pub told : IsReport found bytes
 
@@ -59,7 +59,7 @@ pub record IsCheckReport (text bytes : List ℕ) : Type 0 where
 pub record IsClear (text bytes : List ℕ) : Type 0 where
   pub program : ProgramModel
   pub has : HasProgram text program
-  pub none : (f : FindingParts) → IsWrong program f → ⊥
+  pub none : (f : FindingModel) → IsWrong program f → ⊥
   pub are : bytes ≡ clear_line (length program.contracts) (length program.methods)
 
 -- what `check` answers for a text, and the status

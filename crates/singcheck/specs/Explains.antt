@@ -6,7 +6,7 @@ use Rattle.contracts.specs.Conditions.{AreExactly}
 use Rattle.program.specs.Parts.{ContractModel}
 use Rattle.program.specs.Programs.{ProgramModel}
 use Rattle.reports.specs.Orders.{report_cmp}
-use Rattle.source.specs.Findings.{FindingParts}
+use Rattle.source.specs.Findings.{FindingModel}
 use Rattle.source.specs.declared.place.Place.{Place}
 use Rattle.traces.specs.Explained.{ExplainedModel, IsExplainedIf}
 use Rattle.traces.specs.Shown.{IsShown}
@@ -57,7 +57,7 @@ pub data IsNoted (named : Option Place) (text : List ℕ) (e : ExplainedModel) :
 
 -- something is wrong before the methods: all that the first stage with findings finds, in the order of a report, each finding once
 pub record AreNoted (named : Option Place) (text bytes : List ℕ) : Type 0 where
-  pub found : List FindingParts
+  pub found : List FindingModel
   pub are : AreFindings text found
   pub listed : List ExplainedModel
   pub same : AreExactly (Contains found) (map (λ e. e.finding) listed)

@@ -1,11 +1,11 @@
 -- The lines that are written, each with its end.
 use Rattle.std.specs.Prelude.{ℕ, List, ◌++◌, codes}
 use Rattle.std.specs.Fmt.{decimal}
-use Rattle.source.specs.Findings.{FindingParts, code_name}
+use Rattle.source.specs.Findings.{FindingModel, code_name}
 use Rattle.traces.specs.Lines.{LineModel}
 
 -- `LINE:COL CODE text`
-abbrev pub finding_line : FindingParts → List ℕ
+abbrev pub finding_line : FindingModel → List ℕ
 finding_line f = decimal f.place.line ++ codes ":" ++ decimal f.place.col ++ codes " " ++ code_name f.code ++ codes " "
     ++ f.text ++ codes "\n"
 

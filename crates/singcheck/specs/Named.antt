@@ -1,6 +1,6 @@
 -- For proofs within the crate: what a text comes to before its contracts are judged, and then.
 use Rattle.std.specs.Prelude.{◌≡◌, ◌<◌, ◌≤◌, ◌^◌, ℕ, List, [], length, map, All}
-use Rattle.source.specs.Findings.{FindingParts, finding_parts}
+use Rattle.source.specs.Findings.{FindingModel, finding_model}
 use Rattle.tree.specs.Trees.{ItemTree, contracts_of, program_tree}
 use Rattle.tree.specs.declared.item.Tree.{Tree}
 use Rattle.names.specs.Findings.{program_mistakes}
@@ -41,8 +41,7 @@ pub record AreNamed (text : List ℕ) (items : List ItemTree) (p : ProgramModel)
 
 -- the findings of the names of a tree, or the methods where there are none, and the tree
 abbrev pub IsNamed : List ℕ → Tree → Stage Named → Type 0
-IsNamed text tree named =
-    IsStage text (λ (n : Named). (n.tree ≡ tree) × AreNamed text (program_tree tree) (program_model n.methods)) named
+IsNamed text tree named = IsStage text (λ (n : Named). (n.tree ≡ tree) × AreNamed text (program_tree tree) (program_model n.methods)) named
 
 -- the program whose contracts are sound, and what is known of it
 pub record IsSoundOne (p : ProgramModel) (program : Program) : Type 0 where
@@ -57,7 +56,7 @@ pub record IsProgramBefore (text : List ℕ) (program : Program) : Type 0 where
   pub safe : AreCleanSafe (model_of program)
 
 -- the text is resolved, and this is wrong with its contracts
-pub record AreBrokenOf (text : List ℕ) (contracts : List ContractModel) (found : List FindingParts) : Type 0 where
+pub record AreBrokenOf (text : List ℕ) (contracts : List ContractModel) (found : List FindingModel) : Type 0 where
   pub resolved : IsResolved text contracts
   pub whole : All (λ c. IsWhole c.parts) contracts
   pub room : length contracts < 2 ^ 32
@@ -65,7 +64,7 @@ pub record AreBrokenOf (text : List ℕ) (contracts : List ContractModel) (found
 
 -- what is wrong with the contracts of a text, or its program where nothing is
 abbrev pub IsBuiltIn : List ℕ → Built → Type 0
-IsBuiltIn text (built.Broken methods findings) = AreBrokenOf text (contracts_model methods) (map finding_parts findings.items)
+IsBuiltIn text (built.Broken methods findings) = AreBrokenOf text (contracts_model methods) (map finding_model findings.items)
 IsBuiltIn text (built.Program program) = IsProgramBefore text program
 
 -- the same, or what is wrong with the text or its names
@@ -75,5 +74,5 @@ IsBuiltOf text b = IsStage text (IsBuiltIn text) b
 -- the methods of a program and what is wrong with its contracts, or the program where nothing is
 abbrev pub IsBuilt : ProgramModel → Built → Type 0
 IsBuilt p (built.Broken methods findings) =
-    (contracts_model methods ≡ p.contracts) × AreBroken p.contracts (map finding_parts findings.items)
+    (contracts_model methods ≡ p.contracts) × AreBroken p.contracts (map finding_model findings.items)
 IsBuilt p (built.Program program) = IsSoundOne p program

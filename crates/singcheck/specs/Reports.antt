@@ -2,19 +2,19 @@
 use Rattle.std.specs.Prelude.{◌≡◌, ℕ, List, ◌++◌, length, Contains}
 use Rattle.std.specs.List.{flat_map}
 use Rattle.std.specs.List.Sorted.{IsStrictlySortedBy}
-use Rattle.source.specs.Findings.{FindingParts}
+use Rattle.source.specs.Findings.{FindingModel}
 use Rattle.contracts.specs.Conditions.{AreExactly}
 use Rattle.reports.specs.Orders.{report_cmp}
 use Rattle.singcheck.specs.Lines.{finding_line, count_line}
 
 -- a line a finding, and then their number
-abbrev pub report_bytes : List FindingParts → List ℕ
+abbrev pub report_bytes : List FindingModel → List ℕ
 report_bytes listed = flat_map finding_line listed ++ count_line (length listed)
 
 -- The bytes are the report of these findings, in whatever order and however often they stand here: those that are
 -- listed are the same, each once, in the order of a report.
-pub record IsReport (findings : List FindingParts) (bytes : List ℕ) : Type 0 where
-  pub listed : List FindingParts
+pub record IsReport (findings : List FindingModel) (bytes : List ℕ) : Type 0 where
+  pub listed : List FindingModel
   pub same : AreExactly (Contains findings) listed
   pub ordered : IsStrictlySortedBy report_cmp listed
   pub is : bytes ≡ report_bytes listed

@@ -1,7 +1,7 @@
 -- For proofs within the crate: what the stages answer each other.
 use Rattle.std.specs.Prelude.{◌≡◌, ◌≢◌, ◌<◌, ◌^◌, ℕ, List, [], ◌∷◌, ◌++◌, length, map, All, Vec}
 use Rattle.std.specs.Global.{Global}
-use Rattle.source.specs.Findings.{FindingParts, finding_parts}
+use Rattle.source.specs.Findings.{FindingModel, finding_model}
 use Rattle.source.specs.declared.finding.Finding.{Finding}
 use Rattle.program.specs.Parts.{ContractModel, contract_model}
 use Rattle.contracts.specs.Conditions as conditions
@@ -31,7 +31,7 @@ pub record IsProgramOf (text : List ℕ) (tree : Tree) : Type 0 where
 
 -- a stage answers the findings of the text, or that with which it goes on
 abbrev pub IsStage : {T : Type 0} → List ℕ → (T → Type 0) → Stage T → Type 0
-IsStage text GoesOn (stage.Found findings) = AreFindings text (map finding_parts findings.items)
+IsStage text GoesOn (stage.Found findings) = AreFindings text (map finding_model findings.items)
 IsStage text GoesOn (stage.Clean t) = GoesOn t
 
 -- the text is no program, or this is its tree
@@ -43,7 +43,7 @@ abbrev pub IsStaged : List ℕ → Stage Clean → Type 0
 IsStaged text staged = IsStage text (IsClean text) staged
 
 -- something is wrong with these contracts: all of it
-pub record AreBroken (contracts : List ContractModel) (found : List FindingParts) : Type 0 where
+pub record AreBroken (contracts : List ContractModel) (found : List FindingModel) : Type 0 where
   pub some : found ≢ []
   pub are : AreExactly (IsBroken contracts) found
 
@@ -54,7 +54,7 @@ pub record AreSounds (contracts : List ContractModel) (sounds : List Sound) : Ty
 
 -- what is wrong with these contracts, or the sound ones where nothing is
 abbrev pub IsJudgement : List ContractModel → Stage (Vec Sound Global) → Type 0
-IsJudgement contracts (stage.Found findings) = AreBroken contracts (map finding_parts findings.items)
+IsJudgement contracts (stage.Found findings) = AreBroken contracts (map finding_model findings.items)
 IsJudgement contracts (stage.Clean sounds) = AreSounds contracts sounds.items
 
 -- a sound contract is kept
@@ -65,13 +65,13 @@ pub record KeepsSound (c : ContractModel) (old new : Judging) : Type 0 where
 
 -- all that is wrong with a contract of these parts is added
 pub record AddsAll (parts : Parts) (old new : List Finding) : Type 0 where
-  pub more : List FindingParts
+  pub more : List FindingModel
   pub exactly : AreExactly (conditions.IsFault parts) more
-  pub added : map finding_parts new ≡ map finding_parts old ++ more
+  pub added : map finding_model new ≡ map finding_model old ++ more
 
 -- something is wrong with a contract, and all of it is added
 pub record AddsFaults (c : ContractModel) (old new : Judging) : Type 0 where
-  pub broken : (f : FindingParts) × conditions.IsFault c.parts f
+  pub broken : (f : FindingModel) × conditions.IsFault c.parts f
   pub all : AddsAll c.parts old.findings.items new.findings.items
 
 pub data Judges (c : ContractModel) (old new : Judging) : Type 0 where
@@ -80,7 +80,7 @@ pub data Judges (c : ContractModel) (old new : Judging) : Type 0 where
 
 -- these contracts have been judged
 pub record AreJudged (contracts : List ContractModel) (judging : Judging) : Type 0 where
-  pub exactly : AreExactly (IsBroken contracts) (map finding_parts judging.findings.items)
+  pub exactly : AreExactly (IsBroken contracts) (map finding_model judging.findings.items)
   pub kept : judging.findings.items ≡ [] → map sound_parts judging.sounds.items ≡ map (λ c. c.parts) contracts
 
 -- the line of a contract is added

@@ -1,6 +1,6 @@
 -- For proofs within the crate: the verdicts of methods.
 use Rattle.std.specs.Prelude.{◌≡◌, ◌++◌, ℕ, List, Contains, Ok, Err, Result, map}
-use Rattle.source.specs.Findings.{FindingParts, finding_parts}
+use Rattle.source.specs.Findings.{FindingModel, finding_model}
 use Rattle.source.specs.declared.finding.Finding.{Finding}
 use Rattle.contracts.specs.Conditions.{AreExactly}
 use Rattle.program.specs.Programs.{ProgramModel}
@@ -16,7 +16,7 @@ use Rattle.shelf.specs.declared.shelf.Shelf.{Shelf}
 -- the receipt is of the shelf, and what it reads is the verdict of a method
 pub record IsPut (p : Program) (shelf : Shelf) (n : ℕ) (receipt : Receipt) : Type 0 where
   pub of_shelf : IsOf receipt shelf
-  pub found : IsMethodVerdict (model_of p) n (map finding_parts (findings_of (verdict_of receipt)))
+  pub found : IsMethodVerdict (model_of p) n (map finding_model (findings_of (verdict_of receipt)))
 
 -- the verdict of a method was put on the shelf, or there was no room for it
 abbrev pub HasVerdict : Program → Shelf → ℕ → Result Receipt Verdict → Type 0
@@ -25,14 +25,14 @@ HasVerdict p shelf n (Err verdict) = Unit {0}
 
 -- all that is found in a method is added
 pub record AddsVerdict (p : ProgramModel) (n : ℕ) (old new : List Finding) : Type 0 where
-  pub more : List FindingParts
+  pub more : List FindingModel
   pub exactly : AreExactly (IsFoundIn p n) more
-  pub added : map finding_parts new ≡ map finding_parts old ++ more
+  pub added : map finding_model new ≡ map finding_model old ++ more
 
 -- this is found in one of these methods
-abbrev pub IsWrongAmong : ProgramModel → List ℕ → FindingParts → Type 0
+abbrev pub IsWrongAmong : ProgramModel → List ℕ → FindingModel → Type 0
 IsWrongAmong p methods f = (n : ℕ) × Contains methods n × IsFoundIn p n f
 
 -- the findings are all that is found in these methods
-abbrev pub AreOfMethods : ProgramModel → List ℕ → List FindingParts → Type 0
+abbrev pub AreOfMethods : ProgramModel → List ℕ → List FindingModel → Type 0
 AreOfMethods p methods found = AreExactly (IsWrongAmong p methods) found

@@ -42,13 +42,13 @@ pub fn run_bounds<R: Source, W: Sink>(
     ensures fault { IfErr result IsBoundsFault }
 {
     let text = read_text(alloc, reader)?;
-    let answer = bounds_of(alloc, &text)?;
+    let answer = bounds_report(alloc, &text)?;
     write_all(&answer.bytes, writer)?;
     Ok(answer.status)
 }
 
 /// The answer to a text.
-fn bounds_of(alloc: Global, text: &[u8]) -> Result<Report, Memory>
+fn bounds_report(alloc: Global, text: &[u8]) -> Result<Report, Memory>
     ensures { IfOk result (λ answer. Answers text.now answer.bytes.items answer.status) }
 {
     match run_stages(alloc, text)? {

@@ -6,7 +6,7 @@ ghost use Rattle.contracts.specs.Conditions.{AreExactly};
 ghost use Rattle.program.specs.Parts.{IsWhole, contract_model};
 ghost use Rattle.reports.specs.Orders.{report_cmp};
 ghost use Rattle.rules.specs.Programs.{model_of};
-ghost use Rattle.source.specs.Findings.{FindingParts, finding_parts};
+ghost use Rattle.source.specs.Findings.{FindingModel, finding_model};
 ghost use Rattle.traces.specs.Explained.{explained_model};
 ghost use Rattle.traces.specs.declared.line.Explained.{Explained as ExplainedModel};
 ghost use Rattle.singcheck.specs.Checks.{IsWrong};
@@ -16,7 +16,7 @@ ghost use Rattle.singcheck.specs.Explains.{IsExplainedIn, IsShownIn, explained_b
 use crate::lines::{add_count, add_finding, add_line};
 use crate::seats::table;
 use analyse::Worker;
-use contracts::{edges, faults};
+use contracts::{contract_at, findings_of};
 use program::{ContractId, MethodId, Resolved};
 use rules::Program;
 use source::{Memory, Place, compare};
@@ -35,7 +35,7 @@ pub(crate) fn explain_methods(
     named: Option<Place>,
 ) -> Result<Vec<Explained>, Memory>
     requires few { length (model_of program.now).methods < 2 ^ 32 }
-    ensures found { IfOk result (λ found. AreExactly (IsWrong (model_of program.now)) (map (λ e. finding_parts e.finding) found.items)) }
+    ensures found { IfOk result (λ found. AreExactly (IsWrong (model_of program.now)) (map (λ e. finding_model e.finding) found.items)) }
     ensures each { IfOk result (λ found. All (λ e. IsExplainedIn named (model_of program.now) (explained_model e)) found.items) }
 {
     let (rows, seat) = table(alloc, SLOTS)?;
@@ -60,14 +60,14 @@ pub(crate) fn explain_contracts(
     requires whole { All (λ c. IsWhole c.parts) (map contract_model resolved.now.contracts.items) }
     requires few { length resolved.now.contracts.items < 2 ^ 32 }
     ensures found { IfOk result (λ found. AreExactly (IsBroken (map contract_model resolved.now.contracts.items))
-        (map (λ e. finding_parts e.finding) found.items)) }
+        (map (λ e. finding_model e.finding) found.items)) }
     ensures each { IfOk result (λ found.
         All (λ e. IsShownIn named (map contract_model resolved.now.contracts.items) (explained_model e)) found.items) }
 {
     let mut found = Vec::new(alloc);
     for number in 0..resolved.contracts.len() as u32 {
-        let contract = edges(resolved, ContractId(number));
-        let broken = faults(alloc, contract)?;
+        let contract = contract_at(resolved, ContractId(number));
+        let broken = findings_of(alloc, contract)?;
         let mut more = show_faults(alloc, contract, broken, named)?;
         found.append(&mut more)?;
     }
@@ -78,10 +78,10 @@ pub(crate) fn explain_contracts(
 ///
 /// `Memory` is answered where a growth was refused.
 pub(crate) fn explained_in_order(explained: Vec<Explained>) -> Result<Vec<Explained>, Memory>
-    ensures same { IfOk result (λ listed. (f : FindingParts) → Contains (map (λ e. finding_parts e.finding) listed.items) f
-        ↔ Contains (map (λ e. finding_parts e.finding) explained.items) f) }
+    ensures same { IfOk result (λ listed. (f : FindingModel) → Contains (map (λ e. finding_model e.finding) listed.items) f
+        ↔ Contains (map (λ e. finding_model e.finding) explained.items) f) }
     ensures among { IfOk result (λ listed. (e : ExplainedModel) → Contains listed.items e → Contains explained.items e) }
-    ensures ordered { IfOk result (λ listed. IsStrictlySortedBy report_cmp (map (λ e. finding_parts e.finding) listed.items)) }
+    ensures ordered { IfOk result (λ listed. IsStrictlySortedBy report_cmp (map (λ e. finding_model e.finding) listed.items)) }
 {
     let mut listed = explained;
     listed.sort_by(|a, b| compare(&a.finding, &b.finding))?;

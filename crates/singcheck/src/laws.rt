@@ -5,7 +5,7 @@ ghost use Rattle.machine.specs.Outcomes.{Bounds};
 ghost use Rattle.machine.specs.Runs.{AreBounds};
 ghost use Rattle.machine.specs.declared.halts.Event.{Event};
 ghost use Rattle.replays.specs.Schedules.{IsSchedule};
-ghost use Rattle.source.specs.Findings.{FindingParts};
+ghost use Rattle.source.specs.Findings.{FindingModel};
 ghost use Rattle.devices.specs.declared.fault.Status.{Status};
 ghost use Rattle.devices.specs.declared.reading.TheConstants.{MAX_READ};
 ghost use Rattle.singcheck.specs.Answers.{Answers, AreFindings};
@@ -82,7 +82,7 @@ pub fn one_program()
 
 /// A text in whose text, names or contracts something is found comes to no program.
 pub fn findings_or_program()
-    ensures { (text : List ℕ) (found : List FindingParts) (p : ProgramModel) → AreFindings text found → HasProgram text p → ⊥ }
+    ensures { (text : List ℕ) (found : List FindingModel) (p : ProgramModel) → AreFindings text found → HasProgram text p → ⊥ }
 {
     one_cutting();
     one_fault();

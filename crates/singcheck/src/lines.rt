@@ -2,7 +2,7 @@
 
 ghost use Rattle.std.specs.Prelude.{◌≡◌, ◌++◌, OnOk};
 ghost use Rattle.std.specs.Fmt.{decimal};
-ghost use Rattle.source.specs.Findings.{finding_parts};
+ghost use Rattle.source.specs.Findings.{finding_model};
 ghost use Rattle.traces.specs.Lines.{line_model};
 ghost use Rattle.singcheck.specs.Lines.{finding_line, trace_line, count_line, bounds_line, ok_line, clear_line};
 
@@ -28,7 +28,7 @@ fn add_number(answer: &mut Vec<u8>, number: usize) -> Result<(), Memory>
 
 /// Adds `LINE:COL CODE text`.
 pub(crate) fn add_finding(answer: &mut Vec<u8>, finding: &Finding) -> Result<(), Memory>
-    ensures { OnOk result (answer.new.items ≡ answer.old.items ++ finding_line (finding_parts finding.now)) }
+    ensures { OnOk result (answer.new.items ≡ answer.old.items ++ finding_line (finding_model finding.now)) }
 {
     add_number(answer, finding.place.line as usize)?;
     add(answer, ":")?;

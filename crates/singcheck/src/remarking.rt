@@ -2,7 +2,7 @@
 
 ghost use Rattle.std.specs.Prelude.{◌≡◌, ◌≢◌, ◌++◌, IfOk, OnOk, List, ℕ, map, option_map};
 ghost use Rattle.source.specs.Faults.{IsFault};
-ghost use Rattle.source.specs.Findings.{finding_parts};
+ghost use Rattle.source.specs.Findings.{finding_model};
 ghost use Rattle.source.specs.Marks.{body_of};
 ghost use Rattle.source.specs.Places.{place_of};
 ghost use Rattle.source.specs.Tokens.{AreTokens};
@@ -124,7 +124,7 @@ fn explain_mistake(
     named: Option<Place>,
     within: bool,
 ) -> Result<Explained, Memory>
-    ensures finding { IfOk result (λ e. finding_parts e.finding ≡ finding_in text.now mistake) }
+    ensures finding { IfOk result (λ e. finding_model e.finding ≡ finding_in text.now mistake) }
     ensures lines { IfOk result (λ e. map line_model e.lines.items
         ≡ remark_lines named e.finding.place (remark_within within (program_of text.now tree.now) mistake)) }
 {

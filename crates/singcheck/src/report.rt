@@ -1,7 +1,7 @@
 //! The report of findings.
 
 ghost use Rattle.std.specs.Prelude.{◌≡◌, map, length, IfOk};
-ghost use Rattle.source.specs.Findings.{finding_parts};
+ghost use Rattle.source.specs.Findings.{finding_model};
 ghost use Rattle.rules.specs.Programs.{model_of};
 ghost use Rattle.singcheck.specs.Lines.{clear_line};
 ghost use Rattle.singcheck.specs.Reports.{IsReport, report_bytes};
@@ -22,7 +22,7 @@ pub struct Report {
 
 /// The report of findings.
 pub(crate) fn finding_report(alloc: Global, findings: Vec<Finding>) -> Result<Report, Memory>
-    ensures bytes { IfOk result (λ r. IsReport (map finding_parts findings.items) r.bytes.items) }
+    ensures bytes { IfOk result (λ r. IsReport (map finding_model findings.items) r.bytes.items) }
     ensures status { IfOk result (λ r. r.status ≡ Status.Found) }
 {
     Ok(Report {
@@ -49,7 +49,7 @@ pub(crate) fn clear(alloc: Global, program: &Program) -> Result<Report, Memory>
 
 /// The report: a line a finding, sorted by line, column, code and text, each once, and then their number.
 pub(crate) fn report_of(alloc: Global, findings: Vec<Finding>) -> Result<Vec<u8>, Memory>
-    ensures { IfOk result (λ bytes. IsReport (map finding_parts findings.items) bytes.items) }
+    ensures { IfOk result (λ bytes. IsReport (map finding_model findings.items) bytes.items) }
 {
     let listed = in_report_order(findings)?;
     report_bytes(alloc, &listed)
@@ -57,7 +57,7 @@ pub(crate) fn report_of(alloc: Global, findings: Vec<Finding>) -> Result<Vec<u8>
 
 /// A line a finding, as they stand, and then their number.
 fn report_bytes(alloc: Global, findings: &[Finding]) -> Result<Vec<u8>, Memory>
-    ensures { IfOk result (λ bytes. bytes.items ≡ report_bytes (map finding_parts findings.now)) }
+    ensures { IfOk result (λ bytes. bytes.items ≡ report_bytes (map finding_model findings.now)) }
 {
     let mut answer = Vec::new(alloc);
     for finding in findings {

@@ -1,7 +1,7 @@
 //! The stages before the methods: the text, its names and its contracts.
 
 ghost use Rattle.std.specs.Prelude.{◌≡◌, ◌≢◌, ◌<◌, ◌^◌, ◌∷◌, [], ℕ, List, All, length, map, slice_get, IfOk, OnOk};
-ghost use Rattle.source.specs.Findings.{finding_parts};
+ghost use Rattle.source.specs.Findings.{finding_model};
 ghost use Rattle.source.specs.Marks.{body_of};
 ghost use Rattle.source.specs.Places.{place_of};
 ghost use Rattle.source.specs.Tokens.{AreTokens};
@@ -32,7 +32,7 @@ pub(crate) fn run_stages(alloc: Global, text: &[u8]) -> Result<Stage<Clean>, Mem
 {
     match parse_text(alloc, text)? {
         Stage::Found(findings) => Ok(Stage::Found(findings)),
-        Stage::Clean(tree) => staged_names(alloc, text, tree),
+        Stage::Clean(tree) => stage_names(alloc, text, tree),
     }
 }
 
@@ -52,7 +52,7 @@ pub(crate) fn parse_text(alloc: Global, text: &[u8]) -> Result<Stage<Tree>, Memo
 /// The finding of a fault.
 pub(crate) fn fault_finding(alloc: Global, fault: TextFault) -> Result<Finding, Memory>
     ensures fault { OnOk result (fault ≢ TextFault.Memory) }
-    ensures told { IfOk result (λ finding. finding_parts finding ∷ [] ≡ fault_findings fault) }
+    ensures told { IfOk result (λ finding. finding_model finding ∷ [] ≡ fault_findings fault) }
 {
     match texts::finding_of(alloc, fault)? {
         Some(finding) => Ok(finding),
@@ -75,7 +75,7 @@ fn parse_tokens(alloc: Global, tokens: Tokens) -> Result<Stage<Tree>, Memory>
 
 /// The finding of the token of that number, or of the end where there is none, as a list.
 fn wrong_at(alloc: Global, tokens: &Tokens, number: usize) -> Result<Vec<Finding>, Memory>
-    ensures { (text : List ℕ) → tokens.now.end ≡ place_of (body_of text) → IfOk result (λ found. map finding_parts found.items
+    ensures { (text : List ℕ) → tokens.now.end ≡ place_of (body_of text) → IfOk result (λ found. map finding_model found.items
         ≡ wrong_token text (slice_get tokens.now.list.items number) ∷ []) }
 {
     let finding = finding_at(alloc, tokens, number)?;
@@ -84,7 +84,7 @@ fn wrong_at(alloc: Global, tokens: &Tokens, number: usize) -> Result<Vec<Finding
 
 /// The finding of the token of that number, or of the end where there is none.
 pub(crate) fn finding_at(alloc: Global, tokens: &Tokens, number: usize) -> Result<Finding, Memory>
-    ensures { (text : List ℕ) → tokens.now.end ≡ place_of (body_of text) → IfOk result (λ finding. finding_parts finding
+    ensures { (text : List ℕ) → tokens.now.end ≡ place_of (body_of text) → IfOk result (λ finding. finding_model finding
         ≡ wrong_token text (slice_get tokens.now.list.items number)) }
 {
     match token_at(tokens, number) {
@@ -102,14 +102,14 @@ pub(crate) fn token_at(tokens: &Tokens, number: usize) -> Option<Token>
 
 /// The stages of names and contracts. The tree goes before the contracts are judged, or the findings of names are written: these can
 /// have its memory.
-fn staged_names(alloc: Global, text: &[u8], tree: Tree) -> Result<Stage<Clean>, Memory>
+fn stage_names(alloc: Global, text: &[u8], tree: Tree) -> Result<Stage<Clean>, Memory>
     requires { IsProgramOf text.now tree }
     ensures { IfOk result (IsStaged text.now) }
 {
     match resolve_tree(alloc, tree, text) {
         Ok((resolved, tree)) => {
             drop(tree);
-            staged_contracts(alloc, resolved)
+            stage_contracts(alloc, resolved)
         }
         Err(NameFaults::Found(found)) => Ok(Stage::Found(found)),
         Err(NameFaults::Memory) => Err(Memory),
@@ -117,7 +117,7 @@ fn staged_names(alloc: Global, text: &[u8], tree: Tree) -> Result<Stage<Clean>, 
 }
 
 /// The stage of the contracts.
-fn staged_contracts(alloc: Global, resolved: Resolved) -> Result<Stage<Clean>, Memory>
+fn stage_contracts(alloc: Global, resolved: Resolved) -> Result<Stage<Clean>, Memory>
     requires whole { All (λ c. IsWhole c.parts) (map contract_model resolved.contracts.items) }
     requires few { length resolved.contracts.items < 2 ^ 32 }
     ensures { IfOk result (λ staged. (text : List ℕ)
@@ -131,7 +131,7 @@ fn staged_contracts(alloc: Global, resolved: Resolved) -> Result<Stage<Clean>, M
 
 /// A list of one finding.
 fn one(alloc: Global, finding: Finding) -> Result<Vec<Finding>, Memory>
-    ensures { IfOk result (λ found. map finding_parts found.items ≡ finding_parts finding ∷ []) }
+    ensures { IfOk result (λ found. map finding_model found.items ≡ finding_model finding ∷ []) }
 {
     let mut findings = Vec::new(alloc);
     findings.push(finding)?;

@@ -1,7 +1,7 @@
 //! What is found in the methods of a program.
 
 ghost use Rattle.std.specs.Prelude.{◌≡◌, ◌<◌, ◌^◌, ◌++◌, All, IfOk, OnOk, length, map};
-ghost use Rattle.source.specs.Findings.{finding_parts};
+ghost use Rattle.source.specs.Findings.{finding_model};
 ghost use Rattle.contracts.specs.Conditions.{AreExactly};
 ghost use Rattle.rules.specs.Programs.{model_of};
 ghost use Rattle.pool.specs.Counts.{method_of};
@@ -32,7 +32,7 @@ pub(crate) fn analyse_methods<R: Threads + Wait + Sync, G: Gate>(
     program: &Program,
 ) -> Result<Vec<Finding>, Memory>
     requires few { length (model_of program.now).methods < 2 ^ 32 }
-    ensures { IfOk result (λ found. AreExactly (IsWrong (model_of program.now)) (map finding_parts found.items)) }
+    ensures { IfOk result (λ found. AreExactly (IsWrong (model_of program.now)) (map finding_model found.items)) }
 {
     threads_share_a_program();
     threads_share_rows();
@@ -65,7 +65,7 @@ fn found_in(
     done: &[Done<Result<Receipt, Verdict>>],
 ) -> Result<Vec<Finding>, Memory>
     requires each { All (λ d. HasVerdict program.now shelf.now (method_of d) d.out) done.now }
-    ensures { IfOk result (λ found. AreOfMethods (model_of program.now) (map method_of done.now) (map finding_parts found.items)) }
+    ensures { IfOk result (λ found. AreOfMethods (model_of program.now) (map method_of done.now) (map finding_model found.items)) }
 {
     let _ = program;
     let mut found = Vec::new(alloc);
@@ -80,8 +80,8 @@ fn found_in(
 
 /// Adds copies of these findings.
 fn add_copies(alloc: Global, findings: &[Finding], found: &mut Vec<Finding>) -> Result<(), Memory>
-    ensures { OnOk result (map finding_parts found.new.items
-        ≡ map finding_parts found.old.items ++ map finding_parts findings.now) }
+    ensures { OnOk result (map finding_model found.new.items
+        ≡ map finding_model found.old.items ++ map finding_model findings.now) }
 {
     for finding in findings {
         let copy = Finding {

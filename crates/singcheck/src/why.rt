@@ -4,7 +4,7 @@ ghost use Rattle.std.specs.Prelude.{◌≡◌, ◌≢◌, ◌<◌, ◌^◌, ℕ,
 ghost use Rattle.std.specs.Io.KnownBytes.{Keeps};
 ghost use Rattle.program.specs.Parts.{IsWhole, contract_model};
 ghost use Rattle.rules.specs.Programs.{model_of};
-ghost use Rattle.source.specs.Findings.{FindingParts, finding_parts};
+ghost use Rattle.source.specs.Findings.{FindingModel, finding_model};
 ghost use Rattle.source.specs.declared.place.Place.{Place as PlaceModel};
 ghost use Rattle.traces.specs.Explained.{explained_model};
 ghost use Rattle.devices.specs.RunFaults.{IsBoundsFault};
@@ -65,7 +65,7 @@ fn why_of(alloc: Global, text: &[u8], named: Option<Place>) -> Result<Report, Me
     match program_of(alloc, text)? {
         Stage::Found(findings) => why_text(alloc, text, findings, named),
         Stage::Clean(Built::Broken(methods, _)) => {
-            why_contracts(alloc, methods.contracts(), named)
+            report_of_contracts(alloc, methods.contracts(), named)
         }
         Stage::Clean(Built::Program(program)) => why_methods(alloc, &program, named),
     }
@@ -78,7 +78,7 @@ fn why_text(
     findings: Vec<Finding>,
     named: Option<Place>,
 ) -> Result<Report, Memory>
-    requires { AreFindings text.now (map finding_parts findings.items) }
+    requires { AreFindings text.now (map finding_model findings.items) }
     ensures { IfOk result (λ answer. Explains named text.now answer.bytes.items answer.status) }
 {
     let explained = explain_text(alloc, text, named)?;
@@ -102,10 +102,14 @@ fn why_noted(alloc: Global, explained: Vec<Explained>) -> Result<Report, Memory>
 }
 
 /// The answer to a text whose contracts break conditions.
-fn why_contracts(alloc: Global, resolved: &Resolved, named: Option<Place>) -> Result<Report, Memory>
+fn report_of_contracts(
+    alloc: Global,
+    resolved: &Resolved,
+    named: Option<Place>,
+) -> Result<Report, Memory>
     requires whole { All (λ c. IsWhole c.parts) (map contract_model resolved.now.contracts.items) }
     requires few { length resolved.now.contracts.items < 2 ^ 32 }
-    ensures { IfOk result (λ answer. (text : List ℕ) (found : List FindingParts)
+    ensures { IfOk result (λ answer. (text : List ℕ) (found : List FindingModel)
         → AreBrokenOf text (map contract_model resolved.now.contracts.items) found → Explains named text answer.bytes.items answer.status) }
 {
     let explained = explain_contracts(alloc, resolved, named)?;

@@ -65,22 +65,22 @@ fn answer<R: AllocGlobal + Files + Print + Eprint + Threads + Wait + Sync, O: Si
     errors: &mut E,
 ) -> u8 {
     match ask(rt.alloc(), words) {
-        Ok(Ask::Bounds { file }) => bounds(rt, file, output, errors),
+        Ok(Ask::Bounds { file }) => answer_bounds(rt, file, output, errors),
         Ok(
             Ask::Check {
                 file,
                 workers,
                 slots,
             },
-        ) => check(rt, file, workers, slots, output, errors),
+        ) => answer_check(rt, file, workers, slots, output, errors),
         Ok(
             Ask::Replay {
                 file,
                 entry,
                 schedule,
             },
-        ) => replay(rt, file, entry, schedule, output, errors),
-        Ok(Ask::Why { file, named }) => why(rt, file, named, output, errors),
+        ) => answer_replay(rt, file, entry, schedule, output, errors),
+        Ok(Ask::Why { file, named }) => answer_why(rt, file, named, output, errors),
         Err(refusal) if refusal.kind() == ErrorKind::OutOfMemory => {
             ending(&RunFault::Memory, "", errors)
         }
@@ -92,7 +92,7 @@ fn answer<R: AllocGlobal + Files + Print + Eprint + Threads + Wait + Sync, O: Si
     }
 }
 
-fn bounds<R: AllocGlobal + Files, O: Sink, E: Sink>(
+fn answer_bounds<R: AllocGlobal + Files, O: Sink, E: Sink>(
     rt: &R,
     file: &str,
     output: &mut O,
@@ -105,7 +105,7 @@ fn bounds<R: AllocGlobal + Files, O: Sink, E: Sink>(
     status(answered, file, errors)
 }
 
-fn check<R: AllocGlobal + Files + Threads + Wait + Sync, O: Sink, E: Sink>(
+fn answer_check<R: AllocGlobal + Files + Threads + Wait + Sync, O: Sink, E: Sink>(
     rt: &R,
     file: &str,
     workers: usize,
@@ -121,7 +121,7 @@ fn check<R: AllocGlobal + Files + Threads + Wait + Sync, O: Sink, E: Sink>(
     status(answered, file, errors)
 }
 
-fn replay<R: AllocGlobal + Files, O: Sink, E: Sink>(
+fn answer_replay<R: AllocGlobal + Files, O: Sink, E: Sink>(
     rt: &R,
     file: &str,
     entry: &str,
@@ -146,7 +146,7 @@ fn replay<R: AllocGlobal + Files, O: Sink, E: Sink>(
     status(answered, name, errors)
 }
 
-fn why<R: AllocGlobal + Files, O: Sink, E: Sink>(
+fn answer_why<R: AllocGlobal + Files, O: Sink, E: Sink>(
     rt: &R,
     file: &str,
     named: Option<Place>,

@@ -23,7 +23,7 @@ use Rattle.contracts.specs.TwoEnds.{HeldAlways, NeverLonger}
 use Rattle.rules.specs.Endpoints.{first_state}
 use Rattle.machine.specs.Blocks.{handed, is_own_still, new_block, owns_none, end_kind}
 use Rattle.machine.specs.Frames.{method_at, variables_of, kind_at, payloads_claimed, address, addresses, choices, point_instruction}
-use Rattle.machine.specs.Machine.{event_at, event_in}
+use Rattle.machine.specs.Machine.{outcome_of, outcome_in}
 use Rattle.machine.specs.Machine.{event_outcome}
 use Rattle.machine.specs.Outcomes.{Outcome, NoChoice, Bounds, tested}
 use Rattle.machine.specs.Runs.{Run, begins, goes_on}
@@ -177,7 +177,7 @@ module _ (p : ProgramModel) (bound : Bounds) (w : World) (self : ℕ) (f : Frame
 module _ (always : HeldAlways) (longer : NeverLonger) (p : ProgramModel) (bound : Bounds) (sound : IsSoundProgram p bound)
     (made_well : AreMadeWell p) where
   fine_at : (w : World) (e : Event) (f : Frame) (rest : List Frame) → RunFits p w.blocks → (x : Option MethodModel)
-      → method_at p f.method ≡ x → IsFine p (event_at p bound w e f rest (point_instruction x f.point))
+      → method_at p f.method ≡ x → IsFine p (outcome_of p bound w e f rest (point_instruction x f.point))
   fine_at w e f rest h None there = tt
   fine_at w e f rest h (Some m) there = by (slice_get (graph_of m).instructions f.point) refl
     where
@@ -187,11 +187,11 @@ module _ (always : HeldAlways) (longer : NeverLonger) (p : ProgramModel) (bound 
           (made_well.each f.method m f.point i there at)
       chosen false i at = tt
 
-      by : (x : Option Instruction) → slice_get (graph_of m).instructions f.point ≡ x → IsFine p (event_at p bound w e f rest x)
+      by : (x : Option Instruction) → slice_get (graph_of m).instructions f.point ≡ x → IsFine p (outcome_of p bound w e f rest x)
       by None at = tt
       by (Some i) at = chosen (nat_lt e.choice (choices i)) i at
 
-  fine_in : (w : World) (e : Event) (fs : List Frame) → RunFits p w.blocks → IsFine p (event_in p bound w e fs)
+  fine_in : (w : World) (e : Event) (fs : List Frame) → RunFits p w.blocks → IsFine p (outcome_in p bound w e fs)
   fine_in w e [] h = tt
   fine_in w e (f ∷ rest) h = fine_at w e f rest h (method_at p f.method) refl
 

@@ -60,8 +60,8 @@ whole_of parts t = record {
   message = λ e there. is_so (has same_message (message_ids parts) e.message) (λ no. ∥∥₁_elim t no_two (λ w. no (w.message e there)));
   states_once = λ i j d before short e. ∥∥₁_elim t no_two (λ w. w.states_once i j d before short e);
   messages_once = λ i j d before short e. ∥∥₁_elim t no_two (λ w. w.messages_once i j d before short e);
-  states_in_row = λ i short. ∥∥₁_elim t (ℕ_set _ _) (λ w. w.states_in_row i short);
-  messages_in_row = λ i short. ∥∥₁_elim t (ℕ_set _ _) (λ w. w.messages_in_row i short);
+  states_consecutive = λ i short. ∥∥₁_elim t (ℕ_set _ _) (λ w. w.states_consecutive i short);
+  messages_consecutive = λ i short. ∥∥₁_elim t (ℕ_set _ _) (λ w. w.messages_consecutive i short);
   numbered = λ k d short. ∥∥₁_elim t le_prop (λ w. w.numbered k d short);
 }
 

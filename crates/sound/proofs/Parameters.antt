@@ -3,7 +3,7 @@ use Rattle.std.proofs.Common.{◌≡◌, [], ap}
 use Rattle.std.specs.Prelude.{ℕ, List, None, Option, Some, flat_map, map, slice_get, zip}
 use Rattle.std.specs.Option.{option_map_or}
 use Rattle.std.specs.List.{filter}
-use Rattle.source.specs.Findings.{FindingParts}
+use Rattle.source.specs.Findings.{FindingModel}
 use Rattle.source.specs.declared.place.Place.{Place}
 use Rattle.program.specs.Methods.{MethodModel, VariableModel}
 use Rattle.program.specs.Programs.{ProgramModel}
@@ -30,7 +30,7 @@ module _ (m : MethodModel) where
   each_argument row kinds arguments = flat_map (λ x. argument_checks m row x.0 x.1) (zip kinds arguments)
 
   -- likewise for what goes into a message or the fields of a new block
-  abbrev pub each_taken : List Leaf → (List ℕ → Place → FindingParts) → List HeapKind → List Mention → List Check
+  abbrev pub each_taken : List Leaf → (List ℕ → Place → FindingModel) → List HeapKind → List Mention → List Check
   each_taken row wrong kinds given = flat_map (λ x. taken_checks m row wrong x.0 x.1) (zip kinds (map payload given))
 
   -- what a variable holds that is there

@@ -11,7 +11,7 @@ use Rattle.contracts.specs.TwoEnds.{HeldAlways, NeverLonger}
 use Rattle.rules.specs.Steps.{outcome, entry_of}
 use Rattle.analyse.specs.Verdicts.{IsMethodVerdict}
 use Rattle.machine.specs.Frames.{method_at, instruction_at, point_instruction, choices}
-use Rattle.machine.specs.Machine.{event_at, event_in, event_outcome}
+use Rattle.machine.specs.Machine.{outcome_of, outcome_in, event_outcome}
 use Rattle.machine.specs.Outcomes.{Outcome, NoChoice, Bounds}
 use Rattle.machine.specs.Runs.{AreBounds, Run, begins, goes_on}
 use Rattle.machine.specs.World.{Block, Frame, World, block_at, stack_at, owns, read}
@@ -136,7 +136,7 @@ module _ (always : HeldAlways) (longer : NeverLonger) (p : ProgramModel) (bound 
     (graphs : AreGraphsFit p) (none : (n : ℕ) (m : MethodModel) → method_at p n ≡ Some m → IsClean p n) where
   good_at : (w : World) (e : Event) (f : Frame) (rest : List Frame) → Holds p w → stack_at w.processes e.process ≡ f ∷ rest
       → (t : TopFits p w.blocks f) → RestFits p w.blocks f rest → (x : Option Instruction) → instruction_at p f ≡ x
-      → IsGood p w (event_at p bound w e f rest x)
+      → IsGood p w (outcome_of p bound w e f rest x)
   good_at w e f rest h is t below None at = tt
   good_at w e f rest h is t below (Some i) at = by (nat_lt e.choice (choices i))
     where
@@ -148,7 +148,7 @@ module _ (always : HeldAlways) (longer : NeverLonger) (p : ProgramModel) (bound 
       by false = tt
 
   good_in : (w : World) (e : Event) (fs : List Frame) → Holds p w → stack_at w.processes e.process ≡ fs → StackFits p w.blocks fs
-      → IsGood p w (event_in p bound w e fs)
+      → IsGood p w (outcome_in p bound w e fs)
   good_in w e [] h is fits = tt
   good_in w e (f ∷ rest) h is fits = good_at w e f rest h is fits.0 fits.1 (instruction_at p f) refl
 

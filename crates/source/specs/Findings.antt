@@ -15,13 +15,13 @@ use Rattle.source.specs.declared.finding.Code.TheVariants.{N05, N06, N07, N08, N
 use Rattle.source.specs.declared.finding.Finding.{Finding}
 
 -- a finding without its memory: its place, its code and its text
-pub record FindingParts : Type 0 where
+pub record FindingModel : Type 0 where
   pub place : Place
   pub code : Code
   pub text : List ℕ
 
-abbrev pub finding_parts : Finding → FindingParts
-finding_parts f = record { place = f.place; code = f.code; text = string_bytes f.text }
+abbrev pub finding_model : Finding → FindingModel
+finding_model f = record { place = f.place; code = f.code; text = string_bytes f.text }
 
 -- it is found at this place, and has this code and this text
 pub record IsFinding (at : Place) (kind : Code) (says : List ℕ) (f : Finding) : Type 0 where

@@ -168,7 +168,7 @@ behind_piece = next (fixed_piece kind.Static) result_end
 pub method_follows : Follows (by_kind opens_access) behind_access never
 method_follows = record { each = λ p r h. refl }
 
-method_meets : Meets {X = Option item_nodes.Access.Access} (optional_at (by_kind opens_access) (λ _. never)) behind_access (λ _. never)
+pub method_meets : Meets {X = Option item_nodes.Access.Access} (optional_at (by_kind opens_access) (λ _. never)) behind_access (λ _. never)
 method_meets = record { here = elim [ None ↦ λ p r h. refl | Some a ↦ λ p r h. refl ] }
 
 abbrev pub method_to : MethodTree → Option item_nodes.Access.Access × (Unit {0} × (Option type_nodes.Type.Type × Signature))

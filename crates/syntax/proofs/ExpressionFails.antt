@@ -12,7 +12,7 @@ use Rattle.tree.specs.Operators.{Operators, Or, And, Equal, Compare, Add, Multip
 use Rattle.syntax.specs.OperatorReads.{joins, opens_prefix, opens_rest}
 use Rattle.tree.specs.Expressions.{LevelTree, AtomTree, Unary, Chain, Done, Number, True, False, Target, Parens, Variable, Field, Element, ExpressionTree, steps, StepOf, level, atom, target, step, expression, dot_name}
 use Rattle.syntax.specs.ExpressionReads.{expression_on, expression_at, opens_expression, level_on, level_at, step_at, steps_end, target_on, target_at, atom_at}
-use Rattle.tree.specs.Factors.{step_row}
+use Rattle.tree.specs.Factors.{step_sequence}
 use Rattle.tree.specs.declared.expression.Prefix.{Prefix}
 use Rattle.tree.specs.declared.expression.PrefixOperator.{PrefixOperator}
 use Rattle.tree.specs.declared.expression.PrefixOperator.TheVariants as prefixes
@@ -98,7 +98,7 @@ pub step_fails : (l : Operators) {old mid new : List Symbol} (ps : List (StepOf 
 step_fails l {old} {mid} {new} ps read more h = link_fails (level_joins l) (level_piece (below l)) ps read more h
 
 -- a chain is read
-pub chain_is_read : (l : Operators) (old mid new : List Symbol) (x : LevelTree (below l)) (ps : List (StepOf l)) (z : LevelTree (Joined l)) → z ≡ Chain l x (step_row l ps) → Takes level level_at old mid x → Takes (flat_map (step l)) (steps_end l) mid new ps → Takes level level_at old new z
+pub chain_is_read : (l : Operators) (old mid new : List Symbol) (x : LevelTree (below l)) (ps : List (StepOf l)) (z : LevelTree (Joined l)) → z ≡ Chain l x (step_sequence l ps) → Takes level level_at old mid x → Takes (flat_map (step l)) (steps_end l) mid new ps → Takes level level_at old new z
 chain_is_read l old mid new x ps z is first others =
     let read : Takes (chain level (operator l)) (chain_at level_at (by_kind (joins l))) old new (x, ps) = chain_reads (level_joins l) old mid new x ps first others in
     let made = chain_from l (x, ps) in

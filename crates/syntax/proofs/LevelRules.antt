@@ -11,7 +11,7 @@ use Rattle.tree.specs.Operators.{Operators, Or, And, Equal, Compare, Add, Multip
 use Rattle.syntax.specs.OperatorReads.{equality_of, relation_of, joins, opens_rest, after_sum, after_relation, after_conjunction, after_equality, after_term}
 use Rattle.tree.specs.Expressions.{LevelTree, StepTrees, AtomTree, TargetTree, Unary, Chain, Done, More, Number, True, False, Target, Parens, Variable, Field, Element, StepOf, level, steps, step}
 use Rattle.syntax.specs.ExpressionReads.{level_on, level_at, steps_at, target_on, target_at, atom_at}
-use Rattle.tree.specs.Factors.{step_row}
+use Rattle.tree.specs.Factors.{step_sequence}
 use Rattle.syntax.proofs.Pieces.{or_right, stops_with}
 use Rattle.syntax.proofs.Chains.{Joins, chain, chain_at, last_of}
 use Rattle.syntax.proofs.KindLemmas.{apart_kinds}
@@ -88,11 +88,11 @@ abbrev pub step_list : {l : Operators} → StepTrees l → List (StepOf l)
 step_list (Done l) = []
 step_list (More l o x xs) = (o, x) ∷ step_list xs
 
-row_list : {l : Operators} (xs : StepTrees l) → step_row l (step_list xs) ≡ xs
+row_list : {l : Operators} (xs : StepTrees l) → step_sequence l (step_list xs) ≡ xs
 row_list (Done l) = refl
 row_list (More l o x xs) = ap (λ t. More l o x t) (row_list xs)
 
-list_row : (l : Operators) (ps : List (StepOf l)) → step_list (step_row l ps) ≡ ps
+list_row : (l : Operators) (ps : List (StepOf l)) → step_list (step_sequence l ps) ≡ ps
 list_row l [] = refl
 list_row l (p ∷ ps) = ap (λ t. p ∷ t) (list_row l ps)
 
@@ -110,7 +110,7 @@ abbrev pub chain_to : {l : Operators} → LevelTree (Joined l) → LevelTree (be
 chain_to (Chain l first others) = (first, step_list others)
 
 abbrev pub chain_from : (l : Operators) → LevelTree (below l) × List (StepOf l) → LevelTree (Joined l)
-chain_from l p = Chain l p.0 (step_row l p.1)
+chain_from l p = Chain l p.0 (step_sequence l p.1)
 
 pub chain_back : (l : Operators) (x : LevelTree (Joined l)) → chain_from l (chain_to x) ≡ x
 chain_back l (Chain _ first others) = ap (λ t. Chain l first t) (row_list others)

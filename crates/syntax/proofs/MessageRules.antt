@@ -51,10 +51,10 @@ params_piece = parens_piece params_inside param_list_piece
 
 -- message = direction "message" ID params ";" .
 
-abbrev pub message_to : MessageTree → sign_nodes.Direction.Direction × (Unit {0} × (Span × ((Span × List contract_nodes.Param.Param) × Unit {0})))
+abbrev pub message_to : MessageTree → sign_nodes.Direction.Direction × (Unit {0} × (Span × ((Span × List contract_nodes.MessageParameter.MessageParameter) × Unit {0})))
 message_to m = (m.direction, (tt, (m.name, ((m.open_paren, m.params), tt))))
 
-abbrev pub message_from : sign_nodes.Direction.Direction × (Unit {0} × (Span × ((Span × List contract_nodes.Param.Param) × Unit {0}))) → MessageTree
+abbrev pub message_from : sign_nodes.Direction.Direction × (Unit {0} × (Span × ((Span × List contract_nodes.MessageParameter.MessageParameter) × Unit {0}))) → MessageTree
 message_from p = record { direction = p.0; name = p.1.1.0; open_paren = p.1.1.1.0.0; params = p.1.1.1.0.1 }
 
 pub message_piece : Piece message never (λ _. never)

@@ -9,7 +9,7 @@ use Rattle.tree.specs.Symbols.{Symbol, Fixed, Placed, is_kind, by_kind, kind_is}
 use Rattle.tree.specs.Spelling.{word, placed, name, optional, braced, listed, parens}
 use Rattle.syntax.specs.Reading.{never, Stops, Fails, optional_at}
 use Rattle.tree.specs.Expressions.{ExpressionTree, expression}
-use Rattle.tree.specs.StatementTrees.{StatementTree, If, BlockTree, Braces, TestTree, Test, OtherTrees, NoOther, Else, ElseIf, CaseTree, Case, IfTree, SwitchTree, statement_row}
+use Rattle.tree.specs.StatementTrees.{StatementTree, If, BlockTree, Braces, TestTree, Test, OtherTrees, NoOther, Else, ElseIf, CaseTree, Case, IfTree, SwitchTree, statement_sequence}
 use Rattle.tree.specs.StatementGrammar.{awaited, bind, statement, block, test, others, case}
 use Rattle.syntax.specs.StatementParts.{CaseFrontTree, case_front}
 use Rattle.syntax.specs.StatementFirsts.{opens_statement, statement_on, others_at, statement_at, statements_on, statements_at, statement_list, case_at, cases_on, cases_at}
@@ -30,7 +30,7 @@ abbrev pub block_to : BlockTree → List StatementTree × Span
 block_to (Braces inner close) = (statement_list inner, close)
 
 abbrev pub block_from : List StatementTree × Span → BlockTree
-block_from p = Braces (statement_row p.0) p.1
+block_from p = Braces (statement_sequence p.0) p.1
 
 pub block_back : (b : BlockTree) → block_from (block_to b) ≡ b
 block_back (Braces inner close) = ap (λ t. Braces t close) (list_row inner)
@@ -162,7 +162,7 @@ abbrev pub case_to : CaseTree → CaseFrontTree × List StatementTree
 case_to (Case span endpoint message left binds inner) = (record { word = span; endpoint = endpoint; message = message; open_paren = left; binds = binds }, statement_list inner)
 
 abbrev pub case_from : CaseFrontTree × List StatementTree → CaseTree
-case_from p = Case p.0.word p.0.endpoint p.0.message p.0.open_paren p.0.binds (statement_row p.1)
+case_from p = Case p.0.word p.0.endpoint p.0.message p.0.open_paren p.0.binds (statement_sequence p.1)
 
 pub case_back : (c : CaseTree) → case_from (case_to c) ≡ c
 case_back (Case span endpoint message left binds inner) = ap (λ t. Case span endpoint message left binds t) (list_row inner)

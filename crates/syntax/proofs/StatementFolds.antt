@@ -5,7 +5,7 @@ use Rattle.std.specs.Option.{option_map}
 use Rattle.source.specs.declared.token.Span.{Span}
 use Rattle.tree.specs.ExpressionTrees.{expression_tree}
 use Rattle.tree.specs.Values.{call_tree}
-use Rattle.tree.specs.StatementTrees.{StatementTree, Block, Declare, Assign, Call, Start, Delete, Exchange, NewChannel, If, While, Break, Continue, Return, Switch, BlockTree, Braces, CaseTree, Case, IfTree, SwitchTree, TestTree, Test, statement_row, case_row, other_row, declare_tree, assign_tree, statement_step, block_step, case_step, if_step, switch_step, test_step, statement_tree, block_tree, case_tree, if_tree, switch_tree, test_tree}
+use Rattle.tree.specs.StatementTrees.{StatementTree, Block, Declare, Assign, Call, Start, Delete, Exchange, NewChannel, If, While, Break, Continue, Return, Switch, BlockTree, Braces, CaseTree, Case, IfTree, SwitchTree, TestTree, Test, statement_sequence, case_sequence, other_sequence, declare_tree, assign_tree, statement_step, block_step, case_step, if_step, switch_step, test_step, statement_tree, block_tree, case_tree, if_tree, switch_tree, test_tree}
 use Rattle.tree.specs.declared.expression.Expression.{Expression}
 use Rattle.tree.specs.declared.value as value
 use Rattle.tree.specs.declared.statement as made
@@ -52,21 +52,21 @@ made_continue span = ap statement_tree (sym (variant.rolls-Continue span)) ∙ f
 pub made_return : (span : Span) (e : Option (Box Expression Global)) → statement_tree (variant.Return span e) ≡ Return span (option_map (λ x. expression_tree x.value) e)
 made_return span e = ap statement_tree (sym (variant.rolls-Return span e)) ∙ fold-roll-Statement StatementTree BlockTree CaseTree IfTree SwitchTree TestTree statement_step block_step case_step if_step switch_step test_step (layer.Return span e)
 
-pub made_switch : (s : Box made.Switch.Switch Global) → statement_tree (variant.Switch s) ≡ Switch (switch_tree s.value).word (switch_tree s.value).first (case_row (switch_tree s.value).others) (switch_tree s.value).close
+pub made_switch : (s : Box made.Switch.Switch Global) → statement_tree (variant.Switch s) ≡ Switch (switch_tree s.value).word (switch_tree s.value).first (case_sequence (switch_tree s.value).others) (switch_tree s.value).close
 made_switch s = ap statement_tree (sym (variant.rolls-Switch s)) ∙ fold-roll-Statement StatementTree BlockTree CaseTree IfTree SwitchTree TestTree statement_step block_step case_step if_step switch_step test_step (layer.Switch s)
 
 -- a struct by its fields
 
-pub rolled_block : (x : layer.Block-F made.Statement.Statement made.Block.Block made.Case.Case made.If.If made.Switch.Switch made.Test.Test) → block_tree (made.Block.roll-Block x) ≡ Braces (statement_row (map statement_tree x.statements.items)) x.close
+pub rolled_block : (x : layer.Block-F made.Statement.Statement made.Block.Block made.Case.Case made.If.If made.Switch.Switch made.Test.Test) → block_tree (made.Block.roll-Block x) ≡ Braces (statement_sequence (map statement_tree x.statements.items)) x.close
 rolled_block x = fold-roll-Block StatementTree BlockTree CaseTree IfTree SwitchTree TestTree statement_step block_step case_step if_step switch_step test_step x
 
-pub rolled_case : (x : layer.Case-F made.Statement.Statement made.Block.Block made.Case.Case made.If.If made.Switch.Switch made.Test.Test) → case_tree (made.Case.roll-Case x) ≡ Case x.word x.endpoint x.message x.«open» x.binds.items (statement_row (map statement_tree x.statements.items))
+pub rolled_case : (x : layer.Case-F made.Statement.Statement made.Block.Block made.Case.Case made.If.If made.Switch.Switch made.Test.Test) → case_tree (made.Case.roll-Case x) ≡ Case x.word x.endpoint x.message x.«open» x.binds.items (statement_sequence (map statement_tree x.statements.items))
 rolled_case x = fold-roll-Case StatementTree BlockTree CaseTree IfTree SwitchTree TestTree statement_step block_step case_step if_step switch_step test_step x
 
-pub rolled_if : (first : made.Test.Test) (others : Vec made.Test.Test Global) → if_tree (made.If.roll-If (record { first = first; others = others; otherwise = None })) ≡ record { first = test_tree first; others = other_row (map test_tree others.items) None }
+pub rolled_if : (first : made.Test.Test) (others : Vec made.Test.Test Global) → if_tree (made.If.roll-If (record { first = first; others = others; otherwise = None })) ≡ record { first = test_tree first; others = other_sequence (map test_tree others.items) None }
 rolled_if first others = fold-roll-If StatementTree BlockTree CaseTree IfTree SwitchTree TestTree statement_step block_step case_step if_step switch_step test_step (record { first = first; others = others; otherwise = None })
 
-pub rolled_else : (first : made.Test.Test) (others : Vec made.Test.Test Global) (b : made.Block.Block) → if_tree (made.If.roll-If (record { first = first; others = others; otherwise = Some b })) ≡ record { first = test_tree first; others = other_row (map test_tree others.items) (Some (block_tree b)) }
+pub rolled_else : (first : made.Test.Test) (others : Vec made.Test.Test Global) (b : made.Block.Block) → if_tree (made.If.roll-If (record { first = first; others = others; otherwise = Some b })) ≡ record { first = test_tree first; others = other_sequence (map test_tree others.items) (Some (block_tree b)) }
 rolled_else first others b = fold-roll-If StatementTree BlockTree CaseTree IfTree SwitchTree TestTree statement_step block_step case_step if_step switch_step test_step (record { first = first; others = others; otherwise = Some b })
 
 pub rolled_switch : (x : layer.Switch-F made.Statement.Statement made.Block.Block made.Case.Case made.If.If made.Switch.Switch made.Test.Test) → switch_tree (made.Switch.roll-Switch x) ≡ record { word = x.word; first = case_tree x.first; others = map case_tree x.others.items; close = x.close }
@@ -75,5 +75,5 @@ rolled_switch x = fold-roll-Switch StatementTree BlockTree CaseTree IfTree Switc
 pub rolled_test : (x : layer.Test-F made.Statement.Statement made.Block.Block made.Case.Case made.If.If made.Switch.Switch made.Test.Test) → test_tree (made.Test.roll-Test x) ≡ Test x.word x.«open» (expression_tree x.test) (block_tree x.body)
 rolled_test x = fold-roll-Test StatementTree BlockTree CaseTree IfTree SwitchTree TestTree statement_step block_step case_step if_step switch_step test_step x
 
-pub fields_block : (statements : Vec made.Statement.Statement Global) (close : Span) → block_tree (record { statements = statements; close = close }) ≡ Braces (statement_row (map statement_tree statements.items)) close
+pub fields_block : (statements : Vec made.Statement.Statement Global) (close : Span) → block_tree (record { statements = statements; close = close }) ≡ Braces (statement_sequence (map statement_tree statements.items)) close
 fields_block statements close = ap block_tree (sym (made.Block.rolls-Block' (record { statements = statements; close = close }))) ∙ rolled_block (record { statements = statements; close = close })

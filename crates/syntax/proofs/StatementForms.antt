@@ -12,7 +12,7 @@ use Rattle.syntax.specs.Firsts.{scalar_of}
 use Rattle.syntax.specs.Types.{scalar_type, scalar_at, of_scalar}
 use Rattle.tree.specs.Expressions.{ExpressionTree}
 use Rattle.tree.specs.Values.{ValueTree, CallTree}
-use Rattle.tree.specs.StatementTrees.{StatementTree, Block, Declare, Assign, Call, Start, Delete, Exchange, NewChannel, If, While, Break, Continue, Return, Switch, BlockTree, Braces, TestTree, Test, IfTree, SwitchTree, case_row}
+use Rattle.tree.specs.StatementTrees.{StatementTree, Block, Declare, Assign, Call, Start, Delete, Exchange, NewChannel, If, While, Break, Continue, Return, Switch, BlockTree, Braces, TestTree, Test, IfTree, SwitchTree, case_sequence}
 use Rattle.tree.specs.StatementGrammar.{exchange, statement, block, test, others, case}
 use Rattle.syntax.specs.StatementParts.{if_parts, switch_parts, declared, jump, delete, start, return_parts}
 use Rattle.syntax.specs.StatementFirsts.{case_list}
@@ -71,7 +71,7 @@ while_form = record { first = test_starts kind.While refl; same = λ t. refl; ea
     each z = other kind.While z refl
 
 abbrev pub of_switch : SwitchTree → StatementTree
-of_switch s = Switch s.word s.first (case_row s.others) s.close
+of_switch s = Switch s.word s.first (case_sequence s.others) s.close
 
 pub switch_form : Form statement switch_parts of_switch (is_kind kind.Switch)
 switch_form = record {

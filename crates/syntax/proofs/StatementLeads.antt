@@ -17,7 +17,7 @@ use Rattle.syntax.specs.StatementFirsts.{lead_of, opens_statement}
 use Rattle.tree.specs.declared.types as tree
 use Rattle.syntax.specs.declared.leads.Lead.{Lead}
 use Rattle.syntax.specs.declared.leads.Lead.TheVariants as lead
-use Rattle.syntax.specs.declared.leads.Simple.TheVariants as simple
+use Rattle.syntax.specs.declared.leads.SimpleLead.TheVariants as simple
 use Rattle.syntax.proofs.Beginnings.{Begins, Starts}
 use Rattle.syntax.proofs.Choices.{FormOf, Other}
 use Rattle.syntax.proofs.Words.{one_some, none_some}

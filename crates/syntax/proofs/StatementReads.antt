@@ -8,7 +8,7 @@ use Rattle.tree.specs.Symbols.{Symbol, Fixed, is_kind}
 use Rattle.tree.specs.Spelling.{word, placed, braced, parens}
 use Rattle.syntax.specs.Reading.{never, Stops, leads, Fails, last_at}
 use Rattle.tree.specs.Expressions.{ExpressionTree, expression}
-use Rattle.tree.specs.StatementTrees.{StatementTree, BlockTree, TestTree, Test, CaseTree, IfTree, SwitchTree, last_other, other_row}
+use Rattle.tree.specs.StatementTrees.{StatementTree, BlockTree, TestTree, Test, CaseTree, IfTree, SwitchTree, last_other, other_sequence}
 use Rattle.tree.specs.StatementGrammar.{statement, block, test, others, case}
 use Rattle.syntax.specs.StatementParts.{if_parts, if_at, switch_parts, CaseFrontTree, case_front}
 use Rattle.syntax.specs.StatementFirsts.{statement_on, others_at, statements_at, case_at}
@@ -63,20 +63,20 @@ others_fail {old} {mid} {last} {new} (t ∷ ts) read more h =
 pub if_fails : {old mid last new : List Symbol} (t : TestTree) (ts : List TestTree) → old ≡ test kind.If t ++ (flat_map else_if ts ++ mid) → mid ≡ Fixed kind.Else ∷ last → Fails behind_else statement_on last new → Fails if_parts statement_on old new
 if_fails {old} {mid} {last} {new} t ts read more h = via_fails if_to if_from (λ _. refl) (fails_after t (test_piece kind.If) (read, stops_never (flat_map else_if ts ++ mid)) (others_fail ts refl more h))
 
-row_spelled : (ts : List TestTree) (o : Option BlockTree) → others (other_row ts o) ≡ flat_map else_if ts ++ others (last_other o)
+row_spelled : (ts : List TestTree) (o : Option BlockTree) → others (other_sequence ts o) ≡ flat_map else_if ts ++ others (last_other o)
 row_spelled [] o = refl
 row_spelled (t ∷ ts) o = ap (λ l. word kind.Else ++ (test kind.If t ++ l)) (row_spelled ts o) ∙ ap (λ l. word kind.Else ++ l) (sym (append_assoc (test kind.If t) (flat_map else_if ts) (others (last_other o))))
 
-row_at : (ts : List TestTree) (o : Option BlockTree) → others_at (other_row ts o) ≡ others_at (last_other o)
+row_at : (ts : List TestTree) (o : Option BlockTree) → others_at (other_sequence ts o) ≡ others_at (last_other o)
 row_at [] o = refl
 row_at (t ∷ ts) o = row_at ts o
 
-pub if_read : (old mid new : List Symbol) (t : TestTree) (ts : List TestTree) (o : Option BlockTree) (i : IfTree) → i ≡ record { first = t; others = other_row ts o } → old ≡ test kind.If t ++ (flat_map else_if ts ++ mid) → mid ≡ others (last_other o) ++ new → Stops (others_at (last_other o)) new → (old ≡ if_parts i ++ new) × Stops (if_at i) new
+pub if_read : (old mid new : List Symbol) (t : TestTree) (ts : List TestTree) (o : Option BlockTree) (i : IfTree) → i ≡ record { first = t; others = other_sequence ts o } → old ≡ test kind.If t ++ (flat_map else_if ts ++ mid) → mid ≡ others (last_other o) ++ new → Stops (others_at (last_other o)) new → (old ≡ if_parts i ++ new) × Stops (if_at i) new
 if_read old mid new t ts o i is read more ended =
     let tests : List Symbol = flat_map else_if ts in (
       read ∙ ap (λ l. test kind.If t ++ (tests ++ l)) more
           ∙ ap (λ l. test kind.If t ++ l) (sym (append_assoc tests (others (last_other o)) new) ∙ ap (λ l. l ++ new) (sym (row_spelled ts o)))
-          ∙ sym (append_assoc (test kind.If t) (others (other_row ts o)) new) ∙ ap (λ i. if_parts i ++ new) (sym is),
+          ∙ sym (append_assoc (test kind.If t) (others (other_sequence ts o)) new) ∙ ap (λ i. if_parts i ++ new) (sym is),
       subst (λ i. Stops (if_at i) new) (sym is) (subst (λ at. Stops at new) (sym (row_at ts o)) ended),
     )
 

@@ -6,7 +6,7 @@ use Rattle.std.proofs.lemmas.Simd.{map-map}
 use Rattle.source.specs.declared.token.Span.{Span}
 use Rattle.tree.specs.Operators.{Or, And, Equal, Compare}
 use Rattle.tree.specs.Expressions.{Unary, Chain, Number, True, False, Target, Field, StepOf}
-use Rattle.tree.specs.Factors.{gathered, step_row, summed, termed}
+use Rattle.tree.specs.Factors.{gathered, step_sequence, summed, termed}
 use Rattle.tree.specs.ExpressionTrees.{unmarked, atom_of, expression_of, sum_of, target_of, unary_of, conjunction_of, disjunction_of, element_target_of, equality_of, equality_step_of, factor_of, factors_of, prefixed_of, relation_of, relation_step_of}
 use Rattle.tree.specs.ExpressionTrees.{atom_tree, expression_tree, sum_tree, target_tree, unary_tree, conjunction_tree, disjunction_tree, equality_tree, equality_step_tree, factor_tree, factors_tree, prefixed_tree, relation_tree, relation_step_tree}
 use Rattle.tree.specs.declared.expression.Prefix.{Prefix}
@@ -24,7 +24,7 @@ use Rattle.tree.specs.declared.expression.Equality as equalities
 use Rattle.tree.specs.declared.expression.EqualityStep as equality_steps
 use Rattle.tree.specs.declared.expression.Expression as expressions
 use Rattle.tree.specs.declared.expression.Factor as factors
-use Rattle.tree.specs.declared.expression.Factors as factor_rows
+use Rattle.tree.specs.declared.expression.Factors as factor_lists
 use Rattle.tree.specs.declared.expression.Prefixed as prefixeds
 use Rattle.tree.specs.declared.expression.Relation as relations
 use Rattle.tree.specs.declared.expression.RelationStep as relation_steps
@@ -37,24 +37,24 @@ summed_made s = ap expression_tree (sym (expression.rolls-Sum s)) ∙ expression
     atom_of expression_of sum_of target_of unary_of conjunction_of disjunction_of element_target_of equality_of equality_step_of
     factor_of factors_of prefixed_of relation_of relation_step_of (layer.Sum s)
 
-pub disjunction_made : (first : conjunctions.Conjunction) (others : Vec conjunctions.Conjunction Global) → disjunction_tree (disjunctions.roll-Disjunction (record { first = first; others = others })) ≡ Chain Or (conjunction_tree first) (step_row Or (map (unmarked conjunction_tree) others.items))
+pub disjunction_made : (first : conjunctions.Conjunction) (others : Vec conjunctions.Conjunction Global) → disjunction_tree (disjunctions.roll-Disjunction (record { first = first; others = others })) ≡ Chain Or (conjunction_tree first) (step_sequence Or (map (unmarked conjunction_tree) others.items))
 disjunction_made first others = disjunctions.fold-roll-Disjunction _ _ _ _ _ _ _ _ _ _ _ _ _ _ _
     atom_of expression_of sum_of target_of unary_of conjunction_of disjunction_of element_target_of equality_of equality_step_of
     factor_of factors_of prefixed_of relation_of relation_step_of (record { first = first; others = others })
-    ∙ ap (λ t. Chain Or (conjunction_tree first) (step_row Or t)) (map-map {C = StepOf Or} (λ x. (tt, x)) conjunction_tree others.items)
+    ∙ ap (λ t. Chain Or (conjunction_tree first) (step_sequence Or t)) (map-map {C = StepOf Or} (λ x. (tt, x)) conjunction_tree others.items)
 
-pub conjunction_made : (first : equalities.Equality) (others : Vec equalities.Equality Global) → conjunction_tree (conjunctions.roll-Conjunction (record { first = first; others = others })) ≡ Chain And (equality_tree first) (step_row And (map (unmarked equality_tree) others.items))
+pub conjunction_made : (first : equalities.Equality) (others : Vec equalities.Equality Global) → conjunction_tree (conjunctions.roll-Conjunction (record { first = first; others = others })) ≡ Chain And (equality_tree first) (step_sequence And (map (unmarked equality_tree) others.items))
 conjunction_made first others = conjunctions.fold-roll-Conjunction _ _ _ _ _ _ _ _ _ _ _ _ _ _ _
     atom_of expression_of sum_of target_of unary_of conjunction_of disjunction_of element_target_of equality_of equality_step_of
     factor_of factors_of prefixed_of relation_of relation_step_of (record { first = first; others = others })
-    ∙ ap (λ t. Chain And (equality_tree first) (step_row And t)) (map-map {C = StepOf And} (λ x. (tt, x)) equality_tree others.items)
+    ∙ ap (λ t. Chain And (equality_tree first) (step_sequence And t)) (map-map {C = StepOf And} (λ x. (tt, x)) equality_tree others.items)
 
-pub equality_made : (first : relations.Relation) (others : Vec equality_steps.EqualityStep Global) → equality_tree (equalities.roll-Equality (record { first = first; others = others })) ≡ Chain Equal (relation_tree first) (step_row Equal (map equality_step_tree others.items))
+pub equality_made : (first : relations.Relation) (others : Vec equality_steps.EqualityStep Global) → equality_tree (equalities.roll-Equality (record { first = first; others = others })) ≡ Chain Equal (relation_tree first) (step_sequence Equal (map equality_step_tree others.items))
 equality_made first others = equalities.fold-roll-Equality _ _ _ _ _ _ _ _ _ _ _ _ _ _ _
     atom_of expression_of sum_of target_of unary_of conjunction_of disjunction_of element_target_of equality_of equality_step_of
     factor_of factors_of prefixed_of relation_of relation_step_of (record { first = first; others = others })
 
-pub relation_made : (first : sums.Sum) (others : Vec relation_steps.RelationStep Global) → relation_tree (relations.roll-Relation (record { first = first; others = others })) ≡ Chain Compare (sum_tree first) (step_row Compare (map relation_step_tree others.items))
+pub relation_made : (first : sums.Sum) (others : Vec relation_steps.RelationStep Global) → relation_tree (relations.roll-Relation (record { first = first; others = others })) ≡ Chain Compare (sum_tree first) (step_sequence Compare (map relation_step_tree others.items))
 relation_made first others = relations.fold-roll-Relation _ _ _ _ _ _ _ _ _ _ _ _ _ _ _
     atom_of expression_of sum_of target_of unary_of conjunction_of disjunction_of element_target_of equality_of equality_step_of
     factor_of factors_of prefixed_of relation_of relation_step_of (record { first = first; others = others })
@@ -64,8 +64,8 @@ termed_made u = ap sum_tree (sym (sum.rolls-Unary u)) ∙ sums.fold-roll-Sum _ _
     atom_of expression_of sum_of target_of unary_of conjunction_of disjunction_of element_target_of equality_of equality_step_of
     factor_of factors_of prefixed_of relation_of relation_step_of (layer.Unary u)
 
-pub factors_made : (first : unaries.Unary) (second : factors.Factor) (others : Vec factors.Factor Global) → factors_tree (factor_rows.roll-Factors (record { first = first; second = second; others = others })) ≡ gathered (unary_tree first) (factor_tree second ∷ map factor_tree others.items)
-factors_made first second others = factor_rows.fold-roll-Factors _ _ _ _ _ _ _ _ _ _ _ _ _ _ _
+pub factors_made : (first : unaries.Unary) (second : factors.Factor) (others : Vec factors.Factor Global) → factors_tree (factor_lists.roll-Factors (record { first = first; second = second; others = others })) ≡ gathered (unary_tree first) (factor_tree second ∷ map factor_tree others.items)
+factors_made first second others = factor_lists.fold-roll-Factors _ _ _ _ _ _ _ _ _ _ _ _ _ _ _
     atom_of expression_of sum_of target_of unary_of conjunction_of disjunction_of element_target_of equality_of equality_step_of
     factor_of factors_of prefixed_of relation_of relation_step_of (record { first = first; second = second; others = others })
 

@@ -156,10 +156,10 @@ type_piece = record { some = type.Scalar scalar.Int; each = way }
 
 -- param = type ID .
 
-abbrev pub param_to : contract_nodes.Param.Param → type_nodes.Type.Type × Span
+abbrev pub param_to : contract_nodes.MessageParameter.MessageParameter → type_nodes.Type.Type × Span
 param_to p = (p.ty, p.name)
 
-abbrev pub param_from : type_nodes.Type.Type × Span → contract_nodes.Param.Param
+abbrev pub param_from : type_nodes.Type.Type × Span → contract_nodes.MessageParameter.MessageParameter
 param_from p = record { ty = p.0; name = p.1 }
 
 pub type_follows : Follows type_on name never

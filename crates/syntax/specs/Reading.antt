@@ -118,7 +118,7 @@ ReadsOption spell opens old new result =
     Reads (λ x. x) (optional spell) (by_kind opens) (optional_at (by_kind opens) (λ _. never)) old new result
 
 -- What a function returns that reads pieces as long as one begins with such a token.
-abbrev pub ReadsRow : {X Y : Type 0} → (X → Y) → (Y → List Symbol) → (Option Kind → Bool) → List Symbol → List Symbol
+abbrev pub ReadsList : {X Y : Type 0} → (X → Y) → (Y → List Symbol) → (Option Kind → Bool) → List Symbol → List Symbol
     → Result (Vec X Global) Stuck → Type 0
-ReadsRow view spell opens old new result =
+ReadsList view spell opens old new result =
     Reads (λ v. map view v.items) (flat_map spell) (by_kind opens) (λ _. by_kind opens) old new result

@@ -8,7 +8,7 @@ use Rattle.tree.specs.StatementTrees.{StatementTree, If, OtherTrees, NoOther, El
 use Rattle.tree.specs.StatementTrees.{StatementTrees, NoStatement, MoreStatements, CaseTrees, NoCase, MoreCases}
 use Rattle.syntax.specs.declared.leads.Lead.{Lead}
 use Rattle.syntax.specs.declared.leads.Lead.TheVariants as lead
-use Rattle.syntax.specs.declared.leads.Simple.TheVariants as simple
+use Rattle.syntax.specs.declared.leads.SimpleLead.TheVariants as simple
 
 -- what a statement is that begins with a token of this kind
 abbrev pub lead_of : Option Kind → Option Lead

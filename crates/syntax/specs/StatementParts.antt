@@ -6,7 +6,7 @@ use Rattle.source.specs.declared.kind.Kind.{Kind}
 use Rattle.source.specs.declared.kind.Kind.TheVariants as kind
 use Rattle.source.specs.declared.token.Span.{Span}
 use Rattle.tree.specs.Symbols.{Symbol, is_kind, kind_is, by_kind}
-use Rattle.tree.specs.Spelling.{word, placed, name, row, optional, listed, parens}
+use Rattle.tree.specs.Spelling.{word, placed, name, sequence, optional, listed, parens}
 use Rattle.syntax.specs.Reading.{never, optional_at, listed_open_on, listed_open_at}
 use Rattle.tree.specs.Expressions.{ExpressionTree, expression}
 use Rattle.syntax.specs.ExpressionReads.{opens_expression, expression_on}
@@ -28,7 +28,7 @@ use Rattle.syntax.specs.declared.statement_ends.ChannelEnds.{ChannelEnds}
 
 -- if = "if" test others .
 abbrev pub if_parts : IfTree → List Symbol
-if_parts i = row (test kind.If i.first ∷ others i.others ∷ [])
+if_parts i = sequence (test kind.If i.first ∷ others i.others ∷ [])
 
 -- by what this `if` could go on
 abbrev pub if_at : IfTree → Symbol → Bool
@@ -36,7 +36,7 @@ if_at i = others_at i.others
 
 -- switch = "switch" "receive" "{" case { case } "}" .
 abbrev pub switch_parts : SwitchTree → List Symbol
-switch_parts s = row (placed kind.Switch s.word ∷ word kind.Receive ∷ word kind.OpenBrace ∷ case s.first ∷ flat_map case s.others
+switch_parts s = sequence (placed kind.Switch s.word ∷ word kind.Receive ∷ word kind.OpenBrace ∷ case s.first ∷ flat_map case s.others
     ∷ placed kind.CloseBrace s.close ∷ [])
 
 -- what stands before the statements of a case
@@ -49,41 +49,41 @@ pub record CaseFrontTree : Type 0 where
 
 -- case_front = "case" ID "." awaited "(" [ bind { "," bind } ] ")" ":" .
 abbrev pub case_front : CaseFrontTree → List Symbol
-case_front c = row (placed kind.Case c.word ∷ name c.endpoint ∷ word kind.Dot ∷ awaited c.message
+case_front c = sequence (placed kind.Case c.word ∷ name c.endpoint ∷ word kind.Dot ∷ awaited c.message
     ∷ parens (listed bind) (c.open_paren, c.binds) ∷ word kind.Colon ∷ [])
 
 -- declared = ID [ init ] ";" .
 abbrev pub declared : Span × Option ValueTree → List Symbol
-declared p = row (name p.0 ∷ optional init p.1 ∷ word kind.Semicolon ∷ [])
+declared p = sequence (name p.0 ∷ optional init p.1 ∷ word kind.Semicolon ∷ [])
 
 -- assigned = "=" value ";" .
 abbrev pub assigned : ValueTree → List Symbol
-assigned v = row (word kind.Equal ∷ value_spelling v ∷ word kind.Semicolon ∷ [])
+assigned v = sequence (word kind.Equal ∷ value_spelling v ∷ word kind.Semicolon ∷ [])
 
 -- called = "(" [ expression { "," expression } ] ")" ";" .
 abbrev pub called : Span × List ExpressionTree → List Symbol
-called p = row (arguments p ∷ word kind.Semicolon ∷ [])
+called p = sequence (arguments p ∷ word kind.Semicolon ∷ [])
 
 -- channel_ends = "NewChannel" "(" "out" ID "," "out" ID ")" ";" .
 abbrev pub channel_ends : ChannelEnds → List Symbol
-channel_ends c = row (placed kind.NewChannel c.word ∷ placed kind.OpenParen c.open ∷ word kind.Out ∷ name c.first ∷ word kind.Comma
+channel_ends c = sequence (placed kind.NewChannel c.word ∷ placed kind.OpenParen c.open ∷ word kind.Out ∷ name c.first ∷ word kind.Comma
     ∷ word kind.Out ∷ name c.second ∷ word kind.CloseParen ∷ word kind.Semicolon ∷ [])
 
 -- jump = word ";" .
 abbrev pub jump : Kind → Span → List Symbol
-jump opening span = row (placed opening span ∷ word kind.Semicolon ∷ [])
+jump opening span = sequence (placed opening span ∷ word kind.Semicolon ∷ [])
 
 -- delete = "delete" ID ";" .
 abbrev pub delete : Span → List Symbol
-delete span = row (word kind.Delete ∷ name span ∷ word kind.Semicolon ∷ [])
+delete span = sequence (word kind.Delete ∷ name span ∷ word kind.Semicolon ∷ [])
 
 -- start = "start" call ";" .
 abbrev pub start : Span × CallTree → List Symbol
-start p = row (placed kind.Start p.0 ∷ call p.1 ∷ word kind.Semicolon ∷ [])
+start p = sequence (placed kind.Start p.0 ∷ call p.1 ∷ word kind.Semicolon ∷ [])
 
 -- return = "return" [ expression ] ";" .
 abbrev pub return_parts : Span × Option ExpressionTree → List Symbol
-return_parts p = row (placed kind.Return p.0 ∷ optional expression p.1 ∷ word kind.Semicolon ∷ [])
+return_parts p = sequence (placed kind.Return p.0 ∷ optional expression p.1 ∷ word kind.Semicolon ∷ [])
 
 -- by what an initial value, or none, could go on
 abbrev pub init_on : Symbol → Bool
@@ -99,15 +99,15 @@ called_tree p = (p.0, map expression_tree p.1.items)
 
 -- typed = named_tail ID .
 abbrev pub typed : NamedTail × Span → List Symbol
-typed p = row (named_tail p.0 ∷ name p.1 ∷ [])
+typed p = sequence (named_tail p.0 ∷ name p.1 ∷ [])
 
 -- named_bind = ID [ typed ] .
 abbrev pub named_bind : Span × Option (NamedTail × Span) → List Symbol
-named_bind p = row (name p.0 ∷ optional typed p.1 ∷ [])
+named_bind p = sequence (name p.0 ∷ optional typed p.1 ∷ [])
 
 -- scalar_bind = scalar_type ID .
 abbrev pub scalar_bind : ScalarType × Span → List Symbol
-scalar_bind p = row (scalar_type p.0 ∷ name p.1 ∷ [])
+scalar_bind p = sequence (scalar_type p.0 ∷ name p.1 ∷ [])
 
 -- what a name and what follows it bind
 abbrev pub of_typed : Span → Option (NamedTail × Span) → Bind

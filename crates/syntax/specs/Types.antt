@@ -2,7 +2,7 @@
 use Rattle.std.specs.Prelude.{Bool, ◌||◌, List, [], ◌∷◌, Option, Some, None, is_some}
 use Rattle.source.specs.declared.kind.Kind.TheVariants as kind
 use Rattle.tree.specs.Symbols.{Symbol, is_kind}
-use Rattle.tree.specs.Spelling.{word, name, row, optional, when}
+use Rattle.tree.specs.Spelling.{word, name, sequence, optional, when}
 use Rattle.syntax.specs.Reading.{never, optional_at, open_at}
 use Rattle.source.specs.declared.token.Span.{Span}
 use Rattle.tree.specs.Grammar.{scalar_word, side_word, bang_word, in_heap_words, colon_name}
@@ -15,27 +15,28 @@ use Rattle.syntax.specs.declared.fronts.NamedTail.TheVariants as tail
 
 -- bang_in_heap = [ bang ] in_heap .
 abbrev pub bang_in_heap : Option Span → List Symbol
-bang_in_heap bang = row (optional bang_word bang ∷ in_heap_words ∷ [])
+bang_in_heap bang = sequence (optional bang_word bang ∷ in_heap_words ∷ [])
 
 -- array_tail = "[" "]" bang_in_heap .
 abbrev pub array_tail : Option Span → List Symbol
-array_tail bang = row (word kind.OpenBracket ∷ word kind.CloseBracket ∷ bang_in_heap bang ∷ [])
+array_tail bang = sequence (word kind.OpenBracket ∷ word kind.CloseBracket ∷ bang_in_heap bang ∷ [])
 
 -- scalar_type = scalar [ array_tail ] .
 abbrev pub scalar_type : parts.ScalarType.ScalarType → List Symbol
-scalar_type s = row (word (scalar_word s.scalar) ∷ optional array_tail s.array ∷ [])
+scalar_type s = sequence (word (scalar_word s.scalar) ∷ optional array_tail s.array ∷ [])
 
 -- pointer_tail = "*" bang_in_heap .
 abbrev pub pointer_tail : Option Span → List Symbol
-pointer_tail bang = row (word kind.Star ∷ bang_in_heap bang ∷ [])
+pointer_tail bang = sequence (word kind.Star ∷ bang_in_heap bang ∷ [])
 
 -- endpoint_end = side [ colon_name ] [ bang ] [ in_heap ] .
 abbrev pub endpoint_end : parts.EndpointTail.EndpointTail → List Symbol
-endpoint_end e = row (word (side_word e.side) ∷ optional colon_name e.state ∷ optional bang_word e.bang ∷ when in_heap_words e.in_heap ∷ [])
+endpoint_end e =
+    sequence (word (side_word e.side) ∷ optional colon_name e.state ∷ optional bang_word e.bang ∷ when in_heap_words e.in_heap ∷ [])
 
 -- endpoint_tail = "." endpoint_end .
 abbrev pub endpoint_tail : parts.EndpointTail.EndpointTail → List Symbol
-endpoint_tail e = row (word kind.Dot ∷ endpoint_end e ∷ [])
+endpoint_tail e = sequence (word kind.Dot ∷ endpoint_end e ∷ [])
 
 -- named_tail = pointer_tail | endpoint_tail .
 abbrev pub named_tail : parts.NamedTail.NamedTail → List Symbol
@@ -44,7 +45,7 @@ named_tail (tail.Endpoint e) = endpoint_tail e
 
 -- named_type = ID named_tail .
 abbrev pub named_type : parts.NamedType.NamedType → List Symbol
-named_type n = row (name n.name ∷ named_tail n.tail ∷ [])
+named_type n = sequence (name n.name ∷ named_tail n.tail ∷ [])
 
 -- a scalar, or an array of it
 abbrev pub of_array : Scalar → Option (Option Span) → type_nodes.Type.Type

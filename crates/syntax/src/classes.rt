@@ -4,7 +4,7 @@ ghost use Rattle.std.specs.Prelude.{◌≡◌, map};
 ghost use Rattle.std.specs.List.{flat_map};
 ghost use Rattle.tree.specs.Symbols.{is_kind, by_kind};
 ghost use Rattle.tree.specs.Spelling.{when, comma, listed, braced, parens};
-ghost use Rattle.syntax.specs.Reading.{Reads, ReadsEnded, ReadsRow, when_at, listed_on, listed_at};
+ghost use Rattle.syntax.specs.Reading.{Reads, ReadsEnded, ReadsList, when_at, listed_on, listed_at};
 ghost use Rattle.syntax.specs.Firsts.{opens_parameter, opens_method};
 ghost use Rattle.syntax.specs.Types.{type_on};
 ghost use Rattle.tree.specs.Trees.{method_tree, class_tree};
@@ -40,7 +40,7 @@ fn methods(alloc: Global, cursor: &mut Cursor<'_>) -> Result<(Vec<Method>, Span)
         cursor.old cursor.new result }
 {
     cursor.expect(Kind::OpenBrace)?;
-    let all = method_row(alloc, cursor)?;
+    let all = method_list(alloc, cursor)?;
     let close = cursor.expect_span(Kind::CloseBrace)?;
     Ok((all, close))
 }
@@ -56,8 +56,8 @@ fn is_method(kind: Option<Kind>) -> bool
 }
 
 /// { method }
-fn method_row(alloc: Global, cursor: &mut Cursor<'_>) -> Result<Vec<Method>, Stuck>
-    ensures { ReadsRow method_tree method opens_method cursor.old cursor.new result }
+fn method_list(alloc: Global, cursor: &mut Cursor<'_>) -> Result<Vec<Method>, Stuck>
+    ensures { ReadsList method_tree method opens_method cursor.old cursor.new result }
 {
     let mut all = Vec::new(alloc);
     'each: while is_method(cursor.peek()) {

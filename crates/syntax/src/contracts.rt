@@ -3,7 +3,7 @@
 ghost use Rattle.std.specs.Prelude.{◌≡◌, map};
 ghost use Rattle.std.specs.List.{flat_map};
 ghost use Rattle.tree.specs.Symbols.{kind_is, by_kind};
-ghost use Rattle.syntax.specs.Reading.{ReadsRow, Reads, ReadsEnded, many_at};
+ghost use Rattle.syntax.specs.Reading.{ReadsList, Reads, ReadsEnded, many_at};
 ghost use Rattle.tree.specs.Grammar.{message, member, contract};
 ghost use Rattle.syntax.specs.Firsts.{opens_message, opens_member};
 ghost use Rattle.syntax.specs.States.{state_on, member_at, members_on};
@@ -39,7 +39,7 @@ pub fn contract(alloc: Global, cursor: &mut Cursor<'_>) -> Result<Contract, Stuc
 
 /// { message }
 fn messages(alloc: Global, cursor: &mut Cursor<'_>) -> Result<Vec<Message>, Stuck>
-    ensures { ReadsRow message_tree message opens_message cursor.old cursor.new result }
+    ensures { ReadsList message_tree message opens_message cursor.old cursor.new result }
 {
     let mut all = Vec::new(alloc);
     'each: while is_message(cursor.peek()) {

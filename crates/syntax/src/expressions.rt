@@ -5,7 +5,7 @@ ghost use Rattle.std.specs.List.{flat_map};
 ghost use Rattle.source.specs.declared.kind.Kind.{Kind};
 ghost use Rattle.tree.specs.Symbols.{by_kind};
 ghost use Rattle.tree.specs.Spelling.{name, within, parens};
-ghost use Rattle.syntax.specs.Reading.{Stops, ReadsRow, Reads, ReadsEnded, never};
+ghost use Rattle.syntax.specs.Reading.{Stops, ReadsList, Reads, ReadsEnded, never};
 ghost use Rattle.tree.specs.Operators.{Or, And, Equal, Compare, Add, Single, Joined, prefix};
 ghost use Rattle.tree.specs.Factors.{factor};
 ghost use Rattle.syntax.specs.OperatorReads.{joins, opens_prefix};

@@ -1,7 +1,7 @@
 //! Reads items.
 
 ghost use Rattle.std.specs.Prelude.{◌≡◌};
-ghost use Rattle.syntax.specs.Reading.{ReadsRow, ReadsEnded};
+ghost use Rattle.syntax.specs.Reading.{ReadsList, ReadsEnded};
 ghost use Rattle.syntax.specs.Firsts.{opens_item};
 ghost use Rattle.tree.specs.Trees.{definition_tree, item_tree};
 ghost use Rattle.tree.specs.Programs.{definition, item, program};
@@ -29,7 +29,7 @@ fn is_item(kind: Option<Kind>) -> bool
 
 /// { item }
 pub fn items(alloc: Global, cursor: &mut Cursor<'_>) -> Result<Vec<Item>, Stuck>
-    ensures { ReadsRow item_tree item opens_item cursor.old cursor.new result }
+    ensures { ReadsList item_tree item opens_item cursor.old cursor.new result }
 {
     let mut all = Vec::new(alloc);
     'each: while is_item(cursor.peek()) {

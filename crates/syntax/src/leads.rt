@@ -12,12 +12,12 @@ pub enum Lead {
     If,
     While,
     Switch,
-    Simple(Simple),
+    Simple(SimpleLead),
 }
 
 /// A statement that holds no other, by its first token.
 #[derive(Clone, Copy)]
-pub enum Simple {
+pub enum SimpleLead {
     Name,
     Scalar,
     Start,
@@ -37,14 +37,14 @@ pub fn lead_of(kind: Option<Kind>) -> Option<Lead>
         Kind::If => Some(Lead::If),
         Kind::While => Some(Lead::While),
         Kind::Switch => Some(Lead::Switch),
-        Kind::Name => Some(Lead::Simple(Simple::Name)),
-        Kind::Int | Kind::Bool | Kind::Byte => Some(Lead::Simple(Simple::Scalar)),
-        Kind::Start => Some(Lead::Simple(Simple::Start)),
-        Kind::Delete => Some(Lead::Simple(Simple::Delete)),
-        Kind::Exchange => Some(Lead::Simple(Simple::Exchange)),
-        Kind::Break => Some(Lead::Simple(Simple::Break)),
-        Kind::Continue => Some(Lead::Simple(Simple::Continue)),
-        Kind::Return => Some(Lead::Simple(Simple::Return)),
+        Kind::Name => Some(Lead::Simple(SimpleLead::Name)),
+        Kind::Int | Kind::Bool | Kind::Byte => Some(Lead::Simple(SimpleLead::Scalar)),
+        Kind::Start => Some(Lead::Simple(SimpleLead::Start)),
+        Kind::Delete => Some(Lead::Simple(SimpleLead::Delete)),
+        Kind::Exchange => Some(Lead::Simple(SimpleLead::Exchange)),
+        Kind::Break => Some(Lead::Simple(SimpleLead::Break)),
+        Kind::Continue => Some(Lead::Simple(SimpleLead::Continue)),
+        Kind::Return => Some(Lead::Simple(SimpleLead::Return)),
         _ => None,
     }
 }

@@ -3,7 +3,7 @@
 ghost use Rattle.std.specs.Prelude.{◌≡◌};
 ghost use Rattle.tree.specs.Symbols.{kind_is, by_kind};
 ghost use Rattle.tree.specs.Spelling.{word, comma, listed, parens};
-ghost use Rattle.syntax.specs.Reading.{ReadsWord, ReadsOption, ReadsRow, Reads, ReadsEnded, listed_on, listed_at};
+ghost use Rattle.syntax.specs.Reading.{ReadsWord, ReadsOption, ReadsList, Reads, ReadsEnded, listed_on, listed_at};
 ghost use Rattle.tree.specs.Grammar.{direction_word, param, message};
 ghost use Rattle.syntax.specs.Firsts.{direction_of, opens_message, opens_type};
 ghost use Rattle.tree.specs.Trees.{message_tree};
@@ -14,7 +14,7 @@ use crate::types::{is_type, value_type};
 use program::Direction;
 use source::{Kind, Span};
 use std::alloc::Global;
-use tree::{Message, Param};
+use tree::{Message, MessageParameter};
 
 /// Whether a message begins with this token.
 pub fn is_message(kind: Option<Kind>) -> bool
@@ -63,7 +63,7 @@ pub fn message(alloc: Global, cursor: &mut Cursor<'_>) -> Result<Message, Stuck>
 }
 
 /// params = "(" [ param { "," param } ] ")" .
-fn params(alloc: Global, cursor: &mut Cursor<'_>) -> Result<(Span, Vec<Param>), Stuck>
+fn params(alloc: Global, cursor: &mut Cursor<'_>) -> Result<(Span, Vec<MessageParameter>), Stuck>
     ensures { ReadsEnded (λ p. (p.0, p.1.items)) (parens (listed param)) cursor.old cursor.new result }
 {
     let left = cursor.expect_span(Kind::OpenParen)?;
@@ -73,7 +73,7 @@ fn params(alloc: Global, cursor: &mut Cursor<'_>) -> Result<(Span, Vec<Param>), 
 }
 
 /// [ param { "," param } ]
-fn param_list(alloc: Global, cursor: &mut Cursor<'_>) -> Result<Vec<Param>, Stuck>
+fn param_list(alloc: Global, cursor: &mut Cursor<'_>) -> Result<Vec<MessageParameter>, Stuck>
     ensures { Reads (λ v. v.items) (listed param) (listed_on (by_kind opens_type)) (listed_at (by_kind opens_type))
         cursor.old cursor.new result }
 {
@@ -89,7 +89,7 @@ fn param_list(alloc: Global, cursor: &mut Cursor<'_>) -> Result<Vec<Param>, Stuc
 }
 
 /// "," param
-fn comma_param(cursor: &mut Cursor<'_>) -> Result<Param, Stuck>
+fn comma_param(cursor: &mut Cursor<'_>) -> Result<MessageParameter, Stuck>
     ensures { ReadsEnded (λ x. x) (comma param) cursor.old cursor.new result }
 {
     cursor.expect(Kind::Comma)?;
@@ -97,10 +97,10 @@ fn comma_param(cursor: &mut Cursor<'_>) -> Result<Param, Stuck>
 }
 
 /// param = type ID .
-fn param(cursor: &mut Cursor<'_>) -> Result<Param, Stuck>
+fn param(cursor: &mut Cursor<'_>) -> Result<MessageParameter, Stuck>
     ensures { ReadsEnded (λ x. x) param cursor.old cursor.new result }
 {
     let ty = value_type(cursor)?;
     let name = cursor.name()?;
-    Ok(Param { ty, name })
+    Ok(MessageParameter { ty, name })
 }

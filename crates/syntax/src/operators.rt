@@ -1,7 +1,7 @@
 //! Reads operators.
 
 ghost use Rattle.std.specs.Prelude.{◌≡◌};
-ghost use Rattle.syntax.specs.Reading.{ReadsWord, ReadsRow, ReadsEnded};
+ghost use Rattle.syntax.specs.Reading.{ReadsWord, ReadsList, ReadsEnded};
 ghost use Rattle.tree.specs.Operators.{Or, And, Equal, Compare, prefix, equality_word, relation_word, sum_operator};
 ghost use Rattle.tree.specs.Factors.{factor_operator};
 ghost use Rattle.syntax.specs.OperatorReads.{behind_sum, joins, joins_factors, equality_of, relation_of, prefix_of, opens_prefix};

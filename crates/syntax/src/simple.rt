@@ -10,7 +10,7 @@ ghost use Rattle.syntax.specs.StatementFirsts.{lead_of, statement_on, statement_
 
 use crate::cursor::{Cursor, Stuck};
 use crate::expressions::read_index;
-use crate::leads::{Lead, Simple};
+use crate::leads::{Lead, SimpleLead};
 use crate::statement_ends::{
     assigned, called, channel_ends, declared, delete, exchange, jump, return_statement, start,
 };
@@ -25,32 +25,32 @@ use tree::{
 pub fn simple_statement(
     alloc: Global,
     cursor: &mut Cursor<'_>,
-    simple: Simple,
+    simple: SimpleLead,
 ) -> Result<Statement, Stuck>
     requires { lead_of (kind_at cursor.old) ≡ Some (Lead.Simple simple) }
     ensures { Reads statement_tree statement statement_on statement_at cursor.old cursor.new result }
 {
     match simple {
-        Simple::Name => {
+        SimpleLead::Name => {
             let name = cursor.name()?;
             after_name(alloc, cursor, name)
         }
-        Simple::Scalar => {
+        SimpleLead::Scalar => {
             let ty = Type::from(scalar_type(cursor)?);
             let (name, value) = declared(alloc, cursor)?;
             let declare = Box::new(alloc, Declare { ty, name, value })?;
             Ok(Statement::Declare(declare))
         }
-        Simple::Start => {
+        SimpleLead::Start => {
             let (word, call) = start(alloc, cursor)?;
             let call = Box::new(alloc, call)?;
             Ok(Statement::Start { word, call })
         }
-        Simple::Delete => Ok(Statement::Delete(delete(cursor)?)),
-        Simple::Exchange => Ok(Statement::Exchange(Box::new(alloc, exchange(cursor)?)?)),
-        Simple::Break => Ok(Statement::Break(jump(cursor, Kind::Break)?)),
-        Simple::Continue => Ok(Statement::Continue(jump(cursor, Kind::Continue)?)),
-        Simple::Return => {
+        SimpleLead::Delete => Ok(Statement::Delete(delete(cursor)?)),
+        SimpleLead::Exchange => Ok(Statement::Exchange(Box::new(alloc, exchange(cursor)?)?)),
+        SimpleLead::Break => Ok(Statement::Break(jump(cursor, Kind::Break)?)),
+        SimpleLead::Continue => Ok(Statement::Continue(jump(cursor, Kind::Continue)?)),
+        SimpleLead::Return => {
             let (word, value) = return_statement(alloc, cursor)?;
             Ok(Statement::Return { word, value })
         }

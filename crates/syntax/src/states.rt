@@ -4,7 +4,7 @@ ghost use Rattle.std.specs.Prelude.{◌≡◌, map};
 ghost use Rattle.std.specs.List.{flat_map};
 ghost use Rattle.tree.specs.Symbols.{kind_is, by_kind, is_kind};
 ghost use Rattle.tree.specs.Spelling.{word};
-ghost use Rattle.syntax.specs.Reading.{ReadsMark, ReadsOption, ReadsRow, Reads, ReadsEnded};
+ghost use Rattle.syntax.specs.Reading.{ReadsMark, ReadsOption, ReadsList, Reads, ReadsEnded};
 ghost use Rattle.tree.specs.Grammar.{sign_word, path, line, body, state};
 ghost use Rattle.syntax.specs.Firsts.{sign_of, opens_sign};
 ghost use Rattle.syntax.specs.States.{hop, lines, one, one_at, state_on, body_at, state_at};
@@ -61,14 +61,14 @@ fn lines(alloc: Global, cursor: &mut Cursor<'_>) -> Result<(Vec<Path>, Span), St
     ensures { ReadsEnded (λ p. (map path_tree p.0.items, p.1)) lines cursor.old cursor.new result }
 {
     cursor.expect(Kind::OpenBrace)?;
-    let paths = line_row(alloc, cursor)?;
+    let paths = line_list(alloc, cursor)?;
     let close = cursor.expect_span(Kind::CloseBrace)?;
     Ok((paths, close))
 }
 
 /// { line }
-fn line_row(alloc: Global, cursor: &mut Cursor<'_>) -> Result<Vec<Path>, Stuck>
-    ensures { ReadsRow path_tree line (kind_is Kind.Name) cursor.old cursor.new result }
+fn line_list(alloc: Global, cursor: &mut Cursor<'_>) -> Result<Vec<Path>, Stuck>
+    ensures { ReadsList path_tree line (kind_is Kind.Name) cursor.old cursor.new result }
 {
     let mut all = Vec::new(alloc);
     'each: while cursor.is_next(Kind::Name) {

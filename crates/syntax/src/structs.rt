@@ -37,7 +37,7 @@ fn fields(alloc: Global, cursor: &mut Cursor<'_>) -> Result<(Vec<Field>, Span), 
     ensures { ReadsEnded (λ p. (p.0.items, p.1)) (braced (flat_map field)) cursor.old cursor.new result }
 {
     cursor.expect(Kind::OpenBrace)?;
-    let all = field_row(alloc, cursor)?;
+    let all = field_list(alloc, cursor)?;
     let close = cursor.expect_span(Kind::CloseBrace)?;
     Ok((all, close))
 }
@@ -50,7 +50,7 @@ fn is_field(kind: Option<Kind>) -> bool
 }
 
 /// { field }
-fn field_row(alloc: Global, cursor: &mut Cursor<'_>) -> Result<Vec<Field>, Stuck>
+fn field_list(alloc: Global, cursor: &mut Cursor<'_>) -> Result<Vec<Field>, Stuck>
     ensures { Reads (λ v. v.items) (flat_map field) (by_kind opens_field) (λ _. by_kind opens_field)
         cursor.old cursor.new result }
 {

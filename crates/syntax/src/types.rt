@@ -3,7 +3,7 @@
 ghost use Rattle.std.specs.Prelude.{◌≡◌};
 ghost use Rattle.tree.specs.Symbols.{kind_is, is_kind};
 ghost use Rattle.tree.specs.Spelling.{word, optional, when};
-ghost use Rattle.syntax.specs.Reading.{ReadsWord, ReadsOption, ReadsRow, never, Reads, ReadsEnded, optional_at, when_at};
+ghost use Rattle.syntax.specs.Reading.{ReadsWord, ReadsOption, ReadsList, never, Reads, ReadsEnded, optional_at, when_at};
 ghost use Rattle.tree.specs.Grammar.{scalar_word, side_word, in_heap_words, colon_name, value_type};
 ghost use Rattle.syntax.specs.Firsts.{scalar_of, side_of, opens_side, opens_type};
 ghost use Rattle.syntax.specs.Types.{bang_in_heap, array_tail, scalar_type, scalar_at, pointer_tail, endpoint_end, endpoint_tail};

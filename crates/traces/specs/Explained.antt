@@ -1,7 +1,7 @@
 -- Why something is found in a method.
 use Rattle.std.specs.Prelude.{◌≡◌, ◌++◌, ◌∷◌, [], ℕ, Bool, true, false, List, Option, Some, None, IsSomeAnd, map, slice_get, codes}
 use Rattle.std.specs.Fmt.{decimal}
-use Rattle.source.specs.Findings.{FindingParts, finding_parts}
+use Rattle.source.specs.Findings.{FindingModel, finding_model}
 use Rattle.source.specs.contracts.place.PlacePartialEq.TheImpl.{eq-value as same_place}
 use Rattle.source.specs.declared.place.Place.{Place}
 use Rattle.program.specs.Methods.{MethodModel}
@@ -21,14 +21,14 @@ use Rattle.traces.specs.declared.line.Line.{Line}
 
 -- a finding, and what is told of it
 pub record ExplainedModel : Type 0 where
-  pub finding : FindingParts
+  pub finding : FindingModel
   pub lines : List LineModel
 
-abbrev pub explained_as : FindingParts → List Line → ExplainedModel
+abbrev pub explained_as : FindingModel → List Line → ExplainedModel
 explained_as finding lines = record { finding = finding; lines = map line_model lines }
 
 abbrev pub explained_model : Explained → ExplainedModel
-explained_model e = explained_as (finding_parts e.finding) e.lines.items
+explained_model e = explained_as (finding_model e.finding) e.lines.items
 
 -- the lines of a path from the first pair to where a step of the method fails so
 abbrev pub trace_lines : ProgramModel → MethodModel → Breach → (first : Pair) → (steps : List Pair) → (at : Pair) → List LineModel

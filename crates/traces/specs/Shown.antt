@@ -2,7 +2,7 @@
 use Rattle.std.specs.Prelude.{◌≡◌, ◌≢◌, ◌<◌, ◌-◌, ◌++◌, ℕ, true, List, [], ◌∷◌, Option, Some, Contains, map, slice_get, codes}
 use Rattle.std.specs.Option.{option_map_or}
 use Rattle.contracts.specs.Walks.{HasSign, IsWalk}
-use Rattle.program.specs.Parts.{MessageParts, Parts, StateParts}
+use Rattle.program.specs.Parts.{MessageModel, Parts, StateModel}
 use Rattle.program.specs.declared.contract.Direction.{Direction}
 use Rattle.program.specs.declared.contract.Direction.TheVariants.{In, Out}
 use Rattle.program.specs.declared.contract.Edge.{Edge}
@@ -32,7 +32,7 @@ pub record IsDirectionAt (parts : Parts) (place : Place) (direction : Direction)
   pub edge : Edge
   pub there : Contains parts.edges edge
   pub its : edge.place ≡ place
-  pub message : MessageParts
+  pub message : MessageModel
   pub listed : Contains parts.messages message
   pub same : message.id ≡ edge.message
   pub is : message.direction ≡ direction
@@ -62,7 +62,7 @@ pub record ShowsEarlier (parts : Parts) (place : Place) (shown : List Edge) : Ty
 
 -- the state at the place has edges of both signs: one of each is shown
 pub record ShowsBoth (parts : Parts) (place : Place) (shown : List Edge) : Type 0 where
-  pub state : StateParts
+  pub state : StateModel
   pub there : Contains parts.states state
   pub its : state.place ≡ place
   pub sends : Edge
@@ -77,7 +77,7 @@ pub record ShowsBoth (parts : Parts) (place : Place) (shown : List Edge) : Type 
 
 -- edges of one sign lead from the state at the place back to it: they are shown
 pub record ShowsRound (parts : Parts) (place : Place) (shown : List Edge) : Type 0 where
-  pub state : StateParts
+  pub state : StateModel
   pub there : Contains parts.states state
   pub its : state.place ≡ place
   pub sign : Sign

@@ -4,17 +4,17 @@ use Rattle.flow.specs.Cases.{EntranceModel}
 use Rattle.program.specs.Methods.{MethodModel}
 use Rattle.program.specs.Programs.{ProgramModel}
 use Rattle.rules.specs.Outcomes.{Pair}
-use Rattle.rules.specs.Rows.{leaves_of}
+use Rattle.rules.specs.Rows.{row_model}
 use Rattle.source.specs.declared.place.Place.{Place}
 use Rattle.traces.specs.Lines.{LineModel, case_lines, line_model}
 use Rattle.traces.specs.declared.line.Line.{Line}
 use Rattle.traces.specs.declared.step.Step.{Step}
 
 abbrev pub step_before : Step → Pair
-step_before s = (s.point, leaves_of s.before.now)
+step_before s = (s.point, row_model s.before.now)
 
 abbrev pub step_after : Step → Pair
-step_after s = (s.next, leaves_of s.after.now)
+step_after s = (s.next, row_model s.after.now)
 
 -- where the first of some cases stands, if there is one
 abbrev pub first_place : List EntranceModel → Option Place

@@ -5,7 +5,7 @@ ghost use Rattle.flow.specs.Graphs.{Call, New, instruction_model};
 ghost use Rattle.flow.specs.declared.graph.Instr.TheVariants as instr;
 ghost use Rattle.program.specs.Methods.{method_model};
 ghost use Rattle.rules.specs.Programs.{model_of};
-ghost use Rattle.rules.specs.Rows.{leaf_at, leaves_of};
+ghost use Rattle.rules.specs.Rows.{leaf_at, row_model};
 ghost use Rattle.rules.specs.declared.row.Leaf.TheVariants.{Nothing};
 ghost use Rattle.traces.specs.Lines as told;
 ghost use Rattle.traces.specs.Lines.{line, line_model};
@@ -185,7 +185,7 @@ impl Teller<'_> {
     ) -> Result<(), Memory>
         ensures { OnOk result (map line_model lines.new.items ≡ map line_model lines.old.items
             ++ told.start_lines (model_of self.now.program.now) (method_model self.now.method.now)
-            (map (λ v. v.0) watched.now) (leaves_of first.now)) }
+            (map (λ v. v.0) watched.now) (row_model first.now)) }
     {
         for variable in watched {
             let leaf = leaf_of(first.leaves(), *variable);

@@ -3,12 +3,12 @@
 ghost use Rattle.std.specs.Prelude.{◌≡◌, ◌≢◌, ◌∷◌, [], true, All, Contains, IfOk, IfSome, map, slice_get};
 ghost use Rattle.contracts.specs.Walks.{HasSign, IsWalk};
 ghost use Rattle.program.specs.Parts.{contract_parts};
-ghost use Rattle.source.specs.Findings.{finding_parts};
+ghost use Rattle.source.specs.Findings.{finding_model};
 ghost use Rattle.traces.specs.Explained.{explained_as, explained_model};
 ghost use Rattle.traces.specs.Lines.{line_model};
 ghost use Rattle.traces.specs.Shown.{HasDirection, IsDirectionAt, IsShown, Shows, ShowsBoth, ShowsEarlier, ShowsRound};
 
-use crate::edges::{edge_from, edge_lines, round_of};
+use crate::edges::{edge_index_from, edge_lines, round_of};
 use crate::hints::Hints;
 use crate::line::{Explained, Line, is_asked, line_of};
 use crate::rings::Rings;
@@ -27,7 +27,7 @@ pub fn show_faults(
     found: Vec<Finding>,
     named: Option<Place>,
 ) -> Result<Vec<Explained>, Memory>
-    ensures same { IfOk result (λ shown. map (λ e. finding_parts e.finding) shown.items ≡ map finding_parts found.items) }
+    ensures same { IfOk result (λ shown. map (λ e. finding_model e.finding) shown.items ≡ map finding_model found.items) }
     ensures shown { IfOk result (λ shown. All (λ e. IsShown named (contract_parts contract.now) (explained_model e)) shown.items) }
 {
     let faults = Faults {
@@ -58,7 +58,7 @@ impl Faults<'_> {
     /// The lines of the edges that show a finding, if they are asked for.
     fn lines_of(&self, finding: &Finding, rings: &mut Rings<'_>) -> Result<Vec<Line>, Memory>
         ensures { IfOk result (λ lines. IsShown self.now.named (contract_parts self.now.contract.now)
-            (explained_as (finding_parts finding.now) lines.items)) }
+            (explained_as (finding_model finding.now) lines.items)) }
     {
         if !is_asked(self.named, finding.place) {
             return Ok(Vec::new(self.alloc));
@@ -90,16 +90,16 @@ impl Faults<'_> {
     fn direction(&self, place: Place) -> Option<Direction>
         ensures { IfSome result (IsDirectionAt (contract_parts self.now.contract.now) place) }
     {
-        let edge = self.edge_at(place)?;
+        let edge = self.edge_index_at(place)?;
         let message = self.message(edge.message)?;
         Some(message.direction)
     }
 
     /// The edge at this place.
-    fn edge_at(&self, place: Place) -> Option<Edge>
+    fn edge_index_at(&self, place: Place) -> Option<Edge>
         ensures { IfSome result (λ edge. Contains self.now.contract.now.edges.items edge × (edge.place ≡ place)) }
     {
-        let at = self.hints.edge_at(place)?;
+        let at = self.hints.edge_index_at(place)?;
         let edge = self.contract.edges.get(at).copied()?;
         if edge.place == place {
             Some(edge)
@@ -149,7 +149,7 @@ impl Faults<'_> {
     fn earlier(&self, place: Place) -> Option<Edge>
         ensures { IfSome result (λ earlier. ShowsEarlier (contract_parts self.now.contract.now) place (earlier ∷ [])) }
     {
-        let at = self.hints.edge_at(place)?;
+        let at = self.hints.edge_index_at(place)?;
         let edge = self.edge_of(at)?;
         let before = self.hints.first_like(edge)?;
         let earlier = self.edge_of(before)?;
@@ -204,7 +204,7 @@ impl Faults<'_> {
     fn state(&self, place: Place) -> Option<State>
         ensures { IfSome result (λ state. Contains self.now.contract.now.states.items state × (state.place ≡ place)) }
     {
-        let at = self.hints.state_at(place)?;
+        let at = self.hints.state_index_at(place)?;
         let state = self.contract.states.get(at).copied()?;
         if state.place == place {
             Some(state)
@@ -217,8 +217,8 @@ impl Faults<'_> {
     fn edge(&self, state: State, sign: Sign) -> Option<Edge>
         ensures { IfSome result (λ edge. Contains self.now.contract.now.edges.items edge × (edge.from ≡ state.id) × (edge.sign ≡ sign)) }
     {
-        let at = self.hints.edge_from(state.id.0, sign)?;
-        edge_from(&self.contract.edges, at, state.id, sign)
+        let at = self.hints.edge_index_from(state.id.0, sign)?;
+        edge_index_from(&self.contract.edges, at, state.id, sign)
     }
 }
 

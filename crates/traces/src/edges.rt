@@ -24,7 +24,7 @@ pub(crate) fn round_of(
     let mut walk = Vec::new(alloc);
     let mut at = state;
     for index in indices {
-        let Some(edge) = edge_from(edges, *index, at, sign) else {
+        let Some(edge) = edge_index_from(edges, *index, at, sign) else {
             return Ok(Vec::new(alloc));
         };
         walk.push(edge)?;
@@ -38,7 +38,12 @@ pub(crate) fn round_of(
 }
 
 /// The edge with this index, if it has the sign and begins in the state.
-pub(crate) fn edge_from(edges: &[Edge], index: usize, state: StateId, sign: Sign) -> Option<Edge>
+pub(crate) fn edge_index_from(
+    edges: &[Edge],
+    index: usize,
+    state: StateId,
+    sign: Sign,
+) -> Option<Edge>
     ensures { IfSome result (λ edge. Contains edges.now edge × (edge.from ≡ state) × (edge.sign ≡ sign)) }
 {
     let edge = edges.get(index).copied()?;

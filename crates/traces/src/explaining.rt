@@ -1,7 +1,7 @@
 //! Findings of a method, each with the lines of a shortest path to it.
 
 ghost use Rattle.std.specs.Prelude.{◌≡◌, ◌<◌, ◌∷◌, [], true, false, All, Contains, IfOk, IsSomeAnd, List, length, map, slice_get};
-ghost use Rattle.source.specs.Findings.{finding_parts};
+ghost use Rattle.source.specs.Findings.{finding_model};
 ghost use Rattle.flow.specs.Graphs.{graph_model};
 ghost use Rattle.flow.specs.Lowering.{graph_of};
 ghost use Rattle.program.specs.Methods.{method_model};
@@ -42,7 +42,7 @@ pub fn explain(
     requires worker { IsWorkerOf rows.now worker.old }
     ensures worker { IsWorkerOf rows.now worker.new }
     ensures verdict { IfOk result (λ found.
-        IsMethodVerdict (model_of program.now) method.0 (map (λ e. finding_parts e.finding) found.items)) }
+        IsMethodVerdict (model_of program.now) method.0 (map (λ e. finding_model e.finding) found.items)) }
     ensures explained { IfOk result (λ found.
         All (λ e. IsExplainedIf named (model_of program.now) method.0 (explained_model e)) found.items) }
 {
@@ -84,7 +84,7 @@ impl Site<'_> {
         requires there { self.now.method.0 < length (model_of self.now.program.now).methods }
         requires many { HasTooMany (model_of self.now.program.now) self.now.method.0 }
         ensures verdict { IfOk result (λ found. IsMethodVerdict (model_of self.now.program.now) self.now.method.0
-            (map (λ e. finding_parts e.finding) found.items)) }
+            (map (λ e. finding_model e.finding) found.items)) }
         ensures explained { IfOk result (λ found.
             All (λ e. IsExplainedIf self.now.named (model_of self.now.program.now) self.now.method.0 (explained_model e)) found.items) }
     {
@@ -139,7 +139,7 @@ impl Site<'_> {
         requires trails { (pairs : List PairModel) × HasSeen worker.old pairs
             × AreTrails (model_of self.now.program.now) self.now.method.0 pairs trails.now }
         ensures worker { IsWorkerOf self.now.rows.now worker.new }
-        ensures found { IfOk result (λ found. map (λ e. finding_parts e.finding) found.items
+        ensures found { IfOk result (λ found. map (λ e. finding_model e.finding) found.items
             ≡ says_all (breach_in (model_of self.now.program.now) self.now.method.0) trails.now) }
         ensures explained { IfOk result (λ found.
             All (λ e. IsExplainedIf self.now.named (model_of self.now.program.now) self.now.method.0 (explained_model e)) found.items) }
@@ -167,7 +167,7 @@ impl Site<'_> {
         ensures worker { IsWorkerOf self.now.rows.now worker.new }
         ensures differ { Differ (own_of worker.new) }
         ensures seen { (pairs : List PairModel) → HasSeen worker.old pairs → HasSeen worker.new pairs }
-        ensures finding { IfOk result (λ e. finding_parts e.finding
+        ensures finding { IfOk result (λ e. finding_model e.finding
             ≡ breach_in (model_of self.now.program.now) self.now.method.0 failure.breach) }
         ensures explained { IfOk result (λ e.
             IsExplainedIf self.now.named (model_of self.now.program.now) self.now.method.0 (explained_model e)) }
@@ -208,7 +208,7 @@ impl Site<'_> {
             method: &self.program.methods()[self.method.0 as usize],
             graph: self.program.graph(self.method),
         };
-        let places = trails.path_to(self.alloc, failure)?;
+        let places = trails.indices_to(self.alloc, failure)?;
         let mut row = Row::empty(self.alloc);
         let point = worker.read_pair(self.rows, failure.at, &mut row)?;
         let at = teller.instruction_at(point);

@@ -58,12 +58,12 @@ impl Hints {
     }
 
     /// The index of the edge at a place.
-    pub(crate) fn edge_at(&self, place: Place) -> Option<usize> {
+    pub(crate) fn edge_index_at(&self, place: Place) -> Option<usize> {
         self.edges.get(&key_of(place)).copied()
     }
 
     /// The index of the state at a place.
-    pub(crate) fn state_at(&self, place: Place) -> Option<usize> {
+    pub(crate) fn state_index_at(&self, place: Place) -> Option<usize> {
         self.states.get(&key_of(place)).copied()
     }
 
@@ -73,7 +73,7 @@ impl Hints {
     }
 
     /// The index of the first edge of a state with a sign.
-    pub(crate) fn edge_from(&self, state: u32, sign: Sign) -> Option<usize> {
+    pub(crate) fn edge_index_from(&self, state: u32, sign: Sign) -> Option<usize> {
         match sign {
             Sign::Send => self.sends.get(&state).copied(),
             Sign::Receive => self.receives.get(&state).copied(),

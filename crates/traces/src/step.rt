@@ -2,7 +2,7 @@
 
 ghost use Rattle.std.specs.Prelude.{◌≡◌, ◌==◌, ◌||◌};
 ghost use Rattle.std.specs.List.{list_all};
-ghost use Rattle.rules.specs.Rows.{leaves_of};
+ghost use Rattle.rules.specs.Rows.{row_model};
 ghost use Rattle.traces.specs.Lines.{keeps};
 
 use crate::changes::leaf_of;
@@ -21,14 +21,14 @@ pub(crate) struct Step<'a> {
 impl Step<'_> {
     /// Whether a variable has behind it what it had before.
     pub(crate) fn keeps(&self, variable: VarId) -> bool
-        ensures { result ≡ keeps (leaves_of self.now.before.now) (leaves_of self.now.after.now) variable.0 }
+        ensures { result ≡ keeps (row_model self.now.before.now) (row_model self.now.after.now) variable.0 }
     {
         leaf_of(self.before.leaves(), variable) == leaf_of(self.after.leaves(), variable)
     }
 
     /// Whether all of these variables have what they had.
     pub(crate) fn keeps_all(&self, variables: &[VarId]) -> bool
-        ensures { result ≡ list_all (λ v. keeps (leaves_of self.now.before.now) (leaves_of self.now.after.now) v.0) variables.now }
+        ensures { result ≡ list_all (λ v. keeps (row_model self.now.before.now) (row_model self.now.after.now) v.0) variables.now }
     {
         for variable in variables {
             if !self.keeps(*variable) {
@@ -41,7 +41,7 @@ impl Step<'_> {
     /// Whether these endpoints have what they had, but for this one.
     pub(crate) fn keeps_others(&self, endpoints: &[Mention], own: VarId) -> bool
         ensures { result ≡ list_all (λ e. (e.variable.0 == own.0)
-            || keeps (leaves_of self.now.before.now) (leaves_of self.now.after.now) e.variable.0) endpoints.now }
+            || keeps (row_model self.now.before.now) (row_model self.now.after.now) e.variable.0) endpoints.now }
     {
         for endpoint in endpoints {
             if endpoint.variable != own && !self.keeps(endpoint.variable) {

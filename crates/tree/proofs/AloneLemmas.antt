@@ -5,18 +5,18 @@ use Rattle.lemmas.proofs.Lists.{some_of, none_of}
 use Rattle.tree.specs.Operators as levels
 use Rattle.tree.specs.Operators.{Operators, Add, Single, below}
 use Rattle.tree.specs.Expressions.{LevelTree, AtomTree, StepOf, Chain, Done, More}
-use Rattle.tree.specs.Factors.{FactorTree, before_sum, gathered, step_row}
+use Rattle.tree.specs.Factors.{FactorTree, before_sum, gathered, step_sequence}
 use Rattle.tree.specs.declared.expression.FactorOperator.{FactorOperator}
 use Rattle.tree.specs.declared.expression.FactorOperator.TheVariants as operators
 use Rattle.tree.specs.Alone.{lone_atom}
 
 -- with operators behind its first part it is more
-pub chain_is_more : (l : Operators) {X : Type 0} (f : X → StepOf l) (first : LevelTree (below l)) (xs : List X) (n : ℕ) (tree : LevelTree (levels.Joined l)) → tree ≡ Chain l first (step_row l (map f xs)) → n ≡ length xs → (n == 0) ≡ false → None ≡ lone_atom tree
+pub chain_is_more : (l : Operators) {X : Type 0} (f : X → StepOf l) (first : LevelTree (below l)) (xs : List X) (n : ℕ) (tree : LevelTree (levels.Joined l)) → tree ≡ Chain l first (step_sequence l (map f xs)) → n ≡ length xs → (n == 0) ≡ false → None ≡ lone_atom tree
 chain_is_more l f first [] n tree seen is h = let lt = some_of n 0 is h in absurd (omega (arith, lt))
 chain_is_more l f first (x ∷ xs) n tree seen is h = sym (ap (λ (t : LevelTree (levels.Joined l)). lone_atom t) seen)
 
 -- without, it is its first part
-pub chain_is_first : (l : Operators) {X : Type 0} (f : X → StepOf l) (first : LevelTree (below l)) (xs : List X) (n : ℕ) (tree : LevelTree (levels.Joined l)) {r : Option AtomTree} → tree ≡ Chain l first (step_row l (map f xs)) → n ≡ length xs → (n == 0) ≡ true → r ≡ lone_atom first → r ≡ lone_atom tree
+pub chain_is_first : (l : Operators) {X : Type 0} (f : X → StepOf l) (first : LevelTree (below l)) (xs : List X) (n : ℕ) (tree : LevelTree (levels.Joined l)) {r : Option AtomTree} → tree ≡ Chain l first (step_sequence l (map f xs)) → n ≡ length xs → (n == 0) ≡ true → r ≡ lone_atom first → r ≡ lone_atom tree
 chain_is_first l f first [] n tree seen is h same = same ∙ sym (ap (λ (t : LevelTree (levels.Joined l)). lone_atom t) seen)
 chain_is_first l f first (x ∷ xs) n tree seen is h same = let none = none_of n (length (x ∷ xs)) is h in absurd (omega (arith, none))
 

@@ -7,7 +7,7 @@ use Rattle.source.specs.declared.token.Span.{Span}
 use Rattle.tree.specs.ExpressionTrees.{expression_tree}
 use Rattle.tree.specs.Values.{call_tree}
 use Rattle.tree.specs.StatementTrees as trees
-use Rattle.tree.specs.StatementTrees.{StatementTree, BlockTree, CaseTree, IfTree, SwitchTree, TestTree, statement_tree, block_tree, case_tree, if_tree, switch_tree, test_tree, statement_step, block_step, case_step, if_step, switch_step, test_step, statement_row, case_row, other_row, declare_tree, assign_tree}
+use Rattle.tree.specs.StatementTrees.{StatementTree, BlockTree, CaseTree, IfTree, SwitchTree, TestTree, statement_tree, block_tree, case_tree, if_tree, switch_tree, test_tree, statement_step, block_step, case_step, if_step, switch_step, test_step, statement_sequence, case_sequence, other_sequence, declare_tree, assign_tree}
 use Rattle.tree.specs.declared.expression.Expression.{Expression}
 use Rattle.tree.specs.declared.value.Call.{Call}
 use Rattle.tree.specs.declared.statement as made
@@ -17,10 +17,10 @@ use Rattle.tree.specs.declared.statement.Statement.TheVariants as variants
 
 -- the structs
 
-pub block_is : (b : made.Block.Block) → block_tree b ≡ trees.Braces (statement_row (map statement_tree b.statements.items)) b.close
+pub block_is : (b : made.Block.Block) → block_tree b ≡ trees.Braces (statement_sequence (map statement_tree b.statements.items)) b.close
 block_is = folds.fold_out-Block StatementTree BlockTree CaseTree IfTree SwitchTree TestTree statement_step block_step case_step if_step switch_step test_step
 
-pub case_is : (c : made.Case.Case) → case_tree c ≡ trees.Case c.word c.endpoint c.message c.«open» c.binds.items (statement_row (map statement_tree c.statements.items))
+pub case_is : (c : made.Case.Case) → case_tree c ≡ trees.Case c.word c.endpoint c.message c.«open» c.binds.items (statement_sequence (map statement_tree c.statements.items))
 case_is = folds.fold_out-Case StatementTree BlockTree CaseTree IfTree SwitchTree TestTree statement_step block_step case_step if_step switch_step test_step
 
 pub switch_is : (s : made.Switch.Switch) → switch_tree s ≡ record { word = (made.Switch.out-Switch s).word; first = case_tree (made.Switch.out-Switch s).first; others = map case_tree (made.Switch.out-Switch s).others.items; close = (made.Switch.out-Switch s).close }
@@ -29,11 +29,11 @@ switch_is = folds.fold_out-Switch StatementTree BlockTree CaseTree IfTree Switch
 pub test_is : (t : made.Test.Test) → test_tree t ≡ trees.Test t.word t.«open» (expression_tree t.test) (block_tree t.body)
 test_is = folds.fold_out-Test StatementTree BlockTree CaseTree IfTree SwitchTree TestTree statement_step block_step case_step if_step switch_step test_step
 
-if_made : (first : made.Test.Test) (others : Vec made.Test.Test Global) (o : Option made.Block.Block) → if_tree (made.If.roll-If (record { first = first; others = others; otherwise = o })) ≡ record { first = test_tree first; others = other_row (map test_tree others.items) (option_map block_tree o) }
+if_made : (first : made.Test.Test) (others : Vec made.Test.Test Global) (o : Option made.Block.Block) → if_tree (made.If.roll-If (record { first = first; others = others; otherwise = o })) ≡ record { first = test_tree first; others = other_sequence (map test_tree others.items) (option_map block_tree o) }
 if_made first others None = folds.fold-roll-If StatementTree BlockTree CaseTree IfTree SwitchTree TestTree statement_step block_step case_step if_step switch_step test_step (record { first = first; others = others; otherwise = None })
 if_made first others (Some b) = folds.fold-roll-If StatementTree BlockTree CaseTree IfTree SwitchTree TestTree statement_step block_step case_step if_step switch_step test_step (record { first = first; others = others; otherwise = Some b })
 
-pub if_is : (i : made.If.If) → if_tree i ≡ record { first = test_tree (made.If.out-If i).first; others = other_row (map test_tree (made.If.out-If i).others.items) (option_map block_tree (made.If.out-If i).otherwise) }
+pub if_is : (i : made.If.If) → if_tree i ≡ record { first = test_tree (made.If.out-If i).first; others = other_sequence (map test_tree (made.If.out-If i).others.items) (option_map block_tree (made.If.out-If i).otherwise) }
 if_is i = ap if_tree (sym (made.If.roll-out-If i)) ∙ if_made (made.If.out-If i).first (made.If.out-If i).others (made.If.out-If i).otherwise
 
 -- the forms of a statement
@@ -77,5 +77,5 @@ of_continue word = ap statement_tree (sym (variants.rolls-Continue word)) ∙ fo
 pub of_return : (word : Span) (value : Option (Box Expression Global)) → statement_tree (variants.Return word value) ≡ trees.Return word (option_map (λ e. expression_tree e.value) value)
 of_return word value = ap statement_tree (sym (variants.rolls-Return word value)) ∙ folds.fold-roll-Statement StatementTree BlockTree CaseTree IfTree SwitchTree TestTree statement_step block_step case_step if_step switch_step test_step (layer.Return word value)
 
-pub of_switch : (s : Box made.Switch.Switch Global) → statement_tree (variants.Switch s) ≡ trees.Switch (switch_tree s.value).word (switch_tree s.value).first (case_row (switch_tree s.value).others) (switch_tree s.value).close
+pub of_switch : (s : Box made.Switch.Switch Global) → statement_tree (variants.Switch s) ≡ trees.Switch (switch_tree s.value).word (switch_tree s.value).first (case_sequence (switch_tree s.value).others) (switch_tree s.value).close
 of_switch s = ap statement_tree (sym (variants.rolls-Switch s)) ∙ folds.fold-roll-Statement StatementTree BlockTree CaseTree IfTree SwitchTree TestTree statement_step block_step case_step if_step switch_step test_step (layer.Switch s)

@@ -3,7 +3,7 @@ use Rattle.std.specs.Prelude.{List, [], ◌∷◌, map, Option}
 use Rattle.source.specs.declared.kind.Kind.TheVariants as kind
 use Rattle.source.specs.declared.token.Span.{Span}
 use Rattle.tree.specs.Symbols.{Symbol}
-use Rattle.tree.specs.Spelling.{word, placed, name, row, optional, listed, within, parens}
+use Rattle.tree.specs.Spelling.{word, placed, name, sequence, optional, listed, within, parens}
 use Rattle.tree.specs.Grammar.{scalar_word}
 use Rattle.tree.specs.Expressions.{ExpressionTree, expression, dot_name}
 use Rattle.tree.specs.ExpressionTrees.{expression_tree}
@@ -60,15 +60,15 @@ arguments = parens (listed expression)
 
 -- call = ID [ "." ID ] arguments .
 abbrev pub call : CallTree → List Symbol
-call c = row (name c.name ∷ optional dot_name c.member ∷ arguments (c.open_paren, c.arguments) ∷ [])
+call c = sequence (name c.name ∷ optional dot_name c.member ∷ arguments (c.open_paren, c.arguments) ∷ [])
 
 -- made_struct = ID arguments ; what is given is for the fields that own
 abbrev pub made_struct : Span × Span × List ExpressionTree → List Symbol
-made_struct p = row (name p.0 ∷ arguments (p.1, p.2) ∷ [])
+made_struct p = sequence (name p.0 ∷ arguments (p.1, p.2) ∷ [])
 
 -- made_array = scalar "[" expression "]" .
 abbrev pub made_array : Scalar × ExpressionTree → List Symbol
-made_array p = row (word (scalar_word p.0) ∷ within kind.OpenBracket expression kind.CloseBracket p.1 ∷ [])
+made_array p = sequence (word (scalar_word p.0) ∷ within kind.OpenBracket expression kind.CloseBracket p.1 ∷ [])
 
 -- made = made_struct | made_array .
 abbrev pub made_spelling : MadeTree → List Symbol
@@ -78,7 +78,7 @@ made_spelling (Array element length) = made_array (element, length)
 -- new = "new" "[" "ExHeap" "]" made .
 abbrev pub new_spelling : NewTree → List Symbol
 new_spelling n =
-    row (placed kind.New n.word ∷ word kind.OpenBracket ∷ word kind.ExHeap ∷ word kind.CloseBracket ∷ made_spelling n.made ∷ [])
+    sequence (placed kind.New n.word ∷ word kind.OpenBracket ∷ word kind.ExHeap ∷ word kind.CloseBracket ∷ made_spelling n.made ∷ [])
 
 -- value = expression | call | new .
 abbrev pub value_spelling : ValueTree → List Symbol

@@ -27,12 +27,12 @@ pub struct Message {
     pub direction: Direction,
     pub name: Span,
     pub open: Span,
-    pub params: Vec<Param>,
+    pub params: Vec<MessageParameter>,
 }
 
 /// A parameter of a message: type ID .
 #[derive(Drop)]
-pub struct Param {
+pub struct MessageParameter {
     pub ty: Type,
     pub name: Span,
 }

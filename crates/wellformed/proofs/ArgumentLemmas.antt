@@ -6,7 +6,7 @@ use Rattle.std.specs.Prelude.{Option, None, Some, option_and_then, slice_get, Is
 use Rattle.source.specs.declared.token.Span.{Span}
 use Rattle.tree.specs.Expressions.{ExpressionTree}
 use Rattle.tree.specs.declared.class.Parameter.{Parameter}
-use Rattle.tree.specs.declared.contract.Param.{Param}
+use Rattle.tree.specs.declared.contract.MessageParameter.{MessageParameter}
 use Rattle.names.specs.Expressions.{kind_of, place_of, held, whole_mistakes}
 use Rattle.declarations.specs.Kinds.{agree, alike, is_block, type_kind, type_unknown, unless}
 use Rattle.declarations.specs.Program.{Program}
@@ -170,14 +170,14 @@ reads_mentioned p class s f g standing [] = tt
 reads_mentioned p class s f g standing (e ∷ es) = each_append (IsMention s) (reads p.text f.locals e) (argument_reads p class f es) (reads_within p s.variables f g standing e) (reads_mentioned p class s f g standing es)
 
 -- what is given for one parameter of a message, and then what is given for others
-payload_with : (p : Program) (class : ℕ) (s : Setting) (f : Frame) (x : Param) (e : ExpressionTree) (o : Option HeapKind) (m : Option Mention) (ks : List HeapKind) (ms : List Mention)
+payload_with : (p : Program) (class : ℕ) (s : Setting) (f : Frame) (x : MessageParameter) (e : ExpressionTree) (o : Option HeapKind) (m : Option Mention) (ks : List HeapKind) (ms : List Mention)
     → type_held p x.ty ≡ o → lone p class f e ≡ m → HoldAll s (held_listed o ++ ks) (map (λ y. y.variable) (listed m ++ ms))
     → HoldAll s (held_listed (type_held p x.ty) ++ ks) (map (λ y. y.variable) (listed (lone p class f e) ++ ms))
 payload_with p class s f x e o m ks ms held lone_is h =
     subst (λ y. HoldAll s (held_listed y ++ ks) (map (λ z. z.variable) (listed (lone p class f e) ++ ms))) (sym held)
     (subst (λ y. HoldAll s (held_listed o ++ ks) (map (λ z. z.variable) (listed y ++ ms))) (sym lone_is) h)
 
-one_payload : (p : Program) (class : ℕ) (s : Setting) (f : Frame) (g : names.Frame) → AreStanding p s.variables f g → (x : Param) (e : ExpressionTree)
+one_payload : (p : Program) (class : ℕ) (s : Setting) (f : Frame) (g : names.Frame) → AreStanding p s.variables f g → (x : MessageParameter) (e : ExpressionTree)
     → type_unknown p x.ty ≡ [] → IsAsked p g (type_kind p x.ty) e → (b : Bool) → is_block (type_kind p x.ty) ≡ b
     → (ks : List HeapKind) (ms : List Mention) → HoldAll s ks (map (λ y. y.variable) ms) → HoldAll s (held_listed (type_held p x.ty) ++ ks) (map (λ y. y.variable) (listed (lone p class f e) ++ ms))
 one_payload p class s f g standing x e known asked false scalar ks ms rest =
@@ -188,7 +188,7 @@ one_payload p class s f g standing x e known asked true block ks ms rest =
     payload_with p class s f x e (Some h.held) (Some b.mention) ks ms h.is b.is (b.holds, rest)
 
 -- what is given for the parameters of a message
-pub payloads_given : (p : Program) (class : ℕ) (s : Setting) (f : Frame) (g : names.Frame) → AreStanding p s.variables f g → (params : List Param) (es : List ExpressionTree)
+pub payloads_given : (p : Program) (class : ℕ) (s : Setting) (f : Frame) (g : names.Frame) → AreStanding p s.variables f g → (params : List MessageParameter) (es : List ExpressionTree)
     → Each (λ x. type_unknown p x.ty ≡ []) params → length params ≡ length es → argument_mistakes (scope_of p g) (map (λ x. type_kind p x.ty) params) (map shape es) ≡ []
     → HoldAll s (params_held p params) (map (λ y. y.variable) (payloads p class f es))
 payloads_given p class s f g standing [] [] known many none = tt

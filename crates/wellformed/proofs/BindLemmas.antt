@@ -4,7 +4,7 @@ use Rattle.std.specs.Prelude.{Option, None, Some}
 use Rattle.source.specs.declared.token.Span.{Span}
 use Rattle.tree.specs.declared.statement as made
 use Rattle.tree.specs.declared.types as type_nodes
-use Rattle.tree.specs.declared.contract.Param.{Param}
+use Rattle.tree.specs.declared.contract.MessageParameter.{MessageParameter}
 use Rattle.names.specs.Cases.{bind_turn, binds_turn, typed_turn}
 use Rattle.declarations.specs.declared.mistake.Demand.TheVariants as demand
 use Rattle.declarations.specs.declared.mistake.Mismatch.TheVariants.{Given}
@@ -50,14 +50,14 @@ next_bound p vs name kind (Some held) f after behind bound within rest =
       turn = (declared_local p vs name kind held f within, rest.turn);
     }
 
-bind_bound : (p : Program) (vs : List VariableModel) (param : Option Param) (name : Span) (kind : Option type_nodes.Type.Type) (f after : Frame) (behind : names.Frame) (bound : List VarId)
+bind_bound : (p : Program) (vs : List VariableModel) (param : Option MessageParameter) (name : Span) (kind : Option type_nodes.Type.Type) (f after : Frame) (behind : names.Frame) (bound : List VarId)
     → Within vs (declared p.text (bound_as p param name kind) f) → Binding p vs (declared p.text (bound_as p param name kind) f) after behind bound
     → Binding p vs f after behind (one_number (next_number (bound_as p param name kind).held f) ++ bound)
 bind_bound p vs param name (Some t) f after behind bound within rest = next_bound p vs name (type_kind p t) (type_held p t) f after behind bound within rest
 bind_bound p vs param name None f after behind bound within rest = next_bound p vs name (brought_kind p param) (kind_held p (brought_kind p param) None) f after behind bound within rest
 
 -- A name that a case binds comes into scope. What the message brings for it counts where it is of the exchange heap.
-bind_stands : (p : Program) (vs : List VariableModel) (x : Param) (name : Span) (kind : Option type_nodes.Type.Type) (f : Frame) (g : names.Frame)
+bind_stands : (p : Program) (vs : List VariableModel) (x : MessageParameter) (name : Span) (kind : Option type_nodes.Type.Type) (f : Frame) (g : names.Frame)
     → type_unknown p x.ty ≡ [] → AreStanding p vs f g → Within vs (declared p.text (bound_as p (Some x) name kind) f) → (typed_turn p (Some x) name kind g).found ≡ []
     → AreStanding p vs (declared p.text (bound_as p (Some x) name kind) f) (typed_turn p (Some x) name kind g).frame
 bind_stands p vs x name (Some t) f g brought standing within none =
@@ -71,7 +71,7 @@ bind_stands p vs x name None f g brought standing within none =
     let known = type_known p x.ty brought in
     declared_stands p vs name (type_kind p x.ty) (kind_held p (type_kind p x.ty) None) Local (is_heap x.ty) f g (heap_block p x.ty brought) known (held_as p (type_kind p x.ty) None known) standing within none
 
-pub binds_stand : (p : Program) (vs : List VariableModel) (params : List Param) (binds : List made.Bind.Bind) (f : Frame) (g : names.Frame)
+pub binds_stand : (p : Program) (vs : List VariableModel) (params : List MessageParameter) (binds : List made.Bind.Bind) (f : Frame) (g : names.Frame)
     → AreStanding p vs f g → Within vs (binds_told p params binds f).frame → Each (λ x. type_unknown p x.ty ≡ []) params → length params ≡ length binds
     → (binds_turn p params binds g).found ≡ []
     → Binding p vs f (binds_told p params binds f).frame (binds_turn p params binds g).frame (binds_told p params binds f).what

@@ -6,7 +6,7 @@ use Rattle.source.specs.declared.token.Span.{Span}
 use Rattle.tree.specs.Trees.{MessageTree, contracts_of}
 use Rattle.tree.specs.declared.statement as made
 use Rattle.tree.specs.declared.types as type_nodes
-use Rattle.tree.specs.declared.contract.Param.{Param}
+use Rattle.tree.specs.declared.contract.MessageParameter.{MessageParameter}
 use Rattle.names.specs.Cases.{bind_turn, binds_turn, typed_turn}
 use Rattle.declarations.specs.Declarations.{messages_of}
 use Rattle.declarations.specs.declared.mistake.Demand.TheVariants as demand
@@ -61,7 +61,7 @@ one_holds p s name a k own asked f true block like sure known within ks vs rest 
     one_with p s name a f (kind_held p a own) (kind_held p k asked) (Some x.held) (Some y.held) ks vs x.is y.is (declared_at p s name a x.held y.held f same here, rest)
 
 -- a name that a case binds for this parameter
-bound_holds : (p : Program) (s : Setting) (x : Param) (name : Span) (kind : Option type_nodes.Type.Type) (f : Frame) (g : names.Frame) → IsKnown p (type_kind p x.ty)
+bound_holds : (p : Program) (s : Setting) (x : MessageParameter) (name : Span) (kind : Option type_nodes.Type.Type) (f : Frame) (g : names.Frame) → IsKnown p (type_kind p x.ty)
     → Within s.variables (declared p.text (bound_as p (Some x) name kind) f) → (typed_turn p (Some x) name kind g).found ≡ [] → (ks : List held.HeapKind.HeapKind) (vs : List VarId) → HoldAll s ks vs
     → HoldAll s (held_listed (type_held p x.ty) ++ ks) (one_number (next_number (bound_as p (Some x) name kind).held f) ++ vs)
 bound_holds p s x name (Some t) f g known within none ks vs rest =
@@ -76,7 +76,7 @@ bound_holds p s x name None f g known within none ks vs rest =
     one_holds p s name k k None (state_in x.ty) f (is_block k) refl (alike_self p k known) known known within ks vs rest
 
 -- what a case binds takes what its message brings
-pub binds_hold : (p : Program) (s : Setting) (params : List Param) (binds : List made.Bind.Bind) (f : Frame) (g : names.Frame)
+pub binds_hold : (p : Program) (s : Setting) (params : List MessageParameter) (binds : List made.Bind.Bind) (f : Frame) (g : names.Frame)
     → Within s.variables (binds_told p params binds f).frame → Each (λ x. type_unknown p x.ty ≡ []) params → length params ≡ length binds
     → (binds_turn p params binds g).found ≡ [] → HoldAll s (params_held p params) (binds_told p params binds f).what
 binds_hold p s [] [] f g within known many none = tt
@@ -97,7 +97,7 @@ type_kinds p t None is = tt
 type_kinds p t (Some h) is = (held_kind p (type_kind p t) h (record { state = state_in t; is = is }), tt)
 
 -- so does what messages bring
-params_kinds : (p : Program) (params : List Param) → Each (IsKind (resolved_contracts p.text (contracts_of p.items))) (params_held p params)
+params_kinds : (p : Program) (params : List MessageParameter) → Each (IsKind (resolved_contracts p.text (contracts_of p.items))) (params_held p params)
 params_kinds p [] = tt
 params_kinds p (x ∷ params) = each_append (IsKind (resolved_contracts p.text (contracts_of p.items))) (held_listed (type_held p x.ty)) (params_held p params) (type_kinds p x.ty (type_held p x.ty) refl) (params_kinds p params)
 

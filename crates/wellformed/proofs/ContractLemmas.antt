@@ -9,7 +9,7 @@ use Rattle.source.specs.declared.token.Span.{Span}
 use Rattle.tree.specs.Trees.{Class, Contract, ContractTree, DefinitionTree, ItemTree, MessageTree, Struct, contract_of, contracts_of}
 use Rattle.declarations.specs.Declarations.{messages_of, names_of_messages, states_of}
 use Rattle.tables.specs.Firsts.{first_of}
-use Rattle.program.specs.Parts.{StateParts, ContractModel}
+use Rattle.program.specs.Parts.{StateModel, ContractModel}
 use Rattle.declarations.specs.Indices.{message_at, message_index, state_index}
 use Rattle.declarations.specs.Program.{Program, as_contract, item_at}
 use Rattle.declarations.specs.Resolution.{each_behind, message_count, messages_from, named_state, numbered_message, numbered_state, resolved_contract, state_count}
@@ -83,11 +83,11 @@ contract_is_at p n c there =
 
 -- the first state of a contract is one of its states
 first_state_of : (text : List ℕ) (before : List ContractTree) (c : ContractTree) → IsStateOf (seen text before c) (seen text before c).parts.first
-first_state_of text before c = record { place = 0; state = numbered_state (state_count before) (named_state text c.state.name); there = refl; is = refl }
+first_state_of text before c = record { index = 0; state = numbered_state (state_count before) (named_state text c.state.name); there = refl; is = refl }
 
-state_at : (r : ContractModel) (place : ℕ) (o : Option StateParts) → slice_get r.parts.states place ≡ o → IsStateOf r r.parts.first → IsStateOf r (option_map_or (λ s. s) (option_map (λ s. s.id) o) r.parts.first)
+state_at : (r : ContractModel) (index : ℕ) (o : Option StateModel) → slice_get r.parts.states index ≡ o → IsStateOf r r.parts.first → IsStateOf r (option_map_or (λ s. s) (option_map (λ s. s.id) o) r.parts.first)
 state_at r place None is first = first
-state_at r place (Some s) is first = record { place = place; state = s; there = is; is = refl }
+state_at r index (Some s) is first = record { index = index; state = s; there = is; is = refl }
 
 state_placed : (r : ContractModel) (o : Option ℕ) → IsStateOf r r.parts.first → IsStateOf r (option_map_or (λ s. s) (option_map (λ s. s.id) (option_and_then (slice_get r.parts.states) o)) r.parts.first)
 state_placed r None first = first
@@ -147,7 +147,7 @@ message_is_there p n c k m there at =
     let numbers : message_number p n k ≡ Some id =
     ap (λ o. option_map (λ x. x.id) (option_and_then (λ (x : ContractModel). slice_get x.parts.messages k) o)) contract.is ∙ ap (option_map (λ x. x.id)) numbered.is in
     let message_is : message_at p n k ≡ Some m = ap (option_and_then (λ x. slice_get (messages_of x.1) k)) there ∙ at in
-    let its_own : IsMessageOf resolved id = record { place = k; message = numbered_message p.text (first + k) m; there = numbered.is; is = refl } in
+    let its_own : IsMessageOf resolved id = record { index = k; message = numbered_message p.text (first + k) m; there = numbered.is; is = refl } in
     record {
       meant = meant_as m id;
       is = ap (option_and_then (λ x. option_map (meant_as x) (message_number p n k))) message_is ∙ ap (option_map (meant_as m)) numbers;

@@ -10,7 +10,7 @@ use Rattle.source.specs.declared.token.Span.{Span}
 use Rattle.tree.specs.Trees as trees
 use Rattle.tree.specs.Trees.{DefinitionTree, ItemTree, StructTree, contracts_of}
 use Rattle.tree.specs.declared.class.Field.{Field}
-use Rattle.tree.specs.declared.contract.Param.{Param}
+use Rattle.tree.specs.declared.contract.MessageParameter.{MessageParameter}
 use Rattle.tree.specs.declared.item.Access.{Access}
 use Rattle.tree.specs.declared.types as type_nodes
 use Rattle.tree.specs.declared.types.Type.TheVariants as type
@@ -134,10 +134,10 @@ kinds_of_struct p n s there =
     (slice_get-map (λ x. fields_held p x.fields) (structs_of p.items) (structs_before p.items n) ∙ ap (option_map (λ (x : StructTree). fields_held p x.fields)) told)
 
 -- A field as a parameter of a message: what is given for fields is what is given for these.
-abbrev pub as_param : Field → Param
+abbrev pub as_param : Field → MessageParameter
 as_param f = record { ty = f.ty; name = f.name }
 
-abbrev pub as_params : StructTree → List Param
+abbrev pub as_params : StructTree → List MessageParameter
 as_params s = map as_param (owning_fields s)
 
 pub params_are : (p : Program) (fields : List Field) → params_held p (map as_param (filter (λ f. is_heap f.ty) fields)) ≡ fields_held p fields

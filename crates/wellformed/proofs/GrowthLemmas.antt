@@ -79,20 +79,20 @@ held_grows : (p : Program) (name : Span) (kind : ValueKind) (state : Option Span
 held_grows p name kind state None is f = same_grows p f _ refl
 held_grows p name kind state (Some held) is f = record { more = _ ∷ []; is = refl; local = (record { is = refl; kind = kind; held = record { state = state; is = is } }, tt) }
 
-bind_grows : (p : Program) (param : Option contract_nodes.Param.Param) (name : Span) (kind : Option type_nodes.Type.Type) (f : Frame) → Grows p f (declared p.text (bound_as p param name kind) f)
+bind_grows : (p : Program) (param : Option contract_nodes.MessageParameter.MessageParameter) (name : Span) (kind : Option type_nodes.Type.Type) (f : Frame) → Grows p f (declared p.text (bound_as p param name kind) f)
 bind_grows p param name (Some t) f = held_grows p name (type_kind p t) (state_in t) (type_held p t) refl f
 bind_grows p param name None f = held_grows p name (brought_kind p param) None (kind_held p (brought_kind p param) None) refl f
 
-pub binds_grow : (p : Program) (params : List contract_nodes.Param.Param) (binds : List made.Bind.Bind) (f : Frame) → Grows p f (binds_told p params binds f).frame
+pub binds_grow : (p : Program) (params : List contract_nodes.MessageParameter.MessageParameter) (binds : List made.Bind.Bind) (f : Frame) → Grows p f (binds_told p params binds f).frame
 binds_grow p params [] f = same_grows p f f refl
 binds_grow p [] (b ∷ binds) f = grows_then p f _ _ (bind_grows p None b.name b.ty f) (binds_grow p [] binds (bind_told p None b f).frame)
 binds_grow p (x ∷ params) (b ∷ binds) f = grows_then p f _ _ (bind_grows p (Some x) b.name b.ty f) (binds_grow p params binds (bind_told p (Some x) b f).frame)
 
-bind_nests : (p : Program) (param : Option contract_nodes.Param.Param) (name : Span) (kind : Option type_nodes.Type.Type) (f : Frame) → Nests f → Nests (declared p.text (bound_as p param name kind) f)
+bind_nests : (p : Program) (param : Option contract_nodes.MessageParameter.MessageParameter) (name : Span) (kind : Option type_nodes.Type.Type) (f : Frame) → Nests f → Nests (declared p.text (bound_as p param name kind) f)
 bind_nests p param name (Some t) f n = declared_nests p.text name (type_kind p t) (type_held p t) Local f n
 bind_nests p param name None f n = declared_nests p.text name (brought_kind p param) (kind_held p (brought_kind p param) None) Local f n
 
-binds_nest : (p : Program) (params : List contract_nodes.Param.Param) (binds : List made.Bind.Bind) (f : Frame) → Nests f → Nests (binds_told p params binds f).frame
+binds_nest : (p : Program) (params : List contract_nodes.MessageParameter.MessageParameter) (binds : List made.Bind.Bind) (f : Frame) → Nests f → Nests (binds_told p params binds f).frame
 binds_nest p params [] f n = n
 binds_nest p [] (b ∷ binds) f n = binds_nest p [] binds (bind_told p None b f).frame (bind_nests p None b.name b.ty f n)
 binds_nest p (x ∷ params) (b ∷ binds) f n = binds_nest p params binds (bind_told p (Some x) b f).frame (bind_nests p (Some x) b.name b.ty f n)

@@ -121,7 +121,7 @@ method_is p class place c m there at =
       class = class;
       tree = c;
       there = there;
-      place = place;
+      index = place;
       at = at;
       told = told_at p 0 p.items class place d.item m d.at within ∙ ap (λ k. Some (method_told p k m)) on;
     }

@@ -46,7 +46,7 @@ method_clean p class c m place clean there at =
 
 -- so the types of its result and of its parameters are known
 pub result_clean : (p : Program) (m : MethodTree) (number : ℕ) → program_mistakes p ≡ [] → IsMethod p m number → result_unknown p m.result ≡ []
-result_clean p m number clean is = (both_none (result_unknown p m.result) _ (method_clean p is.class is.tree m is.place clean is.there is.at)).0
+result_clean p m number clean is = (both_none (result_unknown p m.result) _ (method_clean p is.class is.tree m is.index clean is.there is.at)).0
 
 params_known : (p : Program) (params : List Parameter) (f : Frame) → (parameters_turn p params f).found ≡ [] → Each (λ x. type_unknown p x.ty ≡ []) params
 params_known p [] f none = tt
@@ -59,7 +59,7 @@ params_known p (x ∷ params) f none =
 pub parameters_clean : (p : Program) (m : MethodTree) (number : ℕ) → program_mistakes p ≡ [] → IsMethod p m number → Each (λ x. type_unknown p x.ty ≡ []) m.params
 parameters_clean p m number clean is =
     let f : Frame = record { variables = []; heap = 0 } in
-    let inner = (both_none (result_unknown p m.result) _ (method_clean p is.class is.tree m is.place clean is.there is.at)).1 in
+    let inner = (both_none (result_unknown p m.result) _ (method_clean p is.class is.tree m is.index clean is.there is.at)).1 in
     params_known p m.params f (both_none (parameters_turn p m.params f).found _ inner).0
 
 message_at : (p : Program) (messages : List MessageTree) (m : MessageTree) (o : Option ℕ) → flat_map (message_mistakes p) messages ≡ [] → option_and_then (slice_get messages) o ≡ Some m

@@ -153,8 +153,8 @@ pub record IsMethod (p : Program) (m : MethodTree) (number : ℕ) : Type 0 where
   pub class : ℕ
   pub tree : ClassTree
   pub there : item_at as_class p class ≡ Some (class, tree)
-  pub place : ℕ
-  pub at : slice_get tree.methods place ≡ Some m
+  pub index : ℕ
+  pub at : slice_get tree.methods index ≡ Some m
   pub told : slice_get (methods_told p) number ≡ Some (method_told p class m)
 
 -- a look-up answers this method, with its number

@@ -15,7 +15,7 @@ ghost use Rattle.program.specs.Lists.{Each};
 ghost use Rattle.wellformed.specs.Bare.{IsBare};
 
 use program::{Methods, Resolved};
-use resolving::{Program, resolve_methods};
+use resolving::{ResolvedProgram, resolve_methods};
 use source::Memory;
 use std::alloc::Global;
 use tree::Tree;
@@ -41,7 +41,7 @@ pub fn well_formed_methods(
     ensures bare { IfOk result (λ m. Each IsBare (methods_model m)) }
     ensures few { IfOk result (λ m. length (methods_model m) ≤ MOST_METHODS) }
 {
-    let Program {
+    let ResolvedProgram {
         messages,
         structs,
         methods,

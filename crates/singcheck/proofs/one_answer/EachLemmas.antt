@@ -4,7 +4,7 @@ use Rattle.std.specs.Prelude.{All, Contains, length, slice_get}
 use Rattle.std.specs.List.{AllZip, concat}
 use Rattle.std.proofs.lemmas.List.Elements.{All-head, All-tail}
 use Rattle.source.specs.Faults.{IsFault}
-use Rattle.source.specs.Findings.{FindingParts}
+use Rattle.source.specs.Findings.{FindingModel}
 use Rattle.source.specs.Tokens.{AreTokens}
 use Rattle.source.specs.declared.fault.TextFault.{TextFault}
 use Rattle.source.specs.declared.token.Token.{Token}
@@ -43,13 +43,13 @@ pub record Answered : Type 0 where
       → ((items : List ItemTree) → Spells program items tokens → ⊥) → ((k : ℕ) → IsFirstWrong program tokens k → ⊥) → ⊥
   pub whole : (p : Program) → program_mistakes p ≡ []
       → All (λ (c : ContractModel). IsWhole c.parts) (resolved_contracts p.text (contracts_of p.items))
-  pub judged : (parts : Parts) → ((found : List FindingParts) → AreExactly (conditions.IsFault parts) found → ⊥) → ⊥
+  pub judged : (parts : Parts) → ((found : List FindingModel) → AreExactly (conditions.IsFault parts) found → ⊥) → ⊥
   pub bounded : (parts : Parts) → IsWhole parts → IsSound parts → (side : Side)
       → ((n : ℕ) → IsBound parts.edges parts.first (sign_to side) n → ⊥) → ⊥
-  pub verdicts : (p : ProgramModel) (n : ℕ) → ((found : List FindingParts) → IsMethodVerdict p n found → ⊥) → ⊥
+  pub verdicts : (p : ProgramModel) (n : ℕ) → ((found : List FindingModel) → IsMethodVerdict p n found → ⊥) → ⊥
 
 -- where no stage before the methods finds something
-module _ (laws : Answered) (text : List ℕ) (clean : (found : List FindingParts) → AreFindings text found → ⊥) where
+module _ (laws : Answered) (text : List ℕ) (clean : (found : List FindingModel) → AreFindings text found → ⊥) where
   -- the text is a program
   program_some : ((items : List ItemTree) → IsProgram text items → ⊥) → ⊥
   program_some none = ⊎_elim

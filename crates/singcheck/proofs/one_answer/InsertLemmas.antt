@@ -8,23 +8,23 @@ use Rattle.std.specs.declared.cmp.Ordering.{Ordering}
 use Rattle.std.specs.declared.cmp.Ordering.TheVariants.{Less, Equal, Greater}
 use Rattle.std.proofs.lemmas.List.Elements.{All-nil, All-cons, All-head, All-tail, All-weaker, All-contains, All-contains_itself, All-from_recursion, recursion_from_All}
 use Rattle.std.proofs.lemmas.Map.Views.{All-insert_key}
-use Rattle.source.specs.Findings.{FindingParts}
+use Rattle.source.specs.Findings.{FindingModel}
 use Rattle.reports.specs.Orders.{report_cmp}
 use Rattle.singcheck.specs.Reports.{IsReport, report_bytes}
 use Rattle.reports.proofs.OrderLemmas.{equal_is_same, report_total}
 use Rattle.singcheck.proofs.one_answer.SameLemmas.{behind_front}
 use Rattle.sound.proofs.Quiet.{contains_first}
 
-abbrev put : List FindingParts → FindingParts → List FindingParts
+abbrev put : List FindingModel → FindingModel → List FindingModel
 put = insert_key report_cmp
 
 -- each once, in order
-abbrev in_order : List FindingParts → List FindingParts
+abbrev in_order : List FindingModel → List FindingModel
 in_order [] = []
 in_order (f ∷ fs) = put (in_order fs) f
 
 -- one that is put among others is there, and so are they
-put_keeps : (f : FindingParts) (fs : List FindingParts) → All (Contains (put fs f)) (f ∷ fs)
+put_keeps : (f : FindingModel) (fs : List FindingModel) → All (Contains (put fs f)) (f ∷ fs)
 put_keeps f [] = All-contains_itself (f ∷ [])
 put_keeps f (x ∷ xs) = by (report_cmp f x) refl (put_keeps f xs)
   where
@@ -39,11 +39,11 @@ put_keeps f (x ∷ xs) = by (report_cmp f x) refl (put_keeps f xs)
         let both = All-weaker (Contains (put xs f)) there (λ g. behind_front x g (put xs f)) (f ∷ xs) rest in
         All-cons there f (x ∷ xs) (All-head there f xs both) (All-cons there x xs (contains_first x (put xs f)) (All-tail there f xs both))
 
-abbrev Precedes : FindingParts → FindingParts → Type 0
+abbrev Precedes : FindingModel → FindingModel → Type 0
 Precedes f g = report_cmp f g ≡ Less
 
 -- and they stay in order
-put_sorted : (f : FindingParts) (fs : List FindingParts) → IsStrictlySortedBy report_cmp fs → IsStrictlySortedBy report_cmp (put fs f)
+put_sorted : (f : FindingModel) (fs : List FindingModel) → IsStrictlySortedBy report_cmp fs → IsStrictlySortedBy report_cmp (put fs f)
 unfolding IsStrictlySortedBy
 put_sorted f [] up = (tt, tt)
 put_sorted f (x ∷ xs) up = by (report_cmp f x) refl (put_sorted f xs up.1)
@@ -60,19 +60,19 @@ put_sorted f (x ∷ xs) up = by (report_cmp f x) refl (put_sorted f xs up.1)
         let behind = All-insert_key report_cmp f (Precedes x) xs (All-from_recursion (Precedes x) xs up.0) here in
         (recursion_from_All (Precedes x) (put xs f) behind, rest)
 
-ordered : (fs : List FindingParts) → IsStrictlySortedBy report_cmp (in_order fs)
+ordered : (fs : List FindingModel) → IsStrictlySortedBy report_cmp (in_order fs)
 unfolding IsStrictlySortedBy
 ordered [] = tt
 ordered (f ∷ fs) = put_sorted f (in_order fs) (ordered fs)
 
-none_else : (fs : List FindingParts) → All (Contains fs) (in_order fs)
+none_else : (fs : List FindingModel) → All (Contains fs) (in_order fs)
 none_else [] = All-nil (Contains [])
 none_else (f ∷ fs) =
     All-insert_key report_cmp f (Contains (f ∷ fs)) (in_order fs)
     (All-weaker (Contains fs) (Contains (f ∷ fs)) (λ g. behind_front f g fs) (in_order fs) (none_else fs))
     (contains_first f fs)
 
-all_there : (fs : List FindingParts) → All (Contains (in_order fs)) fs
+all_there : (fs : List FindingModel) → All (Contains (in_order fs)) fs
 all_there [] = All-nil (Contains [])
 all_there (f ∷ fs) =
     let there = Contains (put (in_order fs) f) in
@@ -81,7 +81,7 @@ all_there (f ∷ fs) =
     All-cons there f fs (All-head there f (in_order fs) kept)
     (All-weaker (Contains (in_order fs)) there (λ g h. All-contains there (in_order fs) g others h) fs (all_there fs))
 
-pub report_there : (found : List FindingParts) → (bytes : List ℕ) × IsReport found bytes
+pub report_there : (found : List FindingModel) → (bytes : List ℕ) × IsReport found bytes
 report_there found = (
   report_bytes (in_order found),
   record {

@@ -1,6 +1,6 @@
 -- A text has one answer of a check.
 use Rattle.std.proofs.Common.{◌≡◌, ℕ, List, length, refl, sym, ap, ◌∙◌, subst}
-use Rattle.source.specs.Findings.{FindingParts}
+use Rattle.source.specs.Findings.{FindingModel}
 use Rattle.tree.specs.Trees.{contracts_of}
 use Rattle.declarations.specs.Resolution.{resolved_contracts}
 use Rattle.contracts.specs.Conditions.{AreExactly}
@@ -40,10 +40,10 @@ one_seen laws text p q one other =
     λ i. record { contracts = contracts i; messages = messages i; structs = structs i; methods = methods i }
 
 -- what an earlier stage found is not found in a program with which nothing is wrong so far
-pub before_or_methods : Laws → (text : List ℕ) (found : List FindingParts) (p : ProgramModel) → AreFindings text found → HasProgram text p → ⊥
+pub before_or_methods : Laws → (text : List ℕ) (found : List FindingModel) (p : ProgramModel) → AreFindings text found → HasProgram text p → ⊥
 before_or_methods laws text found p are has = found_or_sound laws text found p.contracts are (record { items = has.items; parsed = has.program.parsed; clean = has.program.clean; are = has.program.are }) has.program.sound
 
-one_found : Laws → (text : List ℕ) (a b : List FindingParts) → AreCheckFindings text a → AreCheckFindings text b → AreAlike a b
+one_found : Laws → (text : List ℕ) (a b : List FindingModel) → AreCheckFindings text a → AreCheckFindings text b → AreAlike a b
 one_found laws text a b (Before x) (Before y) = one_findings laws text a b x y
 one_found laws text a b (Before x) (OfMethods y) = absurd (before_or_methods laws text a y.program x y.has)
 one_found laws text a b (OfMethods x) (Before y) = absurd (before_or_methods laws text b x.program y x.has)
@@ -51,7 +51,7 @@ one_found laws text a b (OfMethods x) (OfMethods y) =
     alike_exactly (IsWrong y.program) a b (subst (λ p. AreExactly (IsWrong p) a) (one_seen laws text x.program y.program x.has y.has) x.are) y.are
 
 -- a text with findings is not clear
-found_or_clear : Laws → (text bytes : List ℕ) (found : List FindingParts) → AreCheckFindings text found → IsClear text bytes → ⊥
+found_or_clear : Laws → (text bytes : List ℕ) (found : List FindingModel) → AreCheckFindings text found → IsClear text bytes → ⊥
 found_or_clear laws text bytes found (Before x) clear = before_or_methods laws text found clear.program x clear.has
 found_or_clear laws text bytes found (OfMethods x) clear =
     let first = some_in found x.some in

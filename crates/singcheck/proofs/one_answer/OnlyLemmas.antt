@@ -8,7 +8,7 @@ use Rattle.std.proofs.lemmas.Bool.{cases_lt}
 use Rattle.std.proofs.lemmas.List.{append_assoc, append_cancel_right, take-take}
 use Rattle.std.proofs.lemmas.List.Elements.{All-contains}
 use Rattle.source.specs.Faults.{IsFault}
-use Rattle.source.specs.Findings.{FindingParts}
+use Rattle.source.specs.Findings.{FindingModel}
 use Rattle.source.specs.Tokens.{AreTokens}
 use Rattle.source.specs.declared.fault.TextFault.{TextFault}
 use Rattle.source.specs.declared.token.Token.{Token}
@@ -77,27 +77,27 @@ none_wrong tokens items k spelled wrong = wrong.bad (record {
   begins = spelled ∙ sym (take-append-drop (k + 1) (symbols tokens));
 })
 
-text_or_program : Laws → (text : List ℕ) (found : List FindingParts) (items : List ItemTree) → IsFaulty text found → IsProgram text items → ⊥
+text_or_program : Laws → (text : List ℕ) (found : List FindingModel) (items : List ItemTree) → IsFaulty text found → IsProgram text items → ⊥
 text_or_program laws text found items faulty parsed = laws.none text parsed.tokens faulty.fault parsed.lexed faulty.first
 
-syntax_or_program : Laws → (text : List ℕ) (found : List FindingParts) (items : List ItemTree) → IsNoProgram text found → IsProgram text items → ⊥
+syntax_or_program : Laws → (text : List ℕ) (found : List FindingModel) (items : List ItemTree) → IsNoProgram text found → IsProgram text items → ⊥
 syntax_or_program laws text found items wrong parsed = none_wrong wrong.tokens items wrong.number (parsed.spelled ∙ ap symbols (laws.tokens text parsed.tokens wrong.tokens parsed.lexed wrong.lexed)) wrong.wrong
 
-pub some_in : (found : List FindingParts) → found ≢ [] → (f : FindingParts) × Contains found f
+pub some_in : (found : List FindingModel) → found ≢ [] → (f : FindingModel) × Contains found f
 some_in [] some = absurd (some refl)
 some_in (f ∷ found) some = (f, (0, omega arith, refl))
 
-names_or_clean : Laws → (text : List ℕ) (found : List FindingParts) (contracts : List ContractModel) → IsMisnamed text found → IsResolved text contracts → ⊥
+names_or_clean : Laws → (text : List ℕ) (found : List FindingModel) (contracts : List ContractModel) → IsMisnamed text found → IsResolved text contracts → ⊥
 names_or_clean laws text found contracts wrong resolved =
     let first = some_in found wrong.some in
     let same = one_program laws text wrong.items resolved.items wrong.parsed resolved.parsed in
     nothing_in first.0 (subst (λ l. Contains l first.0) (ap (λ l. program_findings (record { text = text; items = l })) same ∙ ap (map (finding_in text)) resolved.clean) (wrong.are.right first.0 first.1))
 
-broken_or_sound : (contracts : List ContractModel) (f : FindingParts) → All (λ c. IsSound c.parts) contracts → IsBroken contracts f → ⊥
+broken_or_sound : (contracts : List ContractModel) (f : FindingModel) → All (λ c. IsSound c.parts) contracts → IsBroken contracts f → ⊥
 broken_or_sound contracts f sound broken = All-contains (λ c. IsSound c.parts) contracts broken.0 sound broken.1 f broken.2
 
 -- a text with findings is no sound program
-pub found_or_sound : Laws → (text : List ℕ) (found : List FindingParts) (contracts : List ContractModel) → AreFindings text found → IsResolved text contracts → All (λ c. IsSound c.parts) contracts → ⊥
+pub found_or_sound : Laws → (text : List ℕ) (found : List FindingModel) (contracts : List ContractModel) → AreFindings text found → IsResolved text contracts → All (λ c. IsSound c.parts) contracts → ⊥
 found_or_sound laws text found contracts (OfText h) resolved sound = text_or_program laws text found resolved.items h resolved.parsed
 found_or_sound laws text found contracts (OfSyntax h) resolved sound = syntax_or_program laws text found resolved.items h resolved.parsed
 found_or_sound laws text found contracts (OfNames h) resolved sound = names_or_clean laws text found contracts h resolved
@@ -107,11 +107,11 @@ found_or_sound laws text found contracts (OfContracts h) resolved sound =
     broken_or_sound contracts first.0 sound (subst (λ l. IsBroken l first.0) same (h.are.right first.0 first.1))
 
 -- a text with findings has no bounds
-pub found_or_bounds : Laws → (text bytes : List ℕ) (found : List FindingParts) → AreFindings text found → AreBounds text bytes → ⊥
+pub found_or_bounds : Laws → (text bytes : List ℕ) (found : List FindingModel) → AreFindings text found → AreBounds text bytes → ⊥
 found_or_bounds laws text bytes found h are = found_or_sound laws text found are.contracts h are.resolved are.sound
 
 -- the findings of a text are the same
-pub one_findings : Laws → (text : List ℕ) (a b : List FindingParts) → AreFindings text a → AreFindings text b → AreAlike a b
+pub one_findings : Laws → (text : List ℕ) (a b : List FindingModel) → AreFindings text a → AreFindings text b → AreAlike a b
 one_findings laws text a b (OfText x) (OfText y) = alike_same a b (x.are ∙ ap fault_findings (laws.fault text x.fault y.fault x.first y.first) ∙ sym y.are)
 one_findings laws text a b (OfText x) (OfSyntax y) = absurd (laws.none text y.tokens x.fault y.lexed x.first)
 one_findings laws text a b (OfText x) (OfNames y) = absurd (text_or_program laws text a y.items x y.parsed)

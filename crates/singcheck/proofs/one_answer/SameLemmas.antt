@@ -5,7 +5,7 @@ use Rattle.std.specs.List.{AllByRecursion}
 use Rattle.std.specs.List.Sorted.{IsStrictlySortedBy}
 use Rattle.std.specs.Ordering.{ordering_reverse}
 use Rattle.std.specs.declared.cmp.Ordering.TheVariants.{Less, Greater}
-use Rattle.source.specs.Findings.{FindingParts}
+use Rattle.source.specs.Findings.{FindingModel}
 use Rattle.contracts.specs.Conditions.{AreExactly}
 use Rattle.reports.specs.Orders.{report_cmp}
 use Rattle.singcheck.specs.Reports.{IsReport, report_bytes}
@@ -13,9 +13,9 @@ use Rattle.reports.proofs.OrderLemmas.{report_total}
 use Rattle.sound.proofs.Quiet.{contains_first}
 
 -- these have the same findings
-pub record AreAlike (xs ys : List FindingParts) : Type 0 where
-  pub from : (f : FindingParts) → Contains xs f → Contains ys f
-  pub back : (f : FindingParts) → Contains ys f → Contains xs f
+pub record AreAlike (xs ys : List FindingModel) : Type 0 where
+  pub from : (f : FindingModel) → Contains xs f → Contains ys f
+  pub back : (f : FindingModel) → Contains ys f → Contains xs f
 
 pub behind_front : {X : Type 0} (x y : X) (xs : List X) → Contains xs y → Contains (x ∷ xs) y
 behind_front x y xs c = let below = c.1 in (suc c.0, omega arith, c.2)
@@ -30,21 +30,21 @@ front_or_behind {X} x y xs c = go c.0 c.1 c.2
 pub nothing_in : {X : Type 0} (x : X) → Contains [] x → ⊥
 nothing_in x c = let below = c.1 in omega arith
 
-each_in : (P : FindingParts → Type 0) (xs : List FindingParts) (y : FindingParts) → AllByRecursion P xs → Contains xs y → P y
+each_in : (P : FindingModel → Type 0) (xs : List FindingModel) (y : FindingModel) → AllByRecursion P xs → Contains xs y → P y
 each_in P [] y all c = absurd (nothing_in y c)
 each_in P (x ∷ xs) y all c = ⊎_elim (λ e. subst P e all.0) (λ behind. each_in P xs y all.1 behind) (front_or_behind x y xs c)
 
-never_below : (x y : FindingParts) → report_cmp x y ≡ Less → report_cmp y x ≡ Less → ⊥
+never_below : (x y : FindingModel) → report_cmp x y ≡ Less → report_cmp y x ≡ Less → ⊥
 never_below x y e f =
     let back : report_cmp x y ≡ ordering_reverse (report_cmp y x) = report_total.antisymm x y in
     let turned : Less ≡ Greater = sym e ∙ back ∙ ap ordering_reverse f in
     cc
 
-never_itself : (x : FindingParts) → report_cmp x x ≡ Less → ⊥
+never_itself : (x : FindingModel) → report_cmp x x ≡ Less → ⊥
 never_itself x e = never_below x x e e
 
 -- strictly sorted lists of the same findings are the same
-pub one_order : (xs ys : List FindingParts) → IsStrictlySortedBy report_cmp xs → IsStrictlySortedBy report_cmp ys → AreAlike xs ys → xs ≡ ys
+pub one_order : (xs ys : List FindingModel) → IsStrictlySortedBy report_cmp xs → IsStrictlySortedBy report_cmp ys → AreAlike xs ys → xs ≡ ys
 unfolding IsStrictlySortedBy
 one_order [] [] up down alike = refl
 one_order [] (y ∷ ys) up down alike = absurd (nothing_in y (alike.back y (contains_first y ys)))
@@ -70,7 +70,7 @@ one_order (x ∷ xs) (y ∷ ys) up down alike =
     ap (λ z. z ∷ xs) first ∙ ap (λ l. y ∷ l) (one_order xs ys up.1 down.1 rest)
 
 -- and so are their reports
-pub one_report : (xs ys : List FindingParts) (a b : List ℕ) → AreAlike xs ys → IsReport xs a → IsReport ys b → a ≡ b
+pub one_report : (xs ys : List FindingModel) (a b : List ℕ) → AreAlike xs ys → IsReport xs a → IsReport ys b → a ≡ b
 one_report xs ys a b alike one other =
     let listed : one.listed ≡ other.listed = one_order one.listed other.listed one.ordered other.ordered (record {
       from = λ f c. other.same.all f (alike.from f (one.same.right f c));
@@ -79,13 +79,13 @@ one_report xs ys a b alike one other =
     one.is ∙ ap report_bytes listed ∙ sym other.is
 
 -- findings that are exactly those of which something holds
-pub alike_exactly : (P : FindingParts → Type 0) (xs ys : List FindingParts) → AreExactly P xs → AreExactly P ys → AreAlike xs ys
+pub alike_exactly : (P : FindingModel → Type 0) (xs ys : List FindingModel) → AreExactly P xs → AreExactly P ys → AreAlike xs ys
 alike_exactly P xs ys one other = record {
   from = λ f c. other.all f (one.right f c);
   back = λ f c. one.all f (other.right f c);
 }
 
-pub alike_same : (xs ys : List FindingParts) → xs ≡ ys → AreAlike xs ys
+pub alike_same : (xs ys : List FindingModel) → xs ≡ ys → AreAlike xs ys
 alike_same xs ys e = record {
   from = λ f c. subst (λ l. Contains l f) e c;
   back = λ f c. subst (λ l. Contains l f) (sym e) c;

@@ -3,7 +3,7 @@ use Rattle.std.proofs.Common.{◌≡◌, ◌≢◌, ◌==◌, ℕ, ◌+◌, ◌<
 use Rattle.std.proofs.Common.{◌∙◌, subst, arith, ⊎_elim}
 use Rattle.std.proofs.lemmas.Bool.{cases_Bool, eqb-true}
 use Rattle.std.specs.Prelude.{Option, ◌||◌, if◌then◌else◌}
-use Rattle.source.specs.Findings.{FindingParts}
+use Rattle.source.specs.Findings.{FindingModel}
 use Rattle.source.specs.declared.place.Place.{Place}
 use Rattle.program.specs.Lists.{Each, is_among}
 use Rattle.program.specs.Methods.{MethodModel, VariableModel}
@@ -87,7 +87,7 @@ given_leaves a bs vs row kinds arguments fit apart claims once =
     (omega arith, four)
 
 -- what goes into a message or the fields of a block, as arguments
-pub taken_fit : (m : MethodModel) (bs : List Block) (vs : List (Option ℕ)) (row : List Leaf) (wrong : List ℕ → Place → FindingParts)
+pub taken_fit : (m : MethodModel) (bs : List Block) (vs : List (Option ℕ)) (row : List Leaf) (wrong : List ℕ → Place → FindingModel)
     (kinds : List HeapKind) (given : List Mention) → RowFits bs m.variables vs row
     → AreOfKinds m.variables kinds (map (λ x. x.variable.0) given) → Passed (each_taken m row wrong kinds given)
     → ArgsFit bs vs row kinds (payloads_claimed given)
@@ -102,7 +102,7 @@ taken_fit m bs vs row wrong (k ∷ kinds) (x ∷ given) fits are h = (
 )
 
 -- none of it is lent
-pub taken_own : (m : MethodModel) (row : List Leaf) (wrong : List ℕ → Place → FindingParts) (variables : List VariableModel)
+pub taken_own : (m : MethodModel) (row : List Leaf) (wrong : List ℕ → Place → FindingModel) (variables : List VariableModel)
     (kinds : List HeapKind) (given : List Mention) → AreOfKinds variables kinds (map (λ x. x.variable.0) given)
     → Passed (each_taken m row wrong kinds given)
     → Each (λ a. a.claimed ≡ true → is_lent m (number a) ≡ false) (payloads_claimed given)

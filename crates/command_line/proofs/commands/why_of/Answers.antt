@@ -4,7 +4,7 @@ use Rattle.clap.specs.Words.{new_app}
 use Rattle.clap.specs.Simple.{app_of_fields}
 use Rattle.clap.specs.declared.builder.command.Command.{Command}
 use Rattle.clap.specs.declared.builder.command.Command.TheOpen.{Command-F}
-use Rattle.command_line.specs.Asking.{IsCommand, file_command, spare_rule, text_rule}
+use Rattle.command_line.specs.Asking.{IsCommand, file_command, optional_rule, text_rule}
 use Rattle.command_line.proofs.CommandLemmas.{with_arg}
 use Rattle.command_line.proofs.commands.why_of.Goals as goal
 
@@ -15,4 +15,4 @@ returns c =
       local = ap (λ (f : Command-F Command). f.has_globals) c.after_help.ensures ∙ ap (λ (f : Command-F Command). f.has_globals) c.about.ensures ∙ c.new.ensures.local;
     } in
     let file = with_arg (new_app (codes "why")) (text_rule (codes "FILE")) c.after_help.result c.in_ok-arg.field-0 c.file_of.result bare c.file_of.ensures.rule c.file_of.ensures.local c.in_ok-arg.ensures in
-    IfOk-weaker c.arg-2.result _ _ (λ r h. with_arg (file_command (codes "why")) (spare_rule (codes "LINE:COL")) c.in_ok-arg.field-0 r c.spare_of.result file c.spare_of.ensures.rule c.spare_of.ensures.local h) c.arg-2.ensures
+    IfOk-weaker c.arg-2.result _ _ (λ r h. with_arg (file_command (codes "why")) (optional_rule (codes "LINE:COL")) c.in_ok-arg.field-0 r c.optional_of.result file c.optional_of.ensures.rule c.optional_of.ensures.local h) c.arg-2.ensures

@@ -4,7 +4,7 @@ use Rattle.std.proofs.lemmas.List.{length-map}
 use Rattle.contracts.specs.Marking.{IsMarked}
 use Rattle.contracts.specs.Reached.{IsLongest}
 use Rattle.program.specs.declared.contract.Sign.TheVariants.{Send, Receive}
-use Rattle.contracts.specs.Graphs.{OnRing, rows}
+use Rattle.contracts.specs.Graphs.{OnRing, groups}
 use Rattle.contracts.proofs.BoundLemmas.{bound_is}
 use Rattle.contracts.proofs.RoundLemmas.{no_rings}
 use Rattle.contracts.proofs.PartLemmas.{numbers_once, state_number_in}
@@ -42,8 +42,8 @@ returns c =
     let v = c.position-first.result in
     let within = subst (λ l. v < length l) c.states_of.ensures c.position-first.ensures.within in
     let at = subst (λ l. get_or l v 0 ≡ first.0) c.states_of.ensures c.position-first.ensures.at in
-    let sends = rows c.args.sends.now.rows in
-    let receives = rows c.args.receives.now.rows in
+    let sends = groups c.args.sends.now.groups in
+    let receives = groups c.args.receives.now.groups in
     let marks = c.in_ok-reached.reached.items in
     let reached = c.in_ok-reached.ensures.reached in
     let to_imp = subst (λ m. ((x : ℕ) → OnRing sends x → ⊥) → IsLongest sends m c.longest-to_imp.result) c.deref.ensures.value c.longest-to_imp.ensures.longest in

@@ -1,6 +1,6 @@
 use Rattle.std.proofs.Common.{◌≡◌, ◌<◌, ◌≤◌, ℕ, length, get_or, false, subst, arith, ⊎_elim}
 use Rattle.std.specs.Prelude.{◌⊎◌}
-use Rattle.contracts.specs.Graphs.{rows, height_at}
+use Rattle.contracts.specs.Graphs.{groups, height_at}
 use Rattle.contracts.specs.Reached.{counted_height}
 use Rattle.contracts.proofs.HeightLemmas.{counted_below, known, longest_is}
 use Rattle.contracts.proofs.MarkLemmas.{marked_in}
@@ -8,7 +8,7 @@ use Rattle.contracts.proofs.bounds.longest.Goals as goal
 
 pub returns : goal.returns
 returns c =
-    let graph = rows c.args.graph.now.rows in
+    let graph = groups c.args.graph.now.groups in
     let marks = c.args.reached.now in
     let heights = c.args.graph.now.heights.items in
     let n = c.tallest_of.result in

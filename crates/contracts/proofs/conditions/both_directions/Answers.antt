@@ -6,9 +6,9 @@ use Rattle.std.proofs.lemmas.List.{length-map}
 use Rattle.std.proofs.lemmas.Option.{slice_get_read, slice_get-map}
 use Rattle.source.specs.declared.finding.Code.TheVariants.{C03}
 use Rattle.program.specs.declared.contract.Sign.TheVariants.{Send, Receive}
-use Rattle.contracts.specs.Conditions.{IsBoth, finding_parts}
+use Rattle.contracts.specs.Conditions.{IsBoth, finding_model}
 use Rattle.contracts.specs.Found.{FoundBelow}
-use Rattle.contracts.specs.Parts.{state_parts}
+use Rattle.contracts.specs.Parts.{state_model}
 use Rattle.contracts.proofs.ConditionLemmas.{both_more, both_same, parts_are, pushed}
 use Rattle.contracts.proofs.GraphLemmas.{leaves_state, marked_leaves, none_leave_state, state_number}
 use Rattle.contracts.proofs.PartLemmas.{numbers_once}
@@ -20,7 +20,7 @@ loop-i-preserved c =
     let edges = c.args.contract.now.edges.items in
     let all = c.args.contract.now.states.items in
     let names = string_bytes c.args.contract.now.state_names in
-    let states = map (state_parts names) all in
+    let states = map (state_model names) all in
     let numbers = map (λ s. s.id.0) all in
     let i = c.loop-i.i in
     let size = c.args.contract.now.states.ok in
@@ -37,21 +37,21 @@ loop-i-preserved c =
     elim c.if-index.branch [
       | then-index+in_ok-finding+in_ok-push w ↦
           let state = w.index-state.result.now in
-          let s = state_parts names state in
-          let at : slice_get states i ≡ Some s = slice_get-map (state_parts names) all i ∙ ap (option_map (state_parts names)) (slice_get_read all (length all) i state refl lt w.index-state.ensures) in
+          let s = state_model names state in
+          let at : slice_get states i ≡ Some s = slice_get-map (state_model names) all i ∙ ap (option_map (state_model names)) (slice_get_read all (length all) i state refl lt w.index-state.ensures) in
           let number = state_number names all i s at in
           let both = and_parts c.index.result.now c.index-in-loop-i.result.now w.if-index.true in
-          subst (FoundBelow (IsBoth states edges) (i + 1)) (sym (ap (λ v. map finding_parts v.items) w.found-is
+          subst (FoundBelow (IsBoth states edges) (i + 1)) (sym (ap (λ v. map finding_model v.items) w.found-is
           ∙ pushed c.loop-i.found.items _ _ _ w.in_ok-push.ensures.items (parts_are w.in_ok-finding.finding s.place C03 (codes "both directions in " ++ utf8_lossy s.name) w.in_ok-finding.ensures.place w.in_ok-finding.ensures.code (w.in_ok-finding.ensures.text ∙ ap (λ l. codes "both directions in " ++ utf8_lossy l) w.state_name.ensures))))
-          (both_more states edges i s (map finding_parts c.loop-i.found.items) at
+          (both_more states edges i s (map finding_model c.loop-i.found.items) at
           (leaves_state numbers edges (λ e. e.sign ≡ Send) sends i s.id c.requires.drawing.sends.drawn number (sym sending ∙ both.0))
           (leaves_state numbers edges (λ e. e.sign ≡ Receive) receives i s.id c.requires.drawing.receives.drawn number (sym receiving ∙ both.1))
           c.loop-i.invariant)
       | else-index w ↦
           let once = numbers_once names all c.requires.whole.states_once in
           let long = length-map all (λ s. s.id.0) in
-          subst (λ v. FoundBelow (IsBoth states edges) (i + 1) (map finding_parts v.items)) (sym w.found-is)
-          (both_same states edges i (map finding_parts c.loop-i.found.items)
+          subst (λ v. FoundBelow (IsBoth states edges) (i + 1) (map finding_model v.items)) (sym w.found-is)
+          (both_same states edges i (map finding_model c.loop-i.found.items)
           (λ s at. let number = state_number names all i s at in ⊎_elim
           (λ none. inl (none_leave_state numbers edges (λ e. e.sign ≡ Send) sends i s.id once c.requires.drawing.sends.drawn (omega (arith, lt, long)) number (sym sending ∙ none)))
           (λ none. inr (none_leave_state numbers edges (λ e. e.sign ≡ Receive) receives i s.id once c.requires.drawing.receives.drawn (omega (arith, lt, long)) number (sym receiving ∙ none)))
@@ -66,4 +66,4 @@ returns c =
     let stop = c.loop-i-test.false in
     let most = c.loop-i.auto.i-end in
     let done : c.loop-i.i ≡ length c.args.contract.now.states.items = omega (arith, size.0, end, stop, most) in
-    record { found = subst (λ n. FoundBelow (IsBoth (map (state_parts (string_bytes c.args.contract.now.state_names)) c.args.contract.now.states.items) c.args.contract.now.edges.items) n (map finding_parts c.loop-i.found.items)) done c.loop-i.invariant }
+    record { found = subst (λ n. FoundBelow (IsBoth (map (state_model (string_bytes c.args.contract.now.state_names)) c.args.contract.now.states.items) c.args.contract.now.edges.items) n (map finding_model c.loop-i.found.items)) done c.loop-i.invariant }

@@ -1,9 +1,9 @@
 use Rattle.std.proofs.Common.{map}
 use Rattle.std.specs.Prelude.{string_bytes}
-use Rattle.contracts.specs.Conditions.{finding_parts, IsBoth}
+use Rattle.contracts.specs.Conditions.{finding_model, IsBoth}
 use Rattle.contracts.specs.Found.{FoundBelow}
-use Rattle.contracts.specs.Parts.{state_parts}
+use Rattle.contracts.specs.Parts.{state_model}
 use Rattle.contracts.proofs.conditions.both_directions.Given as goal
 
 abbrev pub invariant-loop-i : goal.invariant-loop-i
-invariant-loop-i l = FoundBelow (IsBoth (map (state_parts (string_bytes l.contract.state_names)) l.contract.states.items) l.contract.edges.items) l.i (map finding_parts l.found.items)
+invariant-loop-i l = FoundBelow (IsBoth (map (state_model (string_bytes l.contract.state_names)) l.contract.states.items) l.contract.edges.items) l.i (map finding_model l.found.items)

@@ -9,7 +9,7 @@ use Rattle.program.specs.declared.contract.Sign.TheVariants.{Send, Receive}
 use Rattle.program.specs.declared.limits.TheConstants.{MOST_STATES}
 use Rattle.contracts.specs.Arcs.{EndsListed, IsDrawn}
 use Rattle.contracts.specs.Drawings.{DrawsSign}
-use Rattle.contracts.specs.Graphs.{rows}
+use Rattle.contracts.specs.Graphs.{groups}
 use Rattle.contracts.specs.Rings.{AreRings}
 use Rattle.contracts.specs.Parts.{IsWhole, contract_parts}
 use Rattle.contracts.specs.Positions.{listed}
@@ -43,13 +43,13 @@ bounds_of-requires c =
         range = c.in_ok-sends.ensures.range;
         heights = c.in_ok-sends.ensures.heights;
         rings = c.in_ok-sends.ensures.rings;
-        drawn = drawn_as contract (listed c.states_of-states.result) c.deref.result.now Send (rows c.in_ok-sends.sends.rows) is c.deref.ensures.value c.in_ok-sends.ensures.drawn;
+        drawn = drawn_as contract (listed c.states_of-states.result) c.deref.result.now Send (groups c.in_ok-sends.sends.groups) is c.deref.ensures.value c.in_ok-sends.ensures.drawn;
       };
       receives = record {
         range = c.in_ok-receives.ensures.range;
         heights = c.in_ok-receives.ensures.heights;
         rings = c.in_ok-receives.ensures.rings;
-        drawn = drawn_as contract (listed c.states_of-states.result) c.deref-2.result.now Receive (rows c.in_ok-receives.receives.rows) is c.deref-2.ensures.value c.in_ok-receives.ensures.drawn;
+        drawn = drawn_as contract (listed c.states_of-states.result) c.deref-2.result.now Receive (groups c.in_ok-receives.receives.groups) is c.deref-2.ensures.value c.in_ok-receives.ensures.drawn;
       };
     }
 
@@ -59,16 +59,16 @@ returns c =
     let is = c.states_of-states.ensures in
     record {
       sends = record {
-        graph = rows c.in_ok-sends.sends.rows;
-        drawn = drawn_as contract (listed c.states_of-states.result) c.deref.result.now Send (rows c.in_ok-sends.sends.rows) is c.deref.ensures.value c.in_ok-sends.ensures.drawn;
+        graph = groups c.in_ok-sends.sends.groups;
+        drawn = drawn_as contract (listed c.states_of-states.result) c.deref.result.now Send (groups c.in_ok-sends.sends.groups) is c.deref.ensures.value c.in_ok-sends.ensures.drawn;
         leaves = c.in_ok-into_marks.ensures.leaves;
-        rings = subst (AreRings (rows c.in_ok-sends.sends.rows)) (sym (ap (λ (v : Vec Bool Global). v.items) c.in_ok-into_marks.ensures.rings)) c.in_ok-sends.ensures.rings;
+        rings = subst (AreRings (groups c.in_ok-sends.sends.groups)) (sym (ap (λ (v : Vec Bool Global). v.items) c.in_ok-into_marks.ensures.rings)) c.in_ok-sends.ensures.rings;
       };
       receives = record {
-        graph = rows c.in_ok-receives.receives.rows;
-        drawn = drawn_as contract (listed c.states_of-states.result) c.deref-2.result.now Receive (rows c.in_ok-receives.receives.rows) is c.deref-2.ensures.value c.in_ok-receives.ensures.drawn;
+        graph = groups c.in_ok-receives.receives.groups;
+        drawn = drawn_as contract (listed c.states_of-states.result) c.deref-2.result.now Receive (groups c.in_ok-receives.receives.groups) is c.deref-2.ensures.value c.in_ok-receives.ensures.drawn;
         leaves = c.in_ok-into_marks-2.ensures.leaves;
-        rings = subst (AreRings (rows c.in_ok-receives.receives.rows)) (sym (ap (λ (v : Vec Bool Global). v.items) c.in_ok-into_marks-2.ensures.rings)) c.in_ok-receives.ensures.rings;
+        rings = subst (AreRings (groups c.in_ok-receives.receives.groups)) (sym (ap (λ (v : Vec Bool Global). v.items) c.in_ok-into_marks-2.ensures.rings)) c.in_ok-receives.ensures.rings;
       };
       to_imp = c.in_ok-bounds.ensures.to_imp;
       to_exp = c.in_ok-bounds.ensures.to_exp;

@@ -1,11 +1,11 @@
 use Rattle.std.proofs.Common.{ℕ, ◌<◌, get_or, arith, below_more}
-use Rattle.contracts.specs.Graphs.{rows}
+use Rattle.contracts.specs.Graphs.{groups}
 use Rattle.contracts.proofs.EndlessLemmas.{Waits, heights_all, waits_next}
 use Rattle.contracts.proofs.heights.all_heights.Goals as goal
 
 pub loop-v-preserved : goal.loop-v-preserved
 loop-v-preserved c =
-    let graph = rows c.args.graph.now in
+    let graph = groups c.args.graph.now in
     let order = c.args.order.now in
     let kept = c.lift.ensures.kept in
     let before : (k : ℕ) → k < c.loop-v.v-index → Waits graph c.lift.new.heights (get_or order k 0)
@@ -19,5 +19,5 @@ loop-v-preserved c =
 pub returns : goal.returns
 returns c =
     let past = c.loop-v-test.false in
-    heights_all (rows c.args.graph.now) c.args.order.now c.loop-v.heights c.loop-v.invariant.peeled c.requires.order
+    heights_all (groups c.args.graph.now) c.args.order.now c.loop-v.heights c.loop-v.invariant.peeled c.requires.order
     (λ k lt. c.loop-v.invariant.waits k (omega (arith, past, lt)))

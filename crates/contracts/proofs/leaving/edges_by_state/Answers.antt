@@ -2,7 +2,7 @@ use Rattle.std.proofs.Common.{◌<◌, ◌∙◌, length, map, ap, sym, subst}
 use Rattle.std.specs.Prelude.{All}
 use Rattle.std.proofs.lemmas.List.Elements.{All-contains}
 use Rattle.contracts.specs.Chains.{AreEnds}
-use Rattle.contracts.specs.Graphs.{rows}
+use Rattle.contracts.specs.Graphs.{groups}
 use Rattle.contracts.specs.Leaving.{edge_at}
 use Rattle.contracts.specs.Positions.{listed}
 use Rattle.contracts.specs.Spans.{cut}
@@ -11,8 +11,8 @@ use Rattle.contracts.proofs.PartLemmas.{all_from}
 use Rattle.contracts.proofs.SourceLemmas.{leaving_is, sources_start}
 use Rattle.contracts.proofs.leaving.edges_by_state.Goals as goal
 
-pub rows_of-requires : goal.rows_of-requires
-rows_of-requires c = record { starts = subst (λ n. All (λ a. a.from < n) c.deref.result.now) (sym c.len.ensures) (subst (All (λ a. a.from < length (listed c.args.states))) (sym c.deref.ensures.value) (sources_start _ _ _ _ c.in_ok-sources.ensures)) }
+pub groups_of-requires : goal.groups_of-requires
+groups_of-requires c = record { starts = subst (λ n. All (λ a. a.from < n) c.deref.result.now) (sym c.len.ensures) (subst (All (λ a. a.from < length (listed c.args.states))) (sym c.deref.ensures.value) (sources_start _ _ _ _ c.in_ok-sources.ensures)) }
 
 pub edges_at-requires : goal.edges_at-requires
 edges_at-requires c =
@@ -27,6 +27,6 @@ returns c =
     let numbers = listed c.args.states in
     let edges = c.args.edges.now in
     let indices = c.in_ok-indices.indices in
-    leaving_is numbers edges c.in_ok-sources.sources.items (rows indices) (cut c.in_ok-items.items.items indices.ends.items) c.requires.listed c.in_ok-sources.ensures
-    (subst (λ n. AreEnds c.in_ok-sources.sources.items n (rows indices)) c.len.ensures (subst (λ l. AreEnds l c.len.result (rows indices)) c.deref.ensures.value c.in_ok-indices.ensures.exact))
+    leaving_is numbers edges c.in_ok-sources.sources.items (groups indices) (cut c.in_ok-items.items.items indices.ends.items) c.requires.listed c.in_ok-sources.ensures
+    (subst (λ n. AreEnds c.in_ok-sources.sources.items n (groups indices)) c.len.ensures (subst (λ l. AreEnds l c.len.result (groups indices)) c.deref.ensures.value c.in_ok-indices.ensures.exact))
     (ap (λ l. cut l indices.ends.items) (c.in_ok-items.ensures ∙ ap (map (edge_at edges)) c.deref-2.ensures.value) ∙ cut_map (edge_at edges) 0 indices.items.items indices.ends.items)

@@ -4,16 +4,16 @@ use Rattle.program.specs.declared.contract.Message.{Message}
 use Rattle.program.specs.declared.number.MessageId.{MessageId}
 use Rattle.contracts.specs.Arcs.{EndsListed}
 use Rattle.contracts.specs.Conditions.{IsSound}
-use Rattle.contracts.specs.Graphs.{rows}
+use Rattle.contracts.specs.Graphs.{groups}
 use Rattle.contracts.specs.Leaving.{AreLeaving}
-use Rattle.contracts.specs.Parts.{MessageParts, contract_parts, message_parts}
+use Rattle.contracts.specs.Parts.{MessageModel, contract_parts, message_model}
 use Rattle.contracts.specs.Positions.{listed}
 use Rattle.contracts.proofs.PartLemmas.{ends_listed, message_numbers_are}
 use Rattle.contracts.proofs.sound.sound_of.Goals as goal
 
 -- lists of messages with the same parts have the same numbers
-same_numbers : (one other : List Message) → map message_parts one ≡ map message_parts other → map (λ (m : Message). m.id.0) one ≡ map (λ (m : Message). m.id.0) other
-same_numbers one other same = sym (message_numbers_are one) ∙ ap (λ l. map (λ (i : MessageId). i.0) (map (λ (m : MessageParts). m.id) l)) same ∙ message_numbers_are other
+same_numbers : (one other : List Message) → map message_model one ≡ map message_model other → map (λ (m : Message). m.id.0) one ≡ map (λ (m : Message). m.id.0) other
+same_numbers one other same = sym (message_numbers_are one) ∙ ap (λ l. map (λ (i : MessageId). i.0) (map (λ (m : MessageModel). m.id) l)) same ∙ message_numbers_are other
 
 pub edges_by_state-requires : goal.edges_by_state-requires
 edges_by_state-requires c =
@@ -27,12 +27,12 @@ pub invariant_of-result-clause-edges_are : goal.invariant_of-result-clause-edges
 invariant_of-result-clause-edges_are c = c.in_ok-edges.ensures.items_if_clones_equal (λ x y h. h) ∙ c.deref.ensures.value ∙ ap (λ (k : Contract). k.edges.items) (sym c.of.ensures)
 
 pub invariant_of-result-clause-messages_are : goal.invariant_of-result-clause-messages_are
-invariant_of-result-clause-messages_are c = c.in_ok-messages.ensures.parts ∙ ap (map message_parts) c.deref-2.ensures.value ∙ ap (λ (k : Contract). map message_parts k.messages.items) (sym c.of.ensures)
+invariant_of-result-clause-messages_are c = c.in_ok-messages.ensures.parts ∙ ap (map message_model) c.deref-2.ensures.value ∙ ap (λ (k : Contract). map message_model k.messages.items) (sym c.of.ensures)
 
 pub invariant_of-result-clause-named : goal.invariant_of-result-clause-named
-invariant_of-result-clause-named c = c.messages_of.ensures ∙ same_numbers c.args.contract.now.messages.items c.in_ok-messages.messages.items (sym (c.in_ok-messages.ensures.parts ∙ ap (map message_parts) c.deref-2.ensures.value))
+invariant_of-result-clause-named c = c.messages_of.ensures ∙ same_numbers c.args.contract.now.messages.items c.in_ok-messages.messages.items (sym (c.in_ok-messages.ensures.parts ∙ ap (map message_model) c.deref-2.ensures.value))
 
 pub invariant_of-result-clause-leave : goal.invariant_of-result-clause-leave
 invariant_of-result-clause-leave c =
     let same = c.in_ok-edges.ensures.items_if_clones_equal (λ x y h. h) ∙ c.deref.ensures.value ∙ ap (λ (k : Contract). k.edges.items) (sym c.of.ensures) in
-    subst (λ edges. AreLeaving (listed c.states_of-states.result) edges (rows c.in_ok-leaving.leaving)) (c.deref-3.ensures.value ∙ same) c.in_ok-leaving.ensures
+    subst (λ edges. AreLeaving (listed c.states_of-states.result) edges (groups c.in_ok-leaving.leaving)) (c.deref-3.ensures.value ∙ same) c.in_ok-leaving.ensures

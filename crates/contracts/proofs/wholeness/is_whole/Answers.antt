@@ -7,7 +7,7 @@ use Rattle.program.specs.declared.contract.Edge.{Edge}
 use Rattle.program.specs.declared.limits.TheConstants.{MOST_STATES}
 use Rattle.program.specs.declared.number.MessageId.{MessageId}
 use Rattle.program.specs.declared.number.StateId.{StateId}
-use Rattle.contracts.specs.Parts.{AreInRow, state_ids, message_ids, contract_parts}
+use Rattle.contracts.specs.Parts.{AreConsecutive, state_ids, message_ids, contract_parts}
 use Rattle.contracts.specs.Positions.{EndsHave, listed}
 use Rattle.contracts.proofs.PartLemmas.{all_from, contains_map, state_numbers_are, message_numbers_are}
 use Rattle.contracts.proofs.PositionLemmas.{row_is}
@@ -41,13 +41,13 @@ messages_are : (c : After-new-message_list) → c.in_ok-messages.messages.items 
 messages_are c = c.in_ok-messages.ensures ∙ ap (map (λ m. m.id.0)) c.deref-2.ensures.value ∙ sym (message_numbers_are c.args.contract.now.messages.items)
 
 -- numbers that go up by one are listed by the first and their count
-states_listed : (c : After-new-message_list) → AreInRow c.args.contract.now.first.0 (map state_number (states_of c)) → listed c.new-state_list.result ≡ map state_number (states_of c)
-states_listed c row =
-    c.new-state_list.ensures ∙ ap (range_with_len c.args.contract.now.first.0) (c.len.ensures ∙ c.in_ok-states.states.ok.0 ∙ ap length (states_are c)) ∙ row_is c.args.contract.now.first.0 (map state_number (states_of c)) row
+states_listed : (c : After-new-message_list) → AreConsecutive c.args.contract.now.first.0 (map state_number (states_of c)) → listed c.new-state_list.result ≡ map state_number (states_of c)
+states_listed c group =
+    c.new-state_list.ensures ∙ ap (range_with_len c.args.contract.now.first.0) (c.len.ensures ∙ c.in_ok-states.states.ok.0 ∙ ap length (states_are c)) ∙ row_is c.args.contract.now.first.0 (map state_number (states_of c)) group
 
-messages_listed : (c : After-new-message_list) → AreInRow c.first_or_0-first_message.result (map message_number (messages_of c)) → listed c.new-message_list.result ≡ map message_number (messages_of c)
-messages_listed c row =
-    c.new-message_list.ensures ∙ ap (range_with_len c.first_or_0-first_message.result) (c.len-2.ensures ∙ c.in_ok-messages.messages.ok.0 ∙ ap length (messages_are c)) ∙ row_is c.first_or_0-first_message.result (map message_number (messages_of c)) row
+messages_listed : (c : After-new-message_list) → AreConsecutive c.first_or_0-first_message.result (map message_number (messages_of c)) → listed c.new-message_list.result ≡ map message_number (messages_of c)
+messages_listed c group =
+    c.new-message_list.ensures ∙ ap (range_with_len c.first_or_0-first_message.result) (c.len-2.ensures ∙ c.in_ok-messages.messages.ok.0 ∙ ap length (messages_are c)) ∙ row_is c.first_or_0-first_message.result (map message_number (messages_of c)) group
 
 first_is : (c : After-new-message_list) → c.first_or_0-first_message.result ≡ get_or (map message_number (messages_of c)) 0 0
 first_is c = c.first_or_0-first_message.ensures ∙ ap (λ l. get_or l 0 0) (c.deref-3.ensures.value ∙ messages_are c)
@@ -68,9 +68,9 @@ returns c =
           let all = and_parts _ _ yes in
           let three = and_parts _ _ all.0 in
           let two = and_parts _ _ three.0 in
-          let rows = and_parts _ _ two.0 in
-          let state_row = subst (AreInRow first) (c.deref-4.ensures.value ∙ states_are before) (c.are_in_row.ensures.0 rows.0) in
-          let message_row = subst (AreInRow c.first_or_0-first_message.result) (c.deref-5.ensures.value ∙ messages_are before) (c.are_in_row-2.ensures.0 rows.1) in
+          let groups = and_parts _ _ two.0 in
+          let state_row = subst (AreConsecutive first) (c.deref-4.ensures.value ∙ states_are before) (c.are_consecutive.ensures.0 groups.0) in
+          let message_row = subst (AreConsecutive c.first_or_0-first_message.result) (c.deref-5.ensures.value ∙ messages_are before) (c.are_consecutive-2.ensures.0 groups.1) in
           let listed_states = states_listed before state_row in
           let listed_messages = messages_listed before message_row in
           let each = λ (e : Edge) (h : Contains edges e). All-contains Listed edges e (subst (All Listed) c.deref-6.ensures.value (c.are_listed-listed.ensures.0 two.1)) h in
@@ -83,21 +83,21 @@ returns c =
             message = λ e h. message_in e.message (each e h).message;
             states_once = ids_once state_number states (row_once first (map state_number states) state_row);
             messages_once = ids_once message_number messages (row_once c.first_or_0-first_message.result (map message_number messages) message_row);
-            states_in_row = state_row;
-            messages_in_row = subst (λ n. AreInRow n (map message_number messages)) (first_is before) message_row;
+            states_consecutive = state_row;
+            messages_consecutive = subst (λ n. AreConsecutive n (map message_number messages)) (first_is before) message_row;
             numbered = unmapped Numbered state_number states (subst (All Numbered) (c.deref-7.ensures.value ∙ states_are before) (c.are_numbered.ensures.0 all.1));
           },
       λ whole.
-          let message_row = subst (λ n. AreInRow n (map message_number messages)) (sym (first_is before)) whole.messages_in_row in
-          let listed_states = states_listed before whole.states_in_row in
+          let message_row = subst (λ n. AreConsecutive n (map message_number messages)) (sym (first_is before)) whole.messages_consecutive in
+          let listed_states = states_listed before whole.states_consecutive in
           let listed_messages = messages_listed before message_row in
-          let rows = and_from _ _ (c.are_in_row.ensures.1 (subst (AreInRow first) (sym (c.deref-4.ensures.value ∙ states_are before)) whole.states_in_row))
-          (c.are_in_row-2.ensures.1 (subst (AreInRow c.first_or_0-first_message.result) (sym (c.deref-5.ensures.value ∙ messages_are before)) message_row)) in
+          let groups = and_from _ _ (c.are_consecutive.ensures.1 (subst (AreConsecutive first) (sym (c.deref-4.ensures.value ∙ states_are before)) whole.states_consecutive))
+          (c.are_consecutive-2.ensures.1 (subst (AreConsecutive c.first_or_0-first_message.result) (sym (c.deref-5.ensures.value ∙ messages_are before)) message_row)) in
           let state_has = λ (q : StateId) (h : Contains states q). subst (λ l. Contains l q.0) (sym listed_states) (contains_map state_number states q h) in
           let message_has = λ (m : MessageId) (h : Contains messages m). subst (λ l. Contains l m.0) (sym listed_messages) (contains_map message_number messages m h) in
           let each = all_from Listed edges (λ e h. record { from = state_has e.from (whole.from e h); to = state_has e.to (whole.to e h); message = message_has e.message (whole.message e h) }) in
           let numbered = All-map Numbered state_number states whole.numbered in
           and_from _ _
-          (and_from _ _ (and_from _ _ rows (c.are_listed-listed.ensures.1 (subst (All Listed) (sym c.deref-6.ensures.value) each))) (c.has.ensures.1 (state_has c.args.contract.now.first whole.first)))
+          (and_from _ _ (and_from _ _ groups (c.are_listed-listed.ensures.1 (subst (All Listed) (sym c.deref-6.ensures.value) each))) (c.has.ensures.1 (state_has c.args.contract.now.first whole.first)))
           (c.are_numbered.ensures.1 (subst (All Numbered) (sym (c.deref-7.ensures.value ∙ states_are before)) numbered)),
     )

@@ -1,6 +1,6 @@
 use Rattle.std.proofs.Common.{string_bytes, refl, sym, ap, ◌∙◌, map, [], append-nil}
 use Rattle.std.proofs.lemmas.List.{get_or_default, take_all}
-use Rattle.program.specs.Parts.{state_parts}
+use Rattle.program.specs.Parts.{state_model}
 use Rattle.declarations.specs.Numbered.{counted_as}
 use Rattle.declarations.specs.Resolution.{numbered_states}
 use Rattle.declarations.proofs.LabelLemmas.{labels_kept, states_more}
@@ -23,5 +23,5 @@ loop-i-preserved c =
 pub returns : goal.returns
 returns c =
     let text = c.args.labels.now.text.now in
-    ap (λ l. map (state_parts l) c.loop-i.numbered.items) (sym (append-nil (string_bytes c.loop-i.names))) ∙ c.loop-i.invariant.states []
+    ap (λ l. map (state_model l) c.loop-i.numbered.items) (sym (append-nil (string_bytes c.loop-i.names))) ∙ c.loop-i.invariant.states []
     ∙ ap (λ l. numbered_states c.args.before (map (counted_as text) l)) (take_all c.loop-i.i c.args.states.now c.loop-i-test.false)

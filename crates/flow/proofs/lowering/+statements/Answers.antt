@@ -1,7 +1,7 @@
 use Rattle.std.proofs.Common.{rules, ◌≡◌, length, map, refl, sym, ap, ◌∙◌, subst}
 use Rattle.std.proofs.lemmas.Result.{IfOk-weaker}
 use Rattle.std.specs.Prelude.{slice_set}
-use Rattle.program.specs.Statements.{Switch, statement_model, statement_row, case_model, case_row}
+use Rattle.program.specs.Statements.{Switch, statement_model, statement_sequence, case_model, case_sequence}
 use Rattle.flow.specs.declared.graph.Instr.TheVariants as instr
 use Rattle.flow.specs.Growths.{Grew}
 use Rattle.flow.specs.Lowering.{cases, statement, statements}
@@ -16,7 +16,7 @@ lay_block-returns t c =
 
 pub lay_statements-loop-statement-preserved : goal.lay_statements-loop-statement-preserved
 lay_statements-loop-statement-preserved t c =
-    behind_goes_on (λ s. s.now) (λ done. statements (statement_row (map statement_model done)) c.args.exits.end c.args.exits.again) (λ s. statement (statement_model s) c.args.exits.end c.args.exits.again) _ _ _ c.loop-statement.yielded c.in-Some.statement _ _ _ _ _ _ refl
+    behind_goes_on (λ s. s.now) (λ done. statements (statement_sequence (map statement_model done)) c.args.exits.end c.args.exits.again) (λ s. statement (statement_model s) c.args.exits.end c.args.exits.again) _ _ _ c.loop-statement.yielded c.in-Some.statement _ _ _ _ _ _ refl
     c.in-Some.ensures.steps c.loop-statement.invariant c.in_ok-entry.ensures
 
 pub lay_while-returns : goal.lay_while-returns
@@ -29,7 +29,7 @@ pub lay_statement-returns-in-Switch : goal.lay_statement-returns-in-Switch
 lay_statement-returns-in-Switch t c =
     let exits = c.args.exits in
     IfOk-weaker c.lay_switch.result _ _ (λ entry h. subst (λ s. Grew c.args.instructions.now.items c.lay_switch.new.instructions.items entry (statement s exits.end exits.again (length c.args.instructions.now.items) c.args.next))
-    (ap (λ l. Switch c.in-Switch.place (case_row (map case_model l))) c.deref-in-Switch.ensures.value ∙ sym (ap statement_model c.in-Switch.is ∙ switch_model c.in-Switch.place c.in-Switch.cases)) (h exits.end)) c.lay_switch.ensures
+    (ap (λ l. Switch c.in-Switch.place (case_sequence (map case_model l))) c.deref-in-Switch.ensures.value ∙ sym (ap statement_model c.in-Switch.is ∙ switch_model c.in-Switch.place c.in-Switch.cases)) (h exits.end)) c.lay_switch.ensures
 
 pub lay_switch-loop-case-preserved : goal.lay_switch-loop-case-preserved
 lay_switch-loop-case-preserved t c =
@@ -42,4 +42,4 @@ lay_switch-returns t c =
     let none : length l.case-iterator.iter.rest.now ≡ 0 = search rules in
     let all = cases_end c.args.cases.now l.case-iterator.iter.rest.now _ c.args.instructions.now.items l.instructions.items _ (laid_cases c.args.next c.args.again (length c.args.instructions.now.items) c.args.next) none l.invariant in
     IfOk-weaker c.lay.result _ _ (λ entry h exit. switch_laid c.args.instructions.now.items l.instructions.items c.lay.new.instructions.items c.args.place
-    (λ end. cases (case_row (map case_model c.args.cases.now)) end c.args.again) l.entrances.items c.reverse.new.self.items c.in_ok-cases.cases entry c.args.next all c.reverse.ensures.items c.in_ok-cases.ensures h.0 h.1) c.lay.ensures
+    (λ end. cases (case_sequence (map case_model c.args.cases.now)) end c.args.again) l.entrances.items c.reverse.new.self.items c.in_ok-cases.cases entry c.args.next all c.reverse.ensures.items c.in_ok-cases.ensures h.0 h.1) c.lay.ensures

@@ -2,7 +2,7 @@ use Rattle.std.proofs.Common.{subst}
 use Rattle.atomic_table.specs.Seated.{TableId}
 use Rattle.intern.specs.Seats.{slots_of, view}
 use Rattle.intern.specs.View.{IsInside}
-use Rattle.intern.proofs.TokenLemmas.{no_room_stays}
+use Rattle.intern.proofs.IdLemmas.{no_room_stays}
 use Rattle.intern.proofs.laws.a_full_table_stays_full.Goals as goal
 
 pub returns : goal.returns

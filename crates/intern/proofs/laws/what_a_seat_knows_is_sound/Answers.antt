@@ -2,7 +2,7 @@ use Rattle.std.proofs.Common.{subst}
 use Rattle.atomic_table.specs.Seated.{TableId}
 use Rattle.intern.specs.Seats.{view}
 use Rattle.intern.specs.View.{IsInside}
-use Rattle.intern.proofs.TokenLemmas.{faithful}
+use Rattle.intern.proofs.IdLemmas.{faithful}
 use Rattle.intern.proofs.laws.what_a_seat_knows_is_sound.Goals as goal
 
 pub returns-clause-sound : goal.returns-clause-sound

@@ -1,6 +1,6 @@
 use Rattle.std.proofs.Common.{Bor, ◌++◌, sym, subst}
 use Rattle.std.specs.Prelude.{OnOk, option_map}
-use Rattle.tree.specs.declared.contract.Param.{Param}
+use Rattle.tree.specs.declared.contract.MessageParameter.{MessageParameter}
 use Rattle.names.specs.Cases.{typed_turn, brings_heap}
 use Rattle.declarations.specs.Kinds.{brought_kind}
 use Rattle.declarations.specs.Mistakes.{Adds}
@@ -17,7 +17,7 @@ returns-in_ok-judge_bound_type-in-Some c = λ p f scope frame.
     let text = p.text in
     let kind = c.in-Some.kind in
     let name = c.args.bind.name in
-    let param = option_map (λ (x : Bor Param). x.now) c.args.parameter in
+    let param = option_map (λ (x : Bor MessageParameter). x.now) c.args.parameter in
     let old = c.args.found.now.items in
     let mid = c.judge_bound_type.new.found.items in
     let new = c.declare_in.new.found.items in
@@ -34,7 +34,7 @@ pub returns-in-None : goal.returns-in-None
 returns-in-None c = λ p f scope frame.
     let text = p.text in
     let name = c.args.bind.name in
-    let param = option_map (λ (x : Bor Param). x.now) c.args.parameter in
+    let param = option_map (λ (x : Bor MessageParameter). x.now) c.args.parameter in
     let old = c.args.found.now.items in
     let new = c.declare_in-in-None.new.found.items in
     let w = c.declare_in-in-None.new.variables in

@@ -1,7 +1,7 @@
 use Rattle.std.proofs.Common.{Bor, None, get_or, drop, ◌+◌, refl}
 use Rattle.std.specs.Prelude.{option_map}
 use Rattle.tree.specs.declared.statement.Bind.{Bind}
-use Rattle.tree.specs.declared.contract.Param.{Param}
+use Rattle.tree.specs.declared.contract.MessageParameter.{MessageParameter}
 use Rattle.names.specs.Cases.{bind_turn, binds_turn}
 use Rattle.names.proofs.BindLemmas.{bound_less}
 use Rattle.names.proofs.TurnLemmas.{goes_on}
@@ -16,6 +16,6 @@ loop-place-preserved c = λ p f scope frame.
     let binds = c.args.binds.now in
     let i = c.loop-place.place in
     let bind = get_or binds i no_bind in
-    let param = option_map (λ (x : Bor Param). x.now) c.parameter_at-parameter.result in
+    let param = option_map (λ (x : Bor MessageParameter). x.now) c.parameter_at-parameter.result in
     let o = bound_less p params binds i no_bind bind param c.loop-place-test.true refl c.parameter_at-parameter.ensures (c.loop-place.invariant p f scope frame) in
     goes_on (bind_turn p param bind) (binds_turn p (drop (i + 1) params) (drop (i + 1) binds)) o (c.in_ok-judge_bind.ensures p o.frame scope o.stands)

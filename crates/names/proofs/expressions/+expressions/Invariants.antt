@@ -3,7 +3,7 @@ use Rattle.tree.specs.ExpressionTrees.{unmarked, conjunction_tree, equality_tree
 use Rattle.tree.specs.declared.expression.Conjunction as conjunctions
 use Rattle.tree.specs.declared.expression.Disjunction as disjunctions
 use Rattle.tree.specs.declared.expression.Equality as equalitys
-use Rattle.tree.specs.declared.expression.Factors as factor_rows
+use Rattle.tree.specs.declared.expression.Factors as factor_lists
 use Rattle.tree.specs.declared.expression.Relation as relations
 use Rattle.names.specs.Operands.{Judges}
 use Rattle.names.specs.Shapes.{shape}
@@ -30,5 +30,5 @@ invariant-judge_relation-each l =
 
 abbrev pub invariant-judge_factors-each : goal.invariant-judge_factors-each
 invariant-judge_factors-each l =
-    let row = factor_rows.out-Factors l.factors in
+    let row = factor_lists.out-Factors l.factors in
     JudgesTerms l.scope l.variables (factors_to factor_tree (with_factor (first_term (shape (unary_tree row.first))) (factor_tree row.second)) l.factor-items l.factor-index) l.fn.found.items l.found.items l.terms

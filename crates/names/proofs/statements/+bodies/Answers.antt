@@ -3,7 +3,7 @@ use Rattle.std.specs.Prelude.{OnOk}
 use Rattle.std.specs.Option.{option_map}
 use Rattle.std.proofs.lemmas.List.{length-map}
 use Rattle.tree.specs.ExpressionTrees.{expression_tree}
-use Rattle.tree.specs.StatementTrees.{statement_tree, statement_row, block_tree, if_tree, test_tree, other_row, case_tree, declare_tree, assign_tree, case_row, switch_tree, CaseTree, IfTree, SwitchTree}
+use Rattle.tree.specs.StatementTrees.{statement_tree, statement_sequence, block_tree, if_tree, test_tree, other_sequence, case_tree, declare_tree, assign_tree, case_sequence, switch_tree, CaseTree, IfTree, SwitchTree}
 use Rattle.tree.specs.Values.{call_tree}
 use Rattle.tree.specs.declared.statement as made
 use Rattle.declarations.specs.declared.mistake.Mistake.TheVariants.{BreakOutside, ContinueOutside}
@@ -30,9 +30,9 @@ judge_block-returns t c = λ m f around frame.
     let old = c.args.found.now.items in
     let new = c.judge_statements.new.found.items in
     let v = c.judge_statements.new.variables in
-    let row = statement_row (map statement_tree block.statements.items) in
+    let row = statement_sequence (map statement_tree block.statements.items) in
     let whole = statements_turn m row f in
-    let inner = subst (λ xs. Turned text old new v (statements_turn m (statement_row (map statement_tree xs)) f)) c.deref.ensures.value (c.in_ok-judge_statements.ensures m f around frame) in
+    let inner = subst (λ xs. Turned text old new v (statements_turn m (statement_sequence (map statement_tree xs)) f)) c.deref.ensures.value (c.in_ok-judge_statements.ensures m f around frame) in
     subst (λ b. Turned text old new c.leave.new.self (block_turn m b f)) (sym (block_is block))
     (leaves f whole around.scope.text_is (c.len-outer.ensures text f frame) c.leave.ensures (kept f whole.frame (statements_extend m row f)) inner)
 
@@ -41,10 +41,10 @@ judge_statements-loop-statement-preserved t c = λ m f around frame.
     let items = c.args.statements.now in
     let i = c.loop-statement.statement-index in
     let statement = c.statement-item.result in
-    let whole = statements_turn m (statement_row (map statement_tree items)) f in
+    let whole = statements_turn m (statement_sequence (map statement_tree items)) f in
     let o = subst (Ongoing m.program.text c.args.found.now.items c.loop-statement.found.items c.loop-statement.variables whole)
     (next_statement m items i statement c.loop-statement-test.true c.statement-item.is) (c.loop-statement.invariant m f around frame) in
-    goes_on (statement_turn m (statement_tree statement)) (statements_turn m (statement_row (map statement_tree (drop (i + 1) items)))) o
+    goes_on (statement_turn m (statement_tree statement)) (statements_turn m (statement_sequence (map statement_tree (drop (i + 1) items)))) o
     (c.in_ok-judge_statement.ensures m o.frame around o.stands)
 
 pub judge_statements-returns : goal.judge_statements-returns
@@ -64,9 +64,9 @@ judge_case-returns t c = λ m f all around frame heads at.
     let w = c.judge_statements.new.variables in
     let params = bound_params (awaited_message s (held (meant s case.endpoint)) case.message) in
     let binding = binds_turn m.program params case.binds.items f in
-    let row = statement_row (map statement_tree case.statements.items) in
+    let row = statement_sequence (map statement_tree case.statements.items) in
     let first = c.in_ok-judge_binds.ensures m.program f around.scope frame in
-    let second = subst (λ xs. Turned text bound new w (statements_turn m (statement_row (map statement_tree xs)) binding.frame)) c.deref.ensures.value (c.in_ok-judge_statements.ensures m binding.frame around first.frame) in
+    let second = subst (λ xs. Turned text bound new w (statements_turn m (statement_sequence (map statement_tree xs)) binding.frame)) c.deref.ensures.value (c.in_ok-judge_statements.ensures m binding.frame around first.frame) in
     let both = follow binding (statements_turn m row) in
     let earlier = take c.args.index all in
     let inner = leaves f both around.scope.text_is (c.len-outer.ensures text f frame) c.leave.ensures (kept f both.frame (case_extends m params case.binds.items row f)) (turned_then binding (statements_turn m row) first second) in
@@ -97,7 +97,7 @@ judge_if-loop-test-init t c = λ m f around frame.
     let v = c.judge_test.new.variables in
     let first = ap (λ (i : IfTree). i.first) (if_is branches) in
     let others = ap (λ (i : IfTree). i.others) (if_is branches)
-    ∙ ap (λ (ts : List made.Test.Test). other_row (map test_tree ts) (option_map block_tree (made.If.out-If branches).otherwise)) (sym c.deref-test-items.ensures.value) in
+    ∙ ap (λ (ts : List made.Test.Test). other_sequence (map test_tree ts) (option_map block_tree (made.If.out-If branches).otherwise)) (sym c.deref-test-items.ensures.value) in
     let turned = subst (λ k. Turned text old new v (test_turn m k f)) (sym first) (c.in_ok-judge_test.ensures m f around frame) in
     subst (λ rest. Ongoing text old new v (follow (test_turn m tree.first f) (others_turn m tree.others)) (others_turn m rest)) others
     (goes_first f (test_turn m tree.first) (others_turn m tree.others) turned)
@@ -112,7 +112,7 @@ judge_if-loop-test-preserved t c = λ m f around frame.
     let whole = follow (test_turn m (if_tree branches).first f) (others_turn m (if_tree branches).others) in
     let o = subst (Ongoing m.program.text c.args.found.now.items c.loop-test.found.items c.loop-test.variables whole)
     (next_test m items i test last c.loop-test-test.true c.test-item.is) (c.loop-test.invariant m f around frame) in
-    goes_on (test_turn m (test_tree test)) (others_turn m (other_row (map test_tree (drop (i + 1) items)) last)) o
+    goes_on (test_turn m (test_tree test)) (others_turn m (other_sequence (map test_tree (drop (i + 1) items)) last)) o
     (c.in_ok-judge_test-2.ensures m o.frame around o.stands)
 
 pub judge_if-returns-in-Some : goal.judge_if-returns-in-Some
@@ -237,7 +237,7 @@ judge_switch-loop-place-init t c = λ m f around frame.
     let new = c.judge_case.new.found.items in
     let first = ap (λ (s : SwitchTree). s.first) (switch_is switch) in
     let go : Frame → Turn = case_turn m all [] tree.first in
-    let rest : Frame → Turn = cases_turn m all (head_of tree.first ∷ []) (case_row tree.others) in
+    let rest : Frame → Turn = cases_turn m all (head_of tree.first ∷ []) (case_sequence tree.others) in
     let heads = subst (λ u. IsHeads u all c.in_ok-heads.heads) around.scope.text_is c.in_ok-heads.ensures in
     let turned = subst (λ k. Turned text old new c.judge_case.new.variables (case_turn m all [] k f)) (sym first) (c.in_ok-judge_case.ensures m f all around frame heads (ap (λ k. Some (head_of k)) first)) in
     goes_first f go rest turned
@@ -256,9 +256,9 @@ judge_switch-loop-place-preserved t c = λ m f around frame.
     let items = c.deref-case-items.ensures.value in
     let there = subst (λ (l : List made.Case.Case). case ≡ get_or l i case) items c.case-item.is in
     let next = next_case m (head_of tree.first) tree.others i (case_tree case) (omega (arith, size, ap (λ (l : List made.Case.Case). length l) items, c.loop-place-test.true)) (case_there switch i case others there) in
-    let whole = follow (case_turn m all [] tree.first f) (cases_turn m all (head_of tree.first ∷ []) (case_row tree.others)) in
+    let whole = follow (case_turn m all [] tree.first f) (cases_turn m all (head_of tree.first ∷ []) (case_sequence tree.others)) in
     let o = subst (Ongoing text old c.loop-place.found.items c.loop-place.variables whole) next.rest (c.loop-place.invariant m f around frame) in
-    goes_on (case_turn m all (take (i + 1) all) (case_tree case)) (cases_turn m all (take (i + 1 + 1) all) (case_row (drop (i + 1) tree.others))) o
+    goes_on (case_turn m all (take (i + 1) all) (case_tree case)) (cases_turn m all (take (i + 1 + 1) all) (case_sequence (drop (i + 1) tree.others))) o
     (c.in_ok-judge_case-2.ensures m o.frame all around o.stands (subst (λ u. IsHeads u all c.in_ok-heads.heads) around.scope.text_is c.in_ok-heads.ensures) next.head)
 
 pub judge_switch-returns : goal.judge_switch-returns
@@ -269,5 +269,5 @@ judge_switch-returns t c = λ m f around frame.
     let all = switch_heads tree in
     let others = ap (λ (s : SwitchTree). s.others) (switch_is switch) in
     let size = ap (λ (l : List CaseTree). length l) others ∙ length-map (made.Switch.out-Switch switch).others.items case_tree in
-    let whole = follow (case_turn m all [] tree.first f) (cases_turn m all (head_of tree.first ∷ []) (case_row tree.others)) in
+    let whole = follow (case_turn m all [] tree.first f) (cases_turn m all (head_of tree.first ∷ []) (case_sequence tree.others)) in
     ends (subst (Ongoing m.program.text c.args.found.now.items c.loop-place.found.items c.loop-place.variables whole) (last_case m all (take (i + 1) all) tree.others i (omega (arith, size, ap (λ (l : List made.Case.Case). length l) c.deref-case-items.ensures.value, c.loop-place-test.false))) (c.loop-place.invariant m f around frame))

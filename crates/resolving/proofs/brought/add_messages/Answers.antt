@@ -6,7 +6,7 @@ use Rattle.tree.specs.Trees.{message_tree}
 use Rattle.tree.specs.declared.contract as tree
 use Rattle.program.specs.declared.kind.HeapKind.{HeapKind}
 use Rattle.resolving.specs.Brought.{brought, params_held}
-use Rattle.program.specs.Programs.{rows}
+use Rattle.program.specs.Programs.{kind_lists}
 use Rattle.resolving.proofs.ItemLemmas.{seen_more}
 use Rattle.resolving.proofs.brought.add_messages.Goals as goal
 
@@ -18,5 +18,5 @@ loop-message-preserved c = λ p round.
 pub returns : goal.returns
 returns c = λ p round.
     let messages = c.args.messages.now in
-    c.loop-message.invariant p round ∙ ap (λ l. rows c.args.told.now.items ++ l)
+    c.loop-message.invariant p round ∙ ap (λ l. kind_lists c.args.told.now.items ++ l)
     (ap (map (λ (m : tree.Message.Message). brought p (message_tree m))) (take_all c.loop-message.message-index messages c.loop-message-test.false) ∙ sym (map-map (brought p) message_tree messages))

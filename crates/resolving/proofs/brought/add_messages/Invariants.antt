@@ -3,8 +3,8 @@ use Rattle.tree.specs.Trees.{message_tree}
 use Rattle.declarations.specs.Program.{Program}
 use Rattle.resolving.specs.Around.{IsTypes}
 use Rattle.resolving.specs.Brought.{brought}
-use Rattle.program.specs.Programs.{rows}
+use Rattle.program.specs.Programs.{kind_lists}
 use Rattle.resolving.proofs.brought.add_messages.Given as goal
 
 abbrev pub invariant-loop-message : goal.invariant-loop-message
-invariant-loop-message l = (p : Program) → IsTypes p l.types → rows l.told.items ≡ rows l.fn.told.items ++ map (λ m. brought p (message_tree m)) (take l.message-index l.messages)
+invariant-loop-message l = (p : Program) → IsTypes p l.types → kind_lists l.told.items ≡ kind_lists l.fn.told.items ++ map (λ m. brought p (message_tree m)) (take l.message-index l.messages)

@@ -1,7 +1,7 @@
 use Rattle.std.proofs.Common.{◌∙◌, ap}
 use Rattle.std.specs.Global.{Vec}
 use Rattle.std.proofs.lemmas.List.{take_all}
-use Rattle.tree.specs.declared.contract.Param.{Param}
+use Rattle.tree.specs.declared.contract.MessageParameter.{MessageParameter}
 use Rattle.program.specs.declared.kind.Scalar.TheVariants.{Int}
 use Rattle.tree.specs.declared.types.Type.TheVariants.{Scalar}
 use Rattle.program.specs.declared.kind.HeapKind.{HeapKind}
@@ -12,7 +12,7 @@ use Rattle.resolving.proofs.brought.params_held.Goals as goal
 use Rattle.resolving.proofs.brought.params_held.Goals.{in-Some+in_ok-push, in_default}
 
 -- what stands past the end of a list
-abbrev past : Param
+abbrev past : MessageParameter
 past = record { ty = Scalar Int; name = record { start = 0; end = 0; place = record { line = 0; col = 0 } } }
 
 pub loop-param-preserved : goal.loop-param-preserved
@@ -23,8 +23,8 @@ loop-param-preserved c = λ p round.
     let lt = c.loop-param-test.true in
     let before = c.loop-param.invariant p round in
     elim c.match-type_held.branch [
-      | in-Some+in_ok-push w ↦ ap (λ (k : Vec HeapKind). k.items) w.kinds-is ∙ w.in_ok-push.ensures.items ∙ held_some (λ (x : Param). type_held p x.ty) params i past w.in-Some.kind done lt before (w.in-Some.ensures p round)
-      | in_default w ↦ ap (λ (k : Vec HeapKind). k.items) w.kinds-is ∙ held_none (λ (x : Param). type_held p x.ty) params i past done lt before (w.in_default.ensures p round)
+      | in-Some+in_ok-push w ↦ ap (λ (k : Vec HeapKind). k.items) w.kinds-is ∙ w.in_ok-push.ensures.items ∙ held_some (λ (x : MessageParameter). type_held p x.ty) params i past w.in-Some.kind done lt before (w.in-Some.ensures p round)
+      | in_default w ↦ ap (λ (k : Vec HeapKind). k.items) w.kinds-is ∙ held_none (λ (x : MessageParameter). type_held p x.ty) params i past done lt before (w.in_default.ensures p round)
     ]
 
 pub returns : goal.returns

@@ -1,7 +1,7 @@
 use Rattle.std.proofs.Common.{Bor, None, Option, sym, ap, ◌∙◌}
 use Rattle.std.specs.Prelude.{option_map}
 use Rattle.source.specs.declared.token.Span.{Span}
-use Rattle.tree.specs.declared.contract.Param.{Param}
+use Rattle.tree.specs.declared.contract.MessageParameter.{MessageParameter}
 use Rattle.declarations.specs.declared.kinds as names
 use Rattle.program.specs.declared.kind.HeapKind.{HeapKind}
 use Rattle.program.specs.declared.method.Role.TheVariants.{Local}
@@ -16,7 +16,7 @@ local name kind held = record { name = name; kind = kind; held = held; role = Lo
 pub returns-in-None : goal.returns-in-None
 returns-in-None c = λ p own around.
     let name = c.args.bind.name in
-    let param = option_map (λ (x : Bor Param). x.now) c.args.param in
+    let param = option_map (λ (x : Bor MessageParameter). x.now) c.args.param in
     ap (local name c.brought_kind-kind.result) (c.kind_held-held.ensures p around.types)
     ∙ ap (λ k. local name k (kind_held p k None)) (c.brought_kind-kind.ensures p own around)
     ∙ ap (bound_as p param name) (sym c.in-None.is)

@@ -1,7 +1,7 @@
 use Rattle.std.proofs.Common.{Bor, None, get_or, refl}
 use Rattle.std.specs.Prelude.{option_map}
 use Rattle.tree.specs.declared.statement.Bind.{Bind}
-use Rattle.tree.specs.declared.contract.Param.{Param}
+use Rattle.tree.specs.declared.contract.MessageParameter.{MessageParameter}
 use Rattle.resolving.specs.Around.{program_in}
 use Rattle.resolving.specs.Binds.{binds_told}
 use Rattle.resolving.proofs.BindLemmas.{none_bound, more_bound, all_bound}
@@ -19,7 +19,7 @@ loop-place-preserved c = λ items own f around frame.
     let p = program_in c.args.text.now items in
     let binds = c.args.binds.now in
     let i = c.loop-place.place in
-    let param = option_map (λ (x : Bor Param). x.now) c.param_at-param.result in
+    let param = option_map (λ (x : Bor MessageParameter). x.now) c.param_at-param.result in
     let o = c.loop-place.invariant items own f around frame in
     more_bound p c.args.params.now binds i no_bind (get_or binds i no_bind) param c.loop-place-test.true refl c.param_at-param.ensures o (c.in_ok-declare_bind.ensures items own o.frame around o.stands)
 

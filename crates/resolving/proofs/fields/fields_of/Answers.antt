@@ -5,7 +5,7 @@ use Rattle.std.specs.Global.{Vec}
 use Rattle.tree.specs.Trees.{definition_tree, item_tree}
 use Rattle.tree.specs.declared.item.Definition.{Definition}
 use Rattle.tree.specs.declared.item.Item.{Item}
-use Rattle.program.specs.Programs.{rows}
+use Rattle.program.specs.Programs.{kind_lists}
 use Rattle.program.specs.declared.kind.HeapKind.{HeapKind}
 use Rattle.resolving.specs.Around.{owning_indices, indices_held, indices_in, program_in}
 use Rattle.resolving.specs.Fields.{fields_held}
@@ -23,7 +23,7 @@ loop-item-preserved c = λ text h.
     let item = c.item-item.result in
     let so = c.loop-item.invariant text h in
     let done = c.loop-item.structs.items in
-    let here = λ (d : Definition). rows done ++ fields_in p (definition_tree d) in
+    let here = λ (d : Definition). kind_lists done ++ fields_in p (definition_tree d) in
     let more = ap (λ l. l ++ fields_in p (definition_tree item.definition)) so.0 ∙ sym (fields_more p items i item c.loop-item-test.true c.item-item.is) in
     let indices = seen_more (λ (row : Vec ℕ). row.items) (λ (x : Item). owning_indices p (item_tree x)) items i item [] c.loop-item.indices.items in
     elim c.match-item.branch [
@@ -31,7 +31,7 @@ loop-item-preserved c = λ text h.
           let owning = w.in_ok-owning.owning in
           let fields = w.in-Struct.structure.fields.items in
           let found = w.in_ok-owning.ensures p h in (
-            ap (λ (t : Vec (Vec HeapKind)). rows t.items) w.structs-is
+            ap (λ (t : Vec (Vec HeapKind)). kind_lists t.items) w.structs-is
                 ∙ rows_more done _ owning.kinds (fields_held p fields) w.in_ok-push.ensures.items (found.0 ∙ ap (fields_held p) w.deref.ensures.value)
                 ∙ ap here (sym w.in-Struct.is) ∙ more,
             ap (λ (t : Vec (Vec ℕ)). map (λ (row : Vec ℕ). row.items) t.items) w.indices-is
@@ -40,7 +40,7 @@ loop-item-preserved c = λ text h.
           )
       | in_default+in_ok-push-3 w ↦
           let none = no_struct p item.definition w.in_default.not-Struct in (
-            ap (λ (t : Vec (Vec HeapKind)). rows t.items) w.structs-is ∙ sym (append-nil (rows done)) ∙ ap (λ l. rows done ++ l) none.0 ∙ more,
+            ap (λ (t : Vec (Vec HeapKind)). kind_lists t.items) w.structs-is ∙ sym (append-nil (kind_lists done)) ∙ ap (λ l. kind_lists done ++ l) none.0 ∙ more,
             ap (λ (t : Vec (Vec ℕ)). map (λ (row : Vec ℕ). row.items) t.items) w.indices-is
                 ∙ indices _ w.new.result c.loop-item-test.true c.item-item.is so.1 w.in_ok-push-3.ensures.items (w.new.ensures.items ∙ none.1),
           )

@@ -3,7 +3,7 @@ use Rattle.tree.specs.ExpressionTrees.{unmarked, conjunction_tree, equality_tree
 use Rattle.tree.specs.declared.expression.Conjunction as conjunctions
 use Rattle.tree.specs.declared.expression.Disjunction as disjunctions
 use Rattle.tree.specs.declared.expression.Equality as equalitys
-use Rattle.tree.specs.declared.expression.Factors as factor_rows
+use Rattle.tree.specs.declared.expression.Factors as factor_lists
 use Rattle.tree.specs.declared.expression.Relation as relations
 use Rattle.resolving.specs.Steps.{AddsReads}
 use Rattle.resolving.proofs.FactorLemmas.{row_reads}
@@ -28,5 +28,5 @@ invariant-add_relation-each l =
 
 abbrev pub invariant-add_factors-each : goal.invariant-add_factors-each
 invariant-add_factors-each l =
-    let row = factor_rows.out-Factors l.factors in
+    let row = factor_lists.out-Factors l.factors in
     AddsReads l.text l.locals (row_reads l.text (unary_tree row.first) (factor_tree row.second) l.factor-items l.factor-index) l.fn.found.items l.found.items

@@ -4,7 +4,7 @@ use Rattle.std.specs.Prelude.{IfOk}
 use Rattle.std.specs.Option.{option_map}
 use Rattle.tree.specs.ExpressionTrees.{expression_tree}
 use Rattle.tree.specs.StatementTrees as trees
-use Rattle.tree.specs.StatementTrees.{CaseTrees, IfTree, SwitchTree, statement_tree, statement_row, block_tree, case_tree, case_row, if_tree, switch_tree, test_tree}
+use Rattle.tree.specs.StatementTrees.{CaseTrees, IfTree, SwitchTree, statement_tree, statement_sequence, block_tree, case_tree, case_sequence, if_tree, switch_tree, test_tree}
 use Rattle.tree.specs.declared.statement as stated
 use Rattle.program.specs.Statements as seen
 use Rattle.program.specs.Statements.{StatementModel, BlockModel, CasesModel, IfModel, statement_model, block_model, case_model, if_model, test_model}
@@ -76,9 +76,9 @@ tell_block-returns t c = λ items own f round h.
     let told = c.in_ok-statements.statements in
     let inside = c.tell_statements.new.locals in
     let after = c.leave.new.self in
-    let row = statement_row (map statement_tree block.statements.items) in
+    let row = statement_sequence (map statement_tree block.statements.items) in
     let t = statements_told p own stays row f in
-    let inner = subst (λ xs. IsTold text (statements_told p own stays (statement_row (map statement_tree xs)) f) (seen.statement_row (map statement_model told.items)) inside) c.deref.ensures.value (c.in_ok-statements.ensures items own f round h) in
+    let inner = subst (λ xs. IsTold text (statements_told p own stays (statement_sequence (map statement_tree xs)) f) (seen.statement_sequence (map statement_model told.items)) inside) c.deref.ensures.value (c.in_ok-statements.ensures items own f round h) in
     let whole = block_model (made.Block.roll-Block (record { statements = told; forget = c.forget_past-forget.result })) in
     subst (λ b. IsTold text (block_told p own stays b f) whole after) (sym (block_is block))
     (subst (λ (b : BlockModel). IsTold text (ended block.close.place f t) b after) (sym (block_made told c.forget_past-forget.result))
@@ -95,7 +95,7 @@ tell_if-returns t c = λ items own f round h.
     let made_of = if_made c.in_ok-first.first c.in_ok-others.others c.in_ok-otherwise.otherwise in
     let whole = if_model (made.If.roll-If (record { first = c.in_ok-first.first; others = c.in_ok-others.others; otherwise = c.in_ok-otherwise.otherwise })) in
     subst (λ (b : IfTree). IsTold text (follow seen.If (test_told p own stays b.first f) (others_told p own stays b.others)) (seen.If whole.first whole.others) last) (sym (if_is c.args.branches.now))
-    (subst (λ (i : IfModel). IsTold text (follow seen.If (test_told p own stays (test_tree parts.first) f) (others_told p own stays (trees.other_row (map test_tree parts.others.items) (option_map block_tree parts.otherwise)))) (seen.If i.first i.others) last) (sym made_of)
+    (subst (λ (i : IfModel). IsTold text (follow seen.If (test_told p own stays (test_tree parts.first) f) (others_told p own stays (trees.other_sequence (map test_tree parts.others.items) (option_map block_tree parts.otherwise)))) (seen.If i.first i.others) last) (sym made_of)
     (if_told p own stays (test_tree parts.first) (map test_tree parts.others.items) (option_map block_tree parts.otherwise) f _ _ _ c.tell_test.new.locals c.tell_tests.new.locals last
     (c.in_ok-first.ensures items own f round h)
     (λ g here. subst (λ ts. IsTold text (walked (test_told p own stays) (map test_tree ts) g) (map test_model c.in_ok-others.others.items) c.tell_tests.new.locals) c.deref.ensures.value (c.in_ok-others.ensures items own g round here))
@@ -162,13 +162,13 @@ tell_statement-returns-in_ok-cases-in-Switch t c = λ items own f round h.
     let place = (stated.Switch.out-Switch switch).word.place in
     let cases = c.in_ok-cases-in-Switch.cases in
     let after = c.tell_cases.new.locals in
-    let all : CaseTrees = trees.MoreCases tree.first (case_row tree.others) in
+    let all : CaseTrees = trees.MoreCases tree.first (case_sequence tree.others) in
     let inside = c.in_switch-inside.ensures f (number_is c.last-in-Switch.result f.last (c.last-in-Switch.ensures text f h)) in
-    let come = subst (λ s. IsTold text (cases_told p own (staying_model c.in_switch-inside.result) (trees.MoreCases (switch_tree s).first (case_row (switch_tree s).others)) (switch_tree s).close.place f) (seen.case_row (map case_model cases.items)) after)
+    let come = subst (λ s. IsTold text (cases_told p own (staying_model c.in_switch-inside.result) (trees.MoreCases (switch_tree s).first (case_sequence (switch_tree s).others)) (switch_tree s).close.place f) (seen.case_sequence (map case_model cases.items)) after)
     (c.deref-in-Switch.ensures ∙ sym c.deref-in-Switch-2.ensures) (c.in_ok-cases-in-Switch.ensures items own f round h) in
-    told_as p own (staying_model c.args.stays) f (ap statement_tree c.in-Switch.is ∙ of_switch c.in-Switch.switch ∙ ap (λ s. trees.Switch (switch_tree s).word (switch_tree s).first (case_row (switch_tree s).others) (switch_tree s).close) (sym c.deref-in-Switch-2.ensures)) (seen_as.of_switch place cases ∙ ap (λ (w : SwitchTree). seen.Switch w.word.place (seen.case_row (map case_model cases.items))) (sym (switch_is switch)))
+    told_as p own (staying_model c.args.stays) f (ap statement_tree c.in-Switch.is ∙ of_switch c.in-Switch.switch ∙ ap (λ s. trees.Switch (switch_tree s).word (switch_tree s).first (case_sequence (switch_tree s).others) (switch_tree s).close) (sym c.deref-in-Switch-2.ensures)) (seen_as.of_switch place cases ∙ ap (λ (w : SwitchTree). seen.Switch w.word.place (seen.case_sequence (map case_model cases.items))) (sym (switch_is switch)))
     (made_told text (seen.Switch tree.word.place) (cases_told p own (in_switch (staying_model c.args.stays) f) all tree.close.place f) _ after
-    (subst (λ stays. IsTold text (cases_told p own stays all tree.close.place f) (seen.case_row (map case_model cases.items)) after) inside come))
+    (subst (λ stays. IsTold text (cases_told p own stays all tree.close.place f) (seen.case_sequence (map case_model cases.items)) after) inside come))
 
 pub tell_case-returns : goal.tell_case-returns
 tell_case-returns t c = λ items own f round h.
@@ -184,12 +184,12 @@ tell_case-returns t c = λ items own f round h.
     let m = awaited_message p f case.endpoint case.message in
     let meant = c.awaited_message-meant.ensures items own f round h in
     let params = c.awaited_params-params.ensures ∙ ap awaited_params meant in
-    let row = statement_row (map statement_tree case.statements.items) in
+    let row = statement_sequence (map statement_tree case.statements.items) in
     let b = bound_in p case f in
     let t = statements_told p own stays row b.frame in
     let binds = subst (λ bs. IsTold text (binds_told p (awaited_params m) bs f) targets.items brought) c.deref.ensures.value
     (subst (λ ps. IsTold text (binds_told p ps c.deref.result.now f) targets.items brought) params (c.in_ok-targets.ensures items own f round h)) in
-    let inner = subst (λ xs. IsTold text (statements_told p own stays (statement_row (map statement_tree xs)) b.frame) (seen.statement_row (map statement_model told.items)) inside) c.deref-2.ensures.value
+    let inner = subst (λ xs. IsTold text (statements_told p own stays (statement_sequence (map statement_tree xs)) b.frame) (seen.statement_sequence (map statement_model told.items)) inside) c.deref-2.ensures.value
     (c.in_ok-statements.ensures items own b.frame round binds.frame) in
     case_ends p own stays c.args.behind f case c.case_endpoint-endpoint.result c.awaited_as.result targets (made.Block.roll-Block (record { statements = told; forget = c.forget_past-forget.result })) after
     (c.case_endpoint-endpoint.ensures items f h) (c.awaited_as.ensures ∙ ap (awaited_as case.message) meant) binds.is
@@ -210,7 +210,7 @@ tell_cases-loop-next-init t c =
       inside = first_inside c.args.switch.now;
       cases = λ items own f round h.
           let p = program_in c.args.text.now items in
-          let rest = case_row (map case_tree switch.others.items) in
+          let rest = case_sequence (map case_tree switch.others.items) in
           subst (λ (l : List made.Case.Case). CasesGo p own (staying_model c.args.stays) switch.close.place f (trees.MoreCases (case_tree switch.first) rest) (map case_model l) (case_tree switch.first) rest c.args.locals.now) (sym {A = List made.Case.Case} c.new-told.ensures.items)
           (cases_start p own (staying_model c.args.stays) switch.close.place f (case_tree switch.first) rest c.args.locals.now h);
     }
@@ -228,9 +228,9 @@ tell_cases-loop-next-preserved t c =
       inside = other_inside c.args.switch.now i next lt at;
       cases = λ items own f round h.
           let p = program_in c.args.text.now items in
-          let all = trees.MoreCases (case_tree switch.first) (case_row (map case_tree others)) in
+          let all = trees.MoreCases (case_tree switch.first) (case_sequence (map case_tree others)) in
           let after = c.tell_case.new.locals in
-          subst (λ l. CasesGo p own (staying_model c.args.stays) switch.close.place f all (map case_model l) (case_tree next) (case_row (map case_tree (drop (i + 1) others))) after) (sym {A = List made.Case.Case} c.in_ok-push.ensures.items)
+          subst (λ l. CasesGo p own (staying_model c.args.stays) switch.close.place f all (map case_model l) (case_tree next) (case_sequence (map case_tree (drop (i + 1) others))) after) (sym {A = List made.Case.Case} c.in_ok-push.ensures.items)
           (cases_more p own (staying_model c.args.stays) switch.close.place f all c.loop-next.told.items (case_tree c.loop-next.case.now) others i next c.loop-next.locals after c.in_ok-tell_case.field-0
           lt at (c.loop-next.invariant.cases items own f round h) (λ g here. c.in_ok-tell_case.ensures items own g round here));
     }
@@ -243,10 +243,10 @@ tell_cases-returns t c = λ items own f round h.
     let switch = stated.Switch.out-Switch c.args.switch.now in
     let others = switch.others.items in
     let i = c.loop-next.next-index in
-    let all = trees.MoreCases (case_tree switch.first) (case_row (map case_tree others)) in
+    let all = trees.MoreCases (case_tree switch.first) (case_sequence (map case_tree others)) in
     let after = c.tell_case-2.new.locals in
-    subst (λ (w : Told CasesModel). IsTold text w (seen.case_row (map case_model c.push-2.new.self.items)) after) (sym (switch_cases p own stays f c.args.switch.now))
-    (subst (λ l. IsTold text (cases_told p own stays all switch.close.place f) (seen.case_row (map case_model l)) after) (sym {A = List made.Case.Case} c.in_ok-push-2.ensures.items)
+    subst (λ (w : Told CasesModel). IsTold text w (seen.case_sequence (map case_model c.push-2.new.self.items)) after) (sym (switch_cases p own stays f c.args.switch.now))
+    (subst (λ l. IsTold text (cases_told p own stays all switch.close.place f) (seen.case_sequence (map case_model l)) after) (sym {A = List made.Case.Case} c.in_ok-push-2.ensures.items)
     (cases_end p own stays switch.close.place f all c.loop-next.told.items (case_tree c.loop-next.case.now) others i c.loop-next.locals after c.in_ok-last.last
     (subst (λ (l : List stated.Case.Case). length l ≤ i) c.deref-next-items.ensures.value c.loop-next-test.false)
     (c.loop-next.invariant.cases items own f round h) (λ g here. c.in_ok-last.ensures items own g round here)))

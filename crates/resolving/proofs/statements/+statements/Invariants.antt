@@ -1,5 +1,5 @@
 use Rattle.std.proofs.Common.{ℕ, ◌<◌, List, drop, map, take}
-use Rattle.tree.specs.StatementTrees.{MoreCases, statement_tree, test_tree, case_tree, case_row}
+use Rattle.tree.specs.StatementTrees.{MoreCases, statement_tree, test_tree, case_tree, case_sequence}
 use Rattle.tree.specs.declared.statement as stated
 use Rattle.tree.specs.Trees.{ItemTree}
 use Rattle.program.specs.Statements.{statement_model, test_model, case_model}
@@ -23,6 +23,6 @@ abbrev pub invariant-tell_cases-loop-next : goal.invariant-tell_cases-loop-next
 invariant-tell_cases-loop-next l = record {
   inside : stated.Case.size-Case l.case < stated.Switch.size-Switch l.switch;
   cases : (items : List ItemTree) (own : ℕ) (f : Frame) → IsAround (program_in l.text items) own l.around → IsFrame l.text f l.fn.locals
-      → CasesGo (program_in l.text items) own (staying_model l.stays) (stated.Switch.out-Switch l.switch).close.place f (MoreCases (case_tree (stated.Switch.out-Switch l.switch).first) (case_row (map case_tree (stated.Switch.out-Switch l.switch).others.items)))
-      (map case_model l.told.items) (case_tree l.case) (case_row (map case_tree (drop l.next-index (stated.Switch.out-Switch l.switch).others.items))) l.locals;
+      → CasesGo (program_in l.text items) own (staying_model l.stays) (stated.Switch.out-Switch l.switch).close.place f (MoreCases (case_tree (stated.Switch.out-Switch l.switch).first) (case_sequence (map case_tree (stated.Switch.out-Switch l.switch).others.items)))
+      (map case_model l.told.items) (case_tree l.case) (case_sequence (map case_tree (drop l.next-index (stated.Switch.out-Switch l.switch).others.items))) l.locals;
 }

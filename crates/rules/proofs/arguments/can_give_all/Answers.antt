@@ -3,7 +3,7 @@ use Rattle.program.specs.Methods.{method_model}
 use Rattle.rules.specs.Arguments.{argument_checks}
 use Rattle.rules.specs.Breaches.{breach_model}
 use Rattle.rules.specs.Programs.{model_of}
-use Rattle.rules.specs.Rows.{leaves_of}
+use Rattle.rules.specs.Rows.{row_model}
 use Rattle.rules.proofs.ArgumentLemmas.{again_stands, below_both, left_all, left_found, left_less, left_none, past_one, zip_more, zip_none}
 use Rattle.rules.proofs.arguments.can_give_all.Goals as goal
 
@@ -26,7 +26,7 @@ returns-in-Some-can_give c =
     let kinds = c.args.kinds.now in
     let given = c.args.arguments.now in
     let m = method_model c.args.here.now.method.now in
-    let one = argument_checks m (leaves_of c.args.here.now.row.now) in
+    let one = argument_checks m (row_model c.args.here.now.row.now) in
     let n = c.loop-number.number in
     let lt = below_both (length kinds) (length given) n (subst (λ end. n < end) c.min-number-end.ensures c.loop-number-test.true) in
     left_found (breach_model (model_of c.args.here.now.program.now) m) _ _ _ _ c.can_give.result c.in-Some-can_give.breach
@@ -37,7 +37,7 @@ returns c =
     let kinds = c.args.kinds.now in
     let given = c.args.arguments.now in
     let m = method_model c.args.here.now.method.now in
-    let one = argument_checks m (leaves_of c.args.here.now.row.now) in
+    let one = argument_checks m (row_model c.args.here.now.row.now) in
     let n = c.loop-number.number in
     left_none (breach_model (model_of c.args.here.now.program.now) m) _ _
     (ap (flat_map (λ x. one x.0 x.1)) (zip_none kinds given n (past_one (length kinds) (length given) n (subst (λ end. end ≤ n) c.min-number-end.ensures c.loop-number-test.false)))) c.loop-number.invariant

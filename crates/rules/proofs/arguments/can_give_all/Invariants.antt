@@ -1,12 +1,12 @@
 use Rattle.std.proofs.Common.{drop, flat_map, zip}
 use Rattle.program.specs.Methods.{method_model}
 use Rattle.rules.specs.Arguments.{all_arguments, argument_checks}
-use Rattle.rules.specs.Rows.{leaves_of}
+use Rattle.rules.specs.Rows.{row_model}
 use Rattle.rules.proofs.ArgumentLemmas.{Left}
 use Rattle.rules.proofs.arguments.can_give_all.Given as goal
 
 abbrev pub invariant-loop-number : goal.invariant-loop-number
 invariant-loop-number l =
     let m = method_model l.here.method.now in
-    let row = leaves_of l.here.row.now in
+    let row = row_model l.here.row.now in
     Left (all_arguments m row l.kinds l.arguments) (flat_map (λ x. argument_checks m row x.0 x.1) (zip (drop l.number l.kinds) (drop l.number l.arguments)))

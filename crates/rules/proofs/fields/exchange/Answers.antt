@@ -8,7 +8,7 @@ use Rattle.rules.specs.Endpoints.{declared_leaf}
 use Rattle.rules.specs.Mentions.{has_something}
 use Rattle.rules.specs.Outcomes.{Goes}
 use Rattle.rules.specs.Programs.{model_of}
-use Rattle.rules.specs.Rows.{leaves_of}
+use Rattle.rules.specs.Rows.{row_model}
 use Rattle.rules.specs.declared.row.Leaf.TheVariants.{Nothing}
 use Rattle.rules.proofs.CallLemmas.{alone, behind_one}
 use Rattle.rules.proofs.fields.exchange.Goals as goal
@@ -16,7 +16,7 @@ use Rattle.rules.proofs.fields.exchange.Goals as goal
 pub returns-in-Some-can_be_inside-clause-outcome : goal.returns-in-Some-can_be_inside-clause-outcome
 returns-in-Some-can_be_inside-clause-outcome c =
     let m = method_model c.args.site.now.method.now in
-    let row = leaves_of c.args.row.now in
+    let row = row_model c.args.row.now in
     let e = c.args.exchange in
     let says = breach_model (model_of c.args.site.now.program.now) m in
     let stands = subst (λ k. StandsFor says c.can_be_inside.result (option_map_or (λ kind. field_checks m row kind (payload e.given)) k [])) c.field_of-field.ensures.kind c.can_be_inside.ensures in
@@ -27,7 +27,7 @@ returns-in-Some-can_be_inside-clause-outcome c =
 pub returns-clause-outcome : goal.returns-clause-outcome
 returns-clause-outcome c =
     let m = method_model c.args.site.now.method.now in
-    let row = leaves_of c.args.row.now in
+    let row = row_model c.args.row.now in
     let e = c.args.exchange in
     let says = breach_model (model_of c.args.site.now.program.now) m in
     let kind = c.field_of-field.ensures.kind in

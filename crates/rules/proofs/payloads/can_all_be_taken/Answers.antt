@@ -3,7 +3,7 @@ use Rattle.program.specs.Methods.{method_model}
 use Rattle.rules.specs.Arguments.{payload, taken_checks}
 use Rattle.rules.specs.Breaches.{breach_model}
 use Rattle.rules.specs.Programs.{model_of}
-use Rattle.rules.specs.Rows.{leaves_of}
+use Rattle.rules.specs.Rows.{row_model}
 use Rattle.rules.specs.Takers.{besides, wrong_in}
 use Rattle.rules.proofs.ArgumentLemmas.{again_stands, below_both, left_all, left_found, left_less, left_none, past_one}
 use Rattle.rules.proofs.PayloadLemmas.{taken_none, taken_side}
@@ -29,7 +29,7 @@ returns-in-Some-can_be_taken c =
     let given = c.args.payloads.now in
     let p = model_of c.args.here.now.program.now in
     let m = method_model c.args.here.now.method.now in
-    let one = taken_checks m (leaves_of c.args.here.now.row.now) (wrong_in p m c.args.taker) in
+    let one = taken_checks m (row_model c.args.here.now.row.now) (wrong_in p m c.args.taker) in
     let n = c.loop-number.number in
     let lt = below_both (length kinds) (length given) n (subst (λ end. n < end) c.min-number-end.ensures c.loop-number-test.true) in
     left_found (breach_model p m) _ _ _ _ c.can_be_taken.result c.in-Some-can_be_taken.breach
@@ -41,7 +41,7 @@ returns c =
     let given = c.args.payloads.now in
     let p = model_of c.args.here.now.program.now in
     let m = method_model c.args.here.now.method.now in
-    let one = taken_checks m (leaves_of c.args.here.now.row.now) (wrong_in p m c.args.taker) in
+    let one = taken_checks m (row_model c.args.here.now.row.now) (wrong_in p m c.args.taker) in
     let n = c.loop-number.number in
     left_none (breach_model p m) _ _
     (ap (flat_map (λ x. one x.0 x.1)) (taken_none kinds given n (past_one (length kinds) (length given) n (subst (λ end. end ≤ n) c.min-number-end.ensures c.loop-number-test.false)))) c.loop-number.invariant

@@ -2,7 +2,7 @@ use Rattle.std.proofs.Common.{drop, flat_map, map, zip}
 use Rattle.program.specs.Methods.{method_model}
 use Rattle.rules.specs.Arguments.{all_taken, payload, taken_checks}
 use Rattle.rules.specs.Programs.{model_of}
-use Rattle.rules.specs.Rows.{leaves_of}
+use Rattle.rules.specs.Rows.{row_model}
 use Rattle.rules.specs.Takers.{besides, wrong_in}
 use Rattle.rules.proofs.ArgumentLemmas.{Left}
 use Rattle.rules.proofs.payloads.can_all_be_taken.Given as goal
@@ -10,6 +10,6 @@ use Rattle.rules.proofs.payloads.can_all_be_taken.Given as goal
 abbrev pub invariant-loop-number : goal.invariant-loop-number
 invariant-loop-number l =
     let m = method_model l.here.method.now in
-    let row = leaves_of l.here.row.now in
+    let row = row_model l.here.row.now in
     let wrong = wrong_in (model_of l.here.program.now) m l.fn.taker in
     Left (all_taken m (besides l.fn.taker) row wrong l.kinds (map payload l.payloads)) (flat_map (λ x. taken_checks m row wrong x.0 x.1) (zip (drop l.number l.kinds) (map payload (drop l.number l.payloads))))

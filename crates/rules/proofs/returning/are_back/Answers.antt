@@ -3,7 +3,7 @@ use Rattle.std.proofs.lemmas.List.{length-map}
 use Rattle.program.specs.Methods.{method_model, variable_model}
 use Rattle.rules.specs.Breaches.{breach_model}
 use Rattle.rules.specs.Programs.{model_of}
-use Rattle.rules.specs.Rows.{leaves_of}
+use Rattle.rules.specs.Rows.{row_model}
 use Rattle.rules.proofs.ArgumentLemmas.{left_found}
 use Rattle.rules.proofs.BackLemmas.{back_more, told_back}
 use Rattle.rules.proofs.returning.are_back.Goals as goal
@@ -13,7 +13,7 @@ returns-then-is_not_back c =
     let p = model_of c.args.here.now.program.now in
     let m = method_model c.args.here.now.method.now in
     let says = breach_model p m in
-    let row = leaves_of c.args.here.now.row.now in
+    let row = row_model c.args.here.now.row.now in
     let v = c.loop-variable.variable in
     let size = length-map c.args.here.now.method.now.variables.items variable_model in
     let lt : v < length m.variables = subst (λ n. v < n) (c.len-variable-end.ensures ∙ c.args.here.now.method.now.variables.ok.0 ∙ sym size) c.loop-variable-test.true in

@@ -4,7 +4,7 @@ use Rattle.rules.specs.Breaches.{breach_model}
 use Rattle.rules.specs.Checks.{check_model}
 use Rattle.rules.specs.Outcomes.{Fails, checked}
 use Rattle.rules.specs.Programs.{model_of}
-use Rattle.rules.specs.Rows.{leaves_of}
+use Rattle.rules.specs.Rows.{row_model}
 use Rattle.rules.specs.Scopes.{declared_between}
 use Rattle.rules.proofs.GivenLemmas.{given, given_is}
 use Rattle.rules.proofs.scopes.is_given_back.Goals as goal
@@ -13,7 +13,7 @@ pub returns : goal.returns
 returns c = record {
   all = λ more after.
       let m = method_model c.args.here.now.method.now in
-      given_is m (leaves_of c.args.here.now.row.now) c.args.place c.args.given (declared_between m c.args.outer c.args.last) more after
+      given_is m (row_model c.args.here.now.row.now) c.args.place c.args.given (declared_between m c.args.outer c.args.last) more after
       ∙ ap (λ v. given m c.args.place v more after) (sym c.in_ok-variable.ensures)
       ∙ ap (λ b. Fails (breach_model (model_of c.args.here.now.program.now) m b)) (sym c.at.ensures);
 }
@@ -22,7 +22,7 @@ pub returns-in_err-variable : goal.returns-in_err-variable
 returns-in_err-variable c = record {
   all = λ more after.
       let m = method_model c.args.here.now.method.now in
-      given_is m (leaves_of c.args.here.now.row.now) c.args.place c.args.given (declared_between m c.args.outer c.args.last) more after
+      given_is m (row_model c.args.here.now.row.now) c.args.place c.args.given (declared_between m c.args.outer c.args.last) more after
       ∙ ap (λ v. given m c.args.place v more after) (sym c.in_err-variable.ensures)
       ∙ ap (λ found. checked (check_model (breach_model (model_of c.args.here.now.program.now) m) found ∷ more) after) (sym c.from_residual.ensures);
 }

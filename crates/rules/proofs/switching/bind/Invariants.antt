@@ -1,7 +1,7 @@
 use Rattle.std.proofs.Common.{◌≡◌, drop}
-use Rattle.rules.specs.Rows.{leaves_of}
+use Rattle.rules.specs.Rows.{row_model}
 use Rattle.rules.specs.Switches.{bound_leaves}
 use Rattle.rules.proofs.switching.bind.Given as goal
 
 abbrev pub invariant-loop-number : goal.invariant-loop-number
-invariant-loop-number l = bound_leaves (leaves_of l.row) (drop l.number l.targets) (drop l.number l.kinds) ≡ bound_leaves (leaves_of l.fn.row) l.targets l.kinds
+invariant-loop-number l = bound_leaves (row_model l.row) (drop l.number l.targets) (drop l.number l.kinds) ≡ bound_leaves (row_model l.fn.row) l.targets l.kinds

@@ -2,7 +2,7 @@ use Rattle.std.proofs.Common.{map}
 use Rattle.program.specs.Methods.{method_model}
 use Rattle.flow.specs.Graphs.{cases_model}
 use Rattle.rules.specs.Programs.{model_of}
-use Rattle.rules.specs.Rows.{leaves_of}
+use Rattle.rules.specs.Rows.{row_model}
 use Rattle.rules.specs.Steps.{pair_model}
 use Rattle.rules.specs.Switches.{awaited_edges, received}
 use Rattle.rules.proofs.SwitchLemmas.{Adds}
@@ -12,5 +12,5 @@ abbrev pub invariant-loop-edge : goal.invariant-loop-edge
 invariant-loop-edge l =
     let p = model_of l.here.program.now in
     let m = method_model l.here.method.now in
-    let row = leaves_of l.here.row.now in
+    let row = row_model l.here.row.now in
     Adds (received p m row (cases_model l.cases) l.endpoint.variable.0) (map pair_model l.fn.pairs.items) (awaited_edges p m row l.endpoint) (map pair_model l.pairs.items) l.edge-index

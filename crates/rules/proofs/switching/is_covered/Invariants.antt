@@ -2,7 +2,7 @@ use Rattle.std.proofs.Common.{drop}
 use Rattle.program.specs.Methods.{method_model}
 use Rattle.flow.specs.Graphs.{cases_model}
 use Rattle.rules.specs.Programs.{model_of}
-use Rattle.rules.specs.Rows.{leaves_of}
+use Rattle.rules.specs.Rows.{row_model}
 use Rattle.rules.proofs.ArgumentLemmas.{Left}
 use Rattle.rules.proofs.SwitchLemmas.{edge_checks}
 use Rattle.rules.specs.Switches.{awaited_edges, covered}
@@ -12,5 +12,5 @@ abbrev pub invariant-loop-edge : goal.invariant-loop-edge
 invariant-loop-edge l =
     let p = model_of l.here.program.now in
     let m = method_model l.here.method.now in
-    let row = leaves_of l.here.row.now in
+    let row = row_model l.here.row.now in
     Left (covered p m row (cases_model l.cases) l.fn.endpoint) (edge_checks p m (cases_model l.cases) l.fn.endpoint (drop l.edge-index (awaited_edges p m row l.fn.endpoint)))

@@ -8,7 +8,7 @@ use Rattle.rules.specs.Checks.{StandsFor}
 use Rattle.rules.specs.Mentions.{has_something}
 use Rattle.rules.specs.Outcomes.{Goes}
 use Rattle.rules.specs.Programs.{model_of}
-use Rattle.rules.specs.Rows.{leaves_of}
+use Rattle.rules.specs.Rows.{row_model}
 use Rattle.rules.specs.Steps.{pair_model}
 use Rattle.rules.specs.Switches.{comes_at, covered, is_to_send, switch_pairs}
 use Rattle.rules.specs.Texts.{nothing_to_receive}
@@ -20,7 +20,7 @@ pub returns-in-Some-are_covered : goal.returns-in-Some-are_covered
 returns-in-Some-are_covered c =
     let p = model_of c.args.here.now.program.now in
     let m = method_model c.args.here.now.method.now in
-    let row = leaves_of c.args.here.now.row.now in
+    let row = row_model c.args.here.now.row.now in
     let cases = cases_model c.args.cases.now in
     let named = first_mentions [] cases in
     let says = breach_model p m in
@@ -33,7 +33,7 @@ pub returns : goal.returns
 returns c =
     let p = model_of c.args.here.now.program.now in
     let m = method_model c.args.here.now.method.now in
-    let row = leaves_of c.args.here.now.row.now in
+    let row = row_model c.args.here.now.row.now in
     let cases = cases_model c.args.cases.now in
     let named = first_mentions [] cases in
     let says = breach_model p m in

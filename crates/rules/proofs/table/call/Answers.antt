@@ -6,7 +6,7 @@ use Rattle.rules.specs.Checks.{StandsFor}
 use Rattle.rules.specs.Endpoints.{parameter_kinds}
 use Rattle.rules.specs.Outcomes.{Goes}
 use Rattle.rules.specs.Programs.{model_of}
-use Rattle.rules.specs.Rows.{leaves_of}
+use Rattle.rules.specs.Rows.{row_model}
 use Rattle.rules.proofs.CallLemmas.{second_of}
 use Rattle.rules.proofs.table.call.Goals as goal
 
@@ -14,7 +14,7 @@ pub returns-in-Some-can_take-clause-outcome : goal.returns-in-Some-can_take-clau
 returns-in-Some-can_take-clause-outcome c =
     let p = model_of c.args.site.now.program.now in
     let m = method_model c.args.site.now.method.now in
-    let row = leaves_of c.args.row.now in
+    let row = row_model c.args.row.now in
     let calling = c.args.calling.now in
     let says = breach_model p m in
     let first =
@@ -28,7 +28,7 @@ pub returns-clause-outcome : goal.returns-clause-outcome
 returns-clause-outcome c =
     let p = model_of c.args.site.now.program.now in
     let m = method_model c.args.site.now.method.now in
-    let row = leaves_of c.args.row.now in
+    let row = row_model c.args.row.now in
     let calling = c.args.calling.now in
     let says = breach_model p m in
     let first =

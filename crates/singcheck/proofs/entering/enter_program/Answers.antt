@@ -1,5 +1,5 @@
 use Rattle.std.proofs.Common.{subst, sym, map}
-use Rattle.source.specs.Findings.{finding_parts}
+use Rattle.source.specs.Findings.{finding_model}
 use Rattle.tree.specs.Trees.{program_tree}
 use Rattle.program.specs.Programs.{program_model}
 use Rattle.rules.specs.Programs.{model_of}
@@ -36,4 +36,4 @@ returns-in-Broken c =
     let p = program_model c.in-Clean.named.methods in
     let known = subst (IsNamed text c.args.tree) c.in-Clean.is c.in_ok-findings.ensures in
     let built = subst (IsBuilt p) c.in-Broken.is c.in_ok-findings-2.ensures in
-    unsound_named text items p (map finding_parts c.in-Broken.findings.items) known.1.names built.1
+    unsound_named text items p (map finding_model c.in-Broken.findings.items) known.1.names built.1

@@ -1,6 +1,6 @@
 use Rattle.std.proofs.Common.{◌≡◌, ◌++◌, ◌∷◌, [], map, sym, ap, subst, ◌∙◌}
 use Rattle.std.specs.Prelude.{◌↔◌, Contains, IfOk, slice_get}
-use Rattle.source.specs.Findings.{finding_parts}
+use Rattle.source.specs.Findings.{finding_model}
 use Rattle.source.specs.declared.kind.Kind.{Kind}
 use Rattle.source.specs.declared.place.Place.{Place}
 use Rattle.expected.specs.Expectations.{expectation_of}
@@ -23,7 +23,7 @@ returns c = λ text lexed end.
         lexed = lexed;
         number = number;
         wrong = c.requires.wrong;
-        finding = subst (λ r. IfOk r (λ f. finding_parts f ≡ wrong_token text (slice_get tokens number))) c.in_ok-finding.was (c.finding_at.ensures text end);
+        finding = subst (λ r. IfOk r (λ f. finding_model f ≡ wrong_token text (slice_get tokens number))) c.in_ok-finding.was (c.finding_at.ensures text end);
         kinds = kinds;
         exact = subst (λ s. (kind : Kind) → Contains kinds kind ↔ IsExpected tokens number s kind) (c.span_at.ensures ∙ ap (λ (p : Place). wrong_span p (slice_get tokens number)) end) c.in_ok-kinds.ensures.exact;
         order = c.in_ok-kinds.ensures.order;

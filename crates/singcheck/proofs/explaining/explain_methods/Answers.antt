@@ -2,7 +2,7 @@ use Rattle.std.proofs.Common.{◌≡◌, ◌+◌, ◌<◌, suc, [], length, map,
 use Rattle.std.specs.List.{All}
 use Rattle.std.proofs.lemmas.List.{length-map, map-append}
 use Rattle.std.proofs.lemmas.List.Elements.{All-append, All-nil, All-weaker}
-use Rattle.source.specs.Findings.{finding_parts}
+use Rattle.source.specs.Findings.{finding_model}
 use Rattle.program.specs.Methods.{method_model}
 use Rattle.pool.specs.Counts.{times}
 use Rattle.rules.specs.Programs.{model_of}
@@ -20,7 +20,7 @@ loop-number-init c =
     let none = c.new-found.ensures.items in
     record {
       worker = c.new-worker.ensures.worker c.in_ok-rows.rows c.in_ok-rows.ensures;
-      found = subst (λ es. AreOfMethods p [] (map (λ (e : Explained). finding_parts e.finding) es)) (sym none) (of_no_methods p);
+      found = subst (λ es. AreOfMethods p [] (map (λ (e : Explained). finding_model e.finding) es)) (sym none) (of_no_methods p);
       each = subst (All (λ (e : Explained). IsExplainedIn c.args.named p (explained_model e))) (sym none) (All-nil (λ (e : Explained). IsExplainedIn c.args.named p (explained_model e)));
     }
 
@@ -29,7 +29,7 @@ loop-number-preserved c =
     let p = model_of c.args.program.now in
     let i = c.loop-number.invariant in
     let n = c.loop-number.number in
-    let parts = λ (e : Explained). finding_parts e.finding in
+    let parts = λ (e : Explained). finding_model e.finding in
     let holds = λ (e : Explained). IsExplainedIn c.args.named p (explained_model e) in
     let old = c.loop-number.found.items in
     let more = c.in_ok-more.more.items in
@@ -50,4 +50,4 @@ returns-clause-found c =
     let n = c.loop-number.number in
     let same : n ≡ length p.methods
     = let past = c.loop-number-test.false in let within = c.loop-number.auto.number-end in let many = ap length c.methods.ensures in omega (arith, past, within, many, length-map c.methods.result.now method_model) in
-    of_all_methods p (numbers_below n) (map (λ (e : Explained). finding_parts e.finding) c.loop-number.found.items) (λ k. ap (λ m. times k (numbers_below m)) same) c.loop-number.invariant.found
+    of_all_methods p (numbers_below n) (map (λ (e : Explained). finding_model e.finding) c.loop-number.found.items) (λ k. ap (λ m. times k (numbers_below m)) same) c.loop-number.invariant.found

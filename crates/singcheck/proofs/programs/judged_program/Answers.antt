@@ -2,7 +2,7 @@ use Rattle.std.proofs.Common.{◌∙◌, map, ap, refl, sym, subst, length, arit
 use Rattle.std.specs.Prelude.{All}
 use Rattle.std.proofs.lemmas.List.{length-map}
 use Rattle.std.proofs.lemmas.List.Elements.{All-same}
-use Rattle.source.specs.Findings.{finding_parts}
+use Rattle.source.specs.Findings.{finding_model}
 use Rattle.program.specs.Parts.{ContractModel, IsWhole, contract_model}
 use Rattle.program.specs.Programs.{ProgramModel, contracts_model}
 use Rattle.contracts.specs.Conditions.{IsSound}
@@ -34,7 +34,7 @@ new-requires c =
 pub returns-in-Found : goal.returns-in-Found
 returns-in-Found c =
     let contracts = map contract_model c.contracts.result.now.contracts.items in
-    (refl, subst (λ l. AreBroken l (map finding_parts c.in-Found.findings.items)) c.contracts.ensures (subst (IsJudgement contracts) c.in-Found.is c.in_ok-findings.ensures))
+    (refl, subst (λ l. AreBroken l (map finding_model c.in-Found.findings.items)) c.contracts.ensures (subst (IsJudgement contracts) c.in-Found.is c.in_ok-findings.ensures))
 
 pub returns-in_ok-new-in-Clean : goal.returns-in_ok-new-in-Clean
 returns-in_ok-new-in-Clean c =

@@ -2,7 +2,7 @@ use Rattle.std.proofs.Common.{◌∙◌, ap, length, map, sym, subst, Vec, arith
 use Rattle.std.specs.Global.{Global}
 use Rattle.std.proofs.lemmas.List.{length-map}
 use Rattle.std.proofs.lemmas.List.Elements.{All-map, All-same}
-use Rattle.source.specs.Findings.{finding_parts}
+use Rattle.source.specs.Findings.{finding_model}
 use Rattle.source.specs.declared.finding.Finding.{Finding}
 use Rattle.tree.specs.Trees.{program_tree}
 use Rattle.declarations.specs.Program.{program_of}
@@ -66,4 +66,4 @@ returns-in-Err-Found c =
     let items = program_tree c.args.tree in
     let parsed : IsProgram text items = c.requires.parsed in
     let told = explained (program_of text c.args.tree) c.in-Err-Found.field-0 c.in-Err-Found.findings c.in-Err-Found.field-0-is c.in-Err-Found.ensures.found in
-    subst (λ (v : Vec Finding Global). AreFindings text (map finding_parts v.items)) (sym c.in-Err-Found.findings-is) (misnamed text items c.in-Err-Found.findings.items parsed told)
+    subst (λ (v : Vec Finding Global). AreFindings text (map finding_model v.items)) (sym c.in-Err-Found.findings-is) (misnamed text items c.in-Err-Found.findings.items parsed told)

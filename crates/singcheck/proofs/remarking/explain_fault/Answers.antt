@@ -1,5 +1,5 @@
 use Rattle.std.proofs.Common.{◌++◌, ◌∷◌, [], map, ap, sym, subst, ◌∙◌}
-use Rattle.source.specs.Findings.{finding_parts}
+use Rattle.source.specs.Findings.{finding_model}
 use Rattle.traces.specs.Explained.{explained_model}
 use Rattle.singcheck.specs.Explains.{IsExplainedText}
 use Rattle.singcheck.specs.Remarked.{remark_lines}
@@ -14,6 +14,6 @@ returns c = λ text known.
     (λ some. fault_explained named text e (record {
       fault = c.args.fault;
       first = known c.in_ok-finding.ensures.fault;
-      finding = ap (λ f. finding_parts f ∷ []) c.in_ok-explained_by.ensures.finding ∙ c.in_ok-finding.ensures.told;
+      finding = ap (λ f. finding_model f ∷ []) c.in_ok-explained_by.ensures.finding ∙ c.in_ok-finding.ensures.told;
       lines = c.in_ok-explained_by.ensures.lines ∙ ap (remark_lines named e.finding.place) c.in_ok-said.ensures;
     }))

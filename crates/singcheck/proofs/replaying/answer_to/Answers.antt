@@ -1,6 +1,6 @@
 use Rattle.std.proofs.Common.{inr, map, refl, subst}
 use Rattle.std.proofs.lemmas.Result.{IfOk-weaker}
-use Rattle.source.specs.Findings.{finding_parts}
+use Rattle.source.specs.Findings.{finding_model}
 use Rattle.rules.specs.Programs.{model_of}
 use Rattle.singcheck.specs.Entered.{ComesIn, IsEntered}
 use Rattle.singcheck.specs.Replays.{OfFindings}
@@ -10,7 +10,7 @@ use Rattle.singcheck.proofs.replaying.answer_to.Goals as goal
 
 pub returns-in_ok-report_of-in-Found-clause-replays : goal.returns-in_ok-report_of-in-Found-clause-replays
 returns-in_ok-report_of-in-Found-clause-replays g c = some_always (g.Q.Source.remaining c.args.schedule.now) _ (λ lines. OfFindings (record {
-  found = map finding_parts c.in-Found.findings.items;
+  found = map finding_model c.in-Found.findings.items;
   are = subst (IsEntered c.args.text.now c.args.entry.now) c.in-Found.is c.in_ok-findings.ensures;
   told = c.in_ok-report_of-in-Found.ensures;
 }) refl)
@@ -18,7 +18,7 @@ returns-in_ok-report_of-in-Found-clause-replays g c = some_always (g.Q.Source.re
 pub returns-in_ok-report_of-in-Found-clause-safe : goal.returns-in_ok-report_of-in-Found-clause-safe
 returns-in_ok-report_of-in-Found-clause-safe g c = some_always (g.Q.Source.remaining c.args.schedule.now) _ (λ lines empty.
     let are = subst (IsEntered c.args.text.now c.args.entry.now) c.in-Found.is c.in_ok-findings.ensures in
-    absurd (c.findings_or_program.ensures c.args.text.now (map finding_parts c.in-Found.findings.items) empty.1.program are empty.1.has))
+    absurd (c.findings_or_program.ensures c.args.text.now (map finding_model c.in-Found.findings.items) empty.1.program are empty.1.has))
 
 pub returns-in-Clean-Some-clause-safe : goal.returns-in-Clean-Some-clause-safe
 returns-in-Clean-Some-clause-safe g c =
@@ -61,7 +61,7 @@ returns-in-Clean-Some-clause-untouched g c =
 
 pub returns-in_ok-report_of-in-Found-clause-bounded : goal.returns-in_ok-report_of-in-Found-clause-bounded
 returns-in_ok-report_of-in-Found-clause-bounded g c = some_always (g.Q.Source.remaining c.args.schedule.now) _ (λ lines. Reported (record {
-  found = map finding_parts c.in-Found.findings.items;
+  found = map finding_model c.in-Found.findings.items;
   are = subst (IsEntered c.args.text.now c.args.entry.now) c.in-Found.is c.in_ok-findings.ensures;
   told = c.in_ok-report_of-in-Found.ensures;
 }) refl)
@@ -69,7 +69,7 @@ returns-in_ok-report_of-in-Found-clause-bounded g c = some_always (g.Q.Source.re
 pub returns-in_ok-report_of-in-Found-clause-rest : goal.returns-in_ok-report_of-in-Found-clause-rest
 returns-in_ok-report_of-in-Found-clause-rest g c = λ has.
     let are = subst (IsEntered c.args.text.now c.args.entry.now) c.in-Found.is c.in_ok-findings.ensures in
-    absurd (c.findings_or_program.ensures c.args.text.now (map finding_parts c.in-Found.findings.items) has.0 are has.2.has)
+    absurd (c.findings_or_program.ensures c.args.text.now (map finding_model c.in-Found.findings.items) has.0 are has.2.has)
 
 pub returns-in-Clean-Some-clause-line : goal.returns-in-Clean-Some-clause-line
 returns-in-Clean-Some-clause-line g c = λ n told.

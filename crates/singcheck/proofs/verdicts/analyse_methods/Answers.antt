@@ -3,7 +3,7 @@ use Rattle.std.proofs.Common.{map, ap, ◌∙◌}
 use Rattle.std.proofs.Crossing.{crosses}
 use Rattle.std.proofs.lemmas.Result.{IfOk-weaker}
 use denote.Param.Send.{sendable}
-use Rattle.source.specs.Findings.{finding_parts}
+use Rattle.source.specs.Findings.{finding_model}
 use Rattle.rules.specs.Programs.{model_of}
 use Rattle.rules.specs.contracts.lowered.Program as program
 use Rattle.intern.specs.contracts.rows.Rows as rows
@@ -25,6 +25,6 @@ returns-in-Ok g c =
     let p = model_of c.args.program.now in
     let done = c.deref.result.now in
     IfOk-weaker c.found_in.result _ _
-    (λ found of. of_all_methods p (map method_of done) (map finding_parts found.items)
+    (λ found of. of_all_methods p (map method_of done) (map finding_model found.items)
     (λ n. ap (λ l. times n (map method_of l)) c.deref.ensures.value ∙ c.in-Ok.ensures.each n ∙ ap (times n) c.in_ok-all.ensures.each) of)
     c.found_in.ensures

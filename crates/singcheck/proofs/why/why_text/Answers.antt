@@ -3,13 +3,13 @@ use Rattle.std.specs.Prelude.{◌≢◌, [], length}
 use Rattle.std.proofs.lemmas.Bool.{eqb-false}
 use Rattle.std.proofs.lemmas.List.{length-map}
 use Rattle.std.proofs.lemmas.Result.{IfOk-weaker}
-use Rattle.source.specs.Findings.{finding_parts}
+use Rattle.source.specs.Findings.{finding_model}
 use Rattle.traces.specs.Explained.{explained_model}
 use Rattle.singcheck.proofs.ExplainLemmas.{explains_before}
 use Rattle.singcheck.proofs.why.why_text.Goals as goal
 
 pub returns-then-is_empty : goal.returns-then-is_empty
-returns-then-is_empty c = explains_before c.args.named c.args.text.now (map finding_parts c.args.findings.items) c.requires c.finding_report.result c.finding_report.ensures.bytes c.finding_report.ensures.status
+returns-then-is_empty c = explains_before c.args.named c.args.text.now (map finding_model c.args.findings.items) c.requires c.finding_report.result c.finding_report.ensures.bytes c.finding_report.ensures.status
 
 pub returns : goal.returns
 returns c =

@@ -6,7 +6,7 @@ use Rattle.tree.specs.StatementTrees.{statement_tree}
 use Rattle.tree.specs.StatementGrammar.{statement}
 use Rattle.syntax.specs.StatementFirsts.{statement_on, statement_at}
 use Rattle.syntax.specs.declared.leads.Lead.TheVariants as lead
-use Rattle.syntax.specs.declared.leads.Simple.TheVariants as simple
+use Rattle.syntax.specs.declared.leads.SimpleLead.TheVariants as simple
 use Rattle.syntax.proofs.TypeRules.{scalar_type_piece}
 use Rattle.syntax.proofs.SimpleRules.{declared_piece}
 use Rattle.syntax.proofs.NameRests.{name_rest_piece}

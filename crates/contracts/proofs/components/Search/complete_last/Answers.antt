@@ -4,7 +4,7 @@ use Rattle.std.specs.Vec.{with_items}
 use Rattle.std.proofs.lemmas.List.{length_push, take_rest}
 use Rattle.std.proofs.lemmas.List.Elements.{All-drop}
 use Rattle.contracts.specs.declared.components.Status.TheVariants.{Complete, New}
-use Rattle.contracts.specs.Graphs.{rows}
+use Rattle.contracts.specs.Graphs.{groups}
 use Rattle.contracts.specs.Searches.{IsSearch, TellsComponent, is_new, status_at, written}
 use Rattle.contracts.proofs.RisingLemmas.{but_last}
 use Rattle.contracts.proofs.ComponentLemmas.{found_same, pending_within, room_same, search_same}
@@ -18,16 +18,16 @@ use Rattle.contracts.proofs.components.Search.complete_last.Goals.{After-deref, 
 part_is : (c : After-deref) → take (length c.deref.result.now - c.args.bound) (drop c.args.bound c.deref.result.now) ≡ drop c.args.bound c.args.self.now.pending.items
 part_is c = take_rest c.deref.result.now c.args.bound ∙ ap (drop c.args.bound) c.deref.ensures.value
 
-part_within : (c : After-deref) (n : ℕ) → n ≡ length (rows c.args.graph.now) → All (λ v. v < n) (take (length c.deref.result.now - c.args.bound) (drop c.args.bound c.deref.result.now))
+part_within : (c : After-deref) (n : ℕ) → n ≡ length (groups c.args.graph.now) → All (λ v. v < n) (take (length c.deref.result.now - c.args.bound) (drop c.args.bound c.deref.result.now))
 part_within c n long =
     let old = c.args.self.now in
-    let graph = rows c.args.graph.now in
+    let graph = groups c.args.graph.now in
     subst (λ k. All (λ v. v < k) (take (length c.deref.result.now - c.args.bound) (drop c.args.bound c.deref.result.now))) (sym long)
     (subst (All (λ v. v < length graph)) (sym (part_is c)) (All-drop (λ v. v < length graph) c.args.bound old.pending.items
     (pending_within graph old.statuses.items old.pending.items old.bounds.items old.arcs.items c.requires.kept.search)))
 
 pub are_on_ring-on_ring-requires : goal.are_on_ring-on_ring-requires
-are_on_ring-on_ring-requires c = record { within = part_within (goal.at.are_on_ring-on_ring-requires c).After-deref (length (rows c.args.graph.now)) refl }
+are_on_ring-on_ring-requires c = record { within = part_within (goal.at.are_on_ring-on_ring-requires c).After-deref (length (groups c.args.graph.now)) refl }
 
 pub write_each-requires : goal.write_each-requires
 write_each-requires c = part_within (goal.at.write_each-requires c).After-deref (length c.deref_mut.result.now) (ap length c.deref_mut.ensures.value ∙ c.requires.kept.search.long)
@@ -45,16 +45,16 @@ bounds_are : (c : After-pop) → c.pop.new.self.items ≡ c.requires.last.0
 bounds_are c = but_last c.args.self.now.bounds.items c.requires.last.0 c.pop.new.self.items c.args.bound c.requires.last.1
     (c.pop.ensures.rest ∙ ap (λ n. take (n - 1) c.args.self.now.bounds.items) c.args.self.now.bounds.ok.0)
 
-search_is : (c : After-pop) → IsSearch (rows c.args.graph.now) c.args.self.now.statuses.items c.args.self.now.pending.items (c.requires.last.0 ++ c.args.bound ∷ []) c.args.self.now.arcs.items
-search_is c = subst (λ l. IsSearch (rows c.args.graph.now) c.args.self.now.statuses.items c.args.self.now.pending.items l c.args.self.now.arcs.items) c.requires.last.1 c.requires.kept.search
+search_is : (c : After-pop) → IsSearch (groups c.args.graph.now) c.args.self.now.statuses.items c.args.self.now.pending.items (c.requires.last.0 ++ c.args.bound ∷ []) c.args.self.now.arcs.items
+search_is c = subst (λ l. IsSearch (groups c.args.graph.now) c.args.self.now.statuses.items c.args.self.now.pending.items l c.args.self.now.arcs.items) c.requires.last.1 c.requires.kept.search
 
 -- whether it lies on a ring
-told_is : (c : After-pop) → TellsComponent (rows c.args.graph.now) (drop c.args.bound c.args.self.now.pending.items) c.are_on_ring-on_ring.result
-told_is c = subst (λ l. TellsComponent (rows c.args.graph.now) l c.are_on_ring-on_ring.result) (take_rest c.deref.result.now c.args.bound ∙ ap (drop c.args.bound) c.deref.ensures.value) c.are_on_ring-on_ring.ensures
+told_is : (c : After-pop) → TellsComponent (groups c.args.graph.now) (drop c.args.bound c.args.self.now.pending.items) c.are_on_ring-on_ring.result
+told_is c = subst (λ l. TellsComponent (groups c.args.graph.now) l c.are_on_ring-on_ring.result) (take_rest c.deref.result.now c.args.bound ∙ ap (drop c.args.bound) c.deref.ensures.value) c.are_on_ring-on_ring.ensures
 
 pub returns-clause-kept : goal.returns-clause-kept
 returns-clause-kept c =
-    let graph = rows c.args.graph.now in
+    let graph = groups c.args.graph.now in
     let old = c.args.self.now in
     let statuses = old.statuses.items in
     let pending = old.pending.items in
@@ -82,7 +82,7 @@ returns-clause-met c =
     let statuses = old.statuses.items in
     let at = (goal.at.returns-clause-met c).After-pop in
     subst (λ l. (v : ℕ) → (status_at statuses v ≡ New → ⊥) → status_at l v ≡ New → ⊥) (sym (statuses_are at))
-    (completed_met (rows c.args.graph.now) statuses old.pending.items c.requires.last.0 old.arcs.items old.rings.items old.order.items c.args.bound c.are_on_ring-on_ring.result
+    (completed_met (groups c.args.graph.now) statuses old.pending.items c.requires.last.0 old.arcs.items old.rings.items old.order.items c.args.bound c.are_on_ring-on_ring.result
     c.requires.none (told_is at) (search_is at) c.requires.kept.found)
 
 pub returns-clause-fewer : goal.returns-clause-fewer
@@ -92,7 +92,7 @@ returns-clause-fewer c =
     let at = (goal.at.returns-clause-fewer c).After-pop in
     let new = (with_items old.statuses c.write_each.new.items).items in
     let same : count_by is_new new ≡ count_by is_new statuses = ap (count_by is_new) (statuses_are at)
-    ∙ completed_new (rows c.args.graph.now) statuses old.pending.items c.requires.last.0 old.arcs.items old.rings.items old.order.items c.args.bound c.are_on_ring-on_ring.result
+    ∙ completed_new (groups c.args.graph.now) statuses old.pending.items c.requires.last.0 old.arcs.items old.rings.items old.order.items c.args.bound c.are_on_ring-on_ring.result
     c.requires.none (told_is at) (search_is at) c.requires.kept.found in
     let one : length c.pop.new.self.items + 1 ≡ length old.bounds.items = let a = ap length (bounds_are at) in let b = ap length c.requires.last.1 in let d = length_push c.requires.last.0 c.args.bound in omega (arith, a, b, d) in
     complete_fewer (count_by is_new statuses) (count_by is_new new) (length c.args.graph.now.items.items) (length old.arcs.items) (length old.bounds.items) (length c.pop.new.self.items) same one

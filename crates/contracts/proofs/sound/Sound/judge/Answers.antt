@@ -2,30 +2,30 @@ use Rattle.std.proofs.Common.{◌≡◌, ◌∙◌, List, [], ◌∷◌, length,
 use Rattle.std.specs.Prelude.{Contains}
 use Rattle.std.proofs.lemmas.Bool.{eqb-true, eqb-false}
 use Rattle.std.proofs.lemmas.List.{length-map}
-use Rattle.contracts.specs.Conditions.{FindingParts, finding_parts, AreExactly, IsFault, IsSound}
+use Rattle.contracts.specs.Conditions.{FindingModel, finding_model, AreExactly, IsFault, IsSound}
 use Rattle.source.specs.declared.finding.Finding.{Finding}
 use Rattle.contracts.specs.Parts.{Parts, contract_parts}
 use Rattle.contracts.proofs.sound.Sound.judge.Goals as goal
 
 -- a list that isn't empty has something
-some_in : (xs : List FindingParts) → (length xs ≡ 0 → ⊥) → (f : FindingParts) × Contains xs f
+some_in : (xs : List FindingModel) → (length xs ≡ 0 → ⊥) → (f : FindingModel) × Contains xs f
 some_in [] some = absurd (some refl)
 some_in (x ∷ xs) some = (x, (0, omega arith, refl))
 
 pub returns-then-not-is_empty : goal.returns-then-not-is_empty
 returns-then-not-is_empty c =
-    let size = length-map c.in_ok-found.found.items finding_parts in
+    let size = length-map c.in_ok-found.found.items finding_model in
     let long = c.in_ok-found.found.ok in
     let differ = eqb-false _ _ (sym c.is_empty.ensures ∙ c.if-not-is_empty.true) in
-    let some = some_in (map finding_parts c.in_ok-found.found.items) (λ none. differ (omega (arith, size, long.0, none))) in
+    let some = some_in (map finding_model c.in_ok-found.found.items) (λ none. differ (omega (arith, size, long.0, none))) in
     ((some.0, c.in_ok-found.ensures.exactly.right some.0 some.1), c.in_ok-found.ensures.exactly)
 
 -- where nothing is found, the contract is sound
-none_found : (parts : Parts) (found : List Finding) → AreExactly (IsFault parts) (map finding_parts found) → length found ≡ 0 → IsSound parts
+none_found : (parts : Parts) (found : List Finding) → AreExactly (IsFault parts) (map finding_model found) → length found ≡ 0 → IsSound parts
 none_found parts found exactly none = λ f fault.
     let there = exactly.all f fault in
     let lt = there.1 in
-    let size = length-map found finding_parts in
+    let size = length-map found finding_model in
     absurd (omega (arith, size, none, lt))
 
 pub sound_of-requires-clause-sound : goal.sound_of-requires-clause-sound

@@ -4,7 +4,7 @@ use Rattle.atomic_table.specs.Seated.{TableId}
 use Rattle.intern.specs.View.{View, Knowledge, IsInside}
 use Rattle.intern.proofs.RuleLemmas.{joins, looks}
 use Rattle.intern.proofs.ViewLemmas.{holds_left, holds_right, joined_grows, inside_both, inside_gained}
-use Rattle.intern.proofs.TokenLemmas.{faithful}
+use Rattle.intern.proofs.IdLemmas.{faithful}
 use Rattle.intern.proofs.rows.Rows.join.Goals as goal
 
 pub join_seat-requires : goal.join_seat-requires

@@ -1,7 +1,7 @@
 use Rattle.std.proofs.Common.{◌≡◌, ◌∙◌, List, ℕ, ap, Bor, Option, Some, None, map, refl, sym}
 use Rattle.std.specs.Prelude.{option_and_then, option_map, slice_get, string_bytes}
 use Rattle.std.proofs.lemmas.Option.{slice_get_past, slice_get_read}
-use Rattle.program.specs.Parts.{ContractModel, StateParts, contract_model, state_parts}
+use Rattle.program.specs.Parts.{ContractModel, StateModel, contract_model, state_model}
 use Rattle.program.specs.declared.contract.Contract.{Contract}
 use Rattle.rules.specs.Programs.{model_of}
 use Rattle.replays.specs.Names.{state_of}
@@ -17,16 +17,16 @@ by_tables c =
     state_placed contracts c.args.self.now.states.items c.args.self.now.placed c.args.contract.0 c.args.state.0 ∙ ap (by_index contracts c.args.contract.0) (sym c.index_of.ensures)
 
 -- the name of a state, where there is one
-abbrev name_of : Option StateParts → Option (List ℕ)
-name_of s = option_map (λ (x : StateParts). x.name) s
+abbrev name_of : Option StateModel → Option (List ℕ)
+name_of s = option_map (λ (x : StateModel). x.name) s
 
 -- the state at a place of a contract, where there is one
-abbrev within : Option ContractModel → ℕ → Option StateParts
+abbrev within : Option ContractModel → ℕ → Option StateModel
 within contract index = option_and_then (λ (x : ContractModel). slice_get x.parts.states index) contract
 
 -- of a contract that is there, its states
 in_contract : (c : After-index_of) (index : ℕ) (contract : Contract) → c.index_of.result ≡ Some index → slice_get (model_of c.args.self.now.program.now).contracts c.args.contract.0 ≡ Some (contract_model contract)
-    → state_of (model_of c.args.self.now.program.now).contracts c.args.contract.0 c.args.state.0 ≡ slice_get (map (state_parts (string_bytes contract.state_names)) contract.states.items) index
+    → state_of (model_of c.args.self.now.program.now).contracts c.args.contract.0 c.args.state.0 ≡ slice_get (map (state_model (string_bytes contract.state_names)) contract.states.items) index
 in_contract c index contract was there = by_tables c ∙ ap (by_index (model_of c.args.self.now.program.now).contracts c.args.contract.0) was ∙ ap (λ o. within o index) there
 
 pub returns-in_err-index : goal.returns-in_err-index
@@ -48,7 +48,7 @@ pub returns-in_err-there : goal.returns-in_err-there
 returns-in_err-there c =
     let n = c.args.contract.0 in
     let x = c.in_ok-within.within.now in
-    let view = state_parts (string_bytes x.state_names) in
+    let view = state_model (string_bytes x.state_names) in
     let look = c.in_ok-within.ensures.lookup in
     let there = seen_at contract_model c.contracts.result.now (model_of c.args.self.now.program.now).contracts n (Some x) c.contracts.ensures (slice_get_read c.contracts.result.now _ n x refl look.3.0 look.1) in
     ap (option_map (λ (b : Bor (List ℕ)). b.now)) c.from_residual-in_err-there.ensures
@@ -59,7 +59,7 @@ pub returns : goal.returns
 returns c =
     let n = c.args.contract.0 in
     let x = c.in_ok-within.within.now in
-    let view = state_parts (string_bytes x.state_names) in
+    let view = state_model (string_bytes x.state_names) in
     let look = c.in_ok-within.ensures.lookup in
     let there = seen_at contract_model c.contracts.result.now (model_of c.args.self.now.program.now).contracts n (Some x) c.contracts.ensures (slice_get_read c.contracts.result.now _ n x refl look.3.0 look.1) in
     let state = c.in_ok-there.field-0.now in

@@ -1,7 +1,7 @@
 use Rattle.std.specs.Prelude.{string_bytes}
 use Rattle.std.proofs.lemmas.Result.{IfOk-weaker}
 use Rattle.contracts.proofs.PartLemmas.{contains_map}
-use Rattle.program.specs.Parts.{state_parts}
+use Rattle.program.specs.Parts.{state_model}
 use Rattle.program.specs.declared.contract.Sign.TheVariants.{Receive, Send}
 use Rattle.traces.proofs.conditions.Faults.round.Goals as goal
 
@@ -10,8 +10,8 @@ returns-then-not-is_empty c = λ some.
     let names = string_bytes c.args.self.now.contract.now.state_names in
     let walk = c.in_ok-sends.ensures some in
     record {
-      state = state_parts names c.in-Some.state;
-      there = contains_map (state_parts names) c.args.self.now.contract.now.states.items c.in-Some.state c.in-Some.ensures.0;
+      state = state_model names c.in-Some.state;
+      there = contains_map (state_model names) c.args.self.now.contract.now.states.items c.in-Some.state c.in-Some.ensures.0;
       its = c.in-Some.ensures.1;
       sign = Send;
       some = some;
@@ -25,8 +25,8 @@ returns c =
     IfOk-weaker c.round_by-2.result _ _ (λ shown told some.
     let walk = told some in
     record {
-      state = state_parts names c.in-Some.state;
-      there = contains_map (state_parts names) c.args.self.now.contract.now.states.items c.in-Some.state c.in-Some.ensures.0;
+      state = state_model names c.in-Some.state;
+      there = contains_map (state_model names) c.args.self.now.contract.now.states.items c.in-Some.state c.in-Some.ensures.0;
       its = c.in-Some.ensures.1;
       sign = Receive;
       some = some;

@@ -2,7 +2,7 @@ use Rattle.std.proofs.Common.{◌++◌, ◌∷◌, [], get_or, map, take, sym, a
 use Rattle.std.specs.List.{All}
 use Rattle.std.proofs.lemmas.List.{map-append, take_more}
 use Rattle.std.proofs.lemmas.List.Elements.{All-append, All-cons, All-nil}
-use Rattle.source.specs.Findings.{finding_parts}
+use Rattle.source.specs.Findings.{finding_model}
 use Rattle.rules.specs.Breaches.{breach_in}
 use Rattle.rules.specs.Programs.{model_of}
 use Rattle.analyse.specs.declared.trail.Failure.{Failure}
@@ -19,7 +19,7 @@ loop-failure-preserved c =
     let items = c.failures-failure-items.result.now in
     let old = c.loop-failure.found.items in
     let e = c.in_ok-explain_failure.field-0 in
-    let parts = λ (x : Explained). finding_parts x.finding in
+    let parts = λ (x : Explained). finding_model x.finding in
     let says = λ (k : Failure). breach_in p n k.breach in
     let holds = λ (x : Explained). IsExplainedIf c.args.self.now.named p n (explained_model x) in
     record {

@@ -1,6 +1,6 @@
 use Rattle.std.proofs.Common.{◌≡◌, List, map, take}
 use Rattle.std.specs.List.{All}
-use Rattle.source.specs.Findings.{finding_parts}
+use Rattle.source.specs.Findings.{finding_model}
 use Rattle.rules.specs.Breaches.{breach_in}
 use Rattle.rules.specs.Outcomes as outcomes
 use Rattle.rules.specs.Programs.{model_of}
@@ -14,6 +14,6 @@ invariant-loop-failure l = record {
   worker : IsWorkerOf l.self.rows.now l.worker;
   differ : Differ (own_of l.worker);
   seen : (pairs : List outcomes.Pair) → HasSeen l.fn.worker pairs → HasSeen l.worker pairs;
-  found : map (λ e. finding_parts e.finding) l.found.items ≡ map (λ k. breach_in (model_of l.self.program.now) l.self.method.0 k.breach) (take l.failure-index l.failure-items);
+  found : map (λ e. finding_model e.finding) l.found.items ≡ map (λ k. breach_in (model_of l.self.program.now) l.self.method.0 k.breach) (take l.failure-index l.failure-items);
   explained : All (λ e. IsExplainedIf l.self.named (model_of l.self.program.now) l.self.method.0 (explained_model e)) l.found.items;
 }

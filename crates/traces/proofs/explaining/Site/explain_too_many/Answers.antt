@@ -1,6 +1,6 @@
 use Rattle.std.proofs.Common.{◌≡◌, ◌∷◌, ◌++◌, [], true, false, map, ap, subst, ◌∙◌}
 use Rattle.rules.specs.Programs.{model_of}
-use Rattle.source.specs.Findings.{finding_parts}
+use Rattle.source.specs.Findings.{finding_model}
 use Rattle.source.specs.declared.place.Place.{Place}
 use Rattle.analyse.specs.Verdicts.{too_many_pairs}
 use Rattle.traces.specs.Explained.{ByCount, IsExplainedIf, explained_model, is_asked}
@@ -12,7 +12,7 @@ use Rattle.traces.proofs.explaining.Site.explain_too_many.Goals as goal
 pub returns-clause-verdict : goal.returns-clause-verdict
 returns-clause-verdict c =
     one_verdict (model_of c.args.self.now.program.now) c.args.self.now.method.0 c.requires.many _
-    (ap (map (λ (e : Explained). finding_parts e.finding)) (c.in_ok-push.ensures.items ∙ ap (λ l. l ++ (record { finding = c.in_ok-finding.finding; lines = c.in_ok-lines.lines }) ∷ []) c.new-found.ensures.items)
+    (ap (map (λ (e : Explained). finding_model e.finding)) (c.in_ok-push.ensures.items ∙ ap (λ l. l ++ (record { finding = c.in_ok-finding.finding; lines = c.in_ok-lines.lines }) ∷ []) c.new-found.ensures.items)
     ∙ ap (λ f. f ∷ []) (parts_of c.in_ok-finding.finding _ c.in_ok-finding.ensures ∙ ap too_many_pairs c.place-place.ensures))
 
 pub returns-clause-explained : goal.returns-clause-explained

@@ -7,7 +7,7 @@ use Rattle.program.specs.Methods.{method_model}
 use Rattle.program.specs.declared.number.VarId.{VarId}
 use Rattle.rules.specs.Mentions.{name_of}
 use Rattle.rules.specs.Programs.{model_of}
-use Rattle.rules.specs.Rows.{leaf_at, leaves_of}
+use Rattle.rules.specs.Rows.{leaf_at, row_model}
 use Rattle.traces.specs.Lines.{change, keeps, line, line_model, takes}
 use Rattle.traces.proofs.LineLemmas.{changes_of_move, changes_of_others}
 use Rattle.traces.proofs.teller.Teller.add_changes.Goals as goal
@@ -16,8 +16,8 @@ pub returns-in_ok-push : goal.returns-in_ok-push
 returns-in_ok-push c =
     let p = model_of c.args.self.now.program.now in
     let m = method_model c.args.self.now.method.now in
-    let before = leaves_of c.args.step.now.before.now in
-    let after = leaves_of c.args.step.now.after.now in
+    let before = row_model c.args.step.now.before.now in
+    let after = row_model c.args.step.now.after.now in
     let watched = c.args.watched.now in
     let old = c.args.lines.now.items in
     let target = c.in-Move.target in
@@ -34,8 +34,8 @@ pub returns-else-not-keeps_all : goal.returns-else-not-keeps_all
 returns-else-not-keeps_all c =
     let p = model_of c.args.self.now.program.now in
     let m = method_model c.args.self.now.method.now in
-    let before = leaves_of c.args.step.now.before.now in
-    let after = leaves_of c.args.step.now.after.now in
+    let before = row_model c.args.step.now.before.now in
+    let after = row_model c.args.step.now.after.now in
     let watched = c.args.watched.now in
     let old = c.args.lines.now.items in
     let kept : list_all (keeps before after) (map (λ (v : VarId). v.0) watched) ≡ true
@@ -47,8 +47,8 @@ pub returns : goal.returns
 returns c =
     let p = model_of c.args.self.now.program.now in
     let m = method_model c.args.self.now.method.now in
-    let before = leaves_of c.args.step.now.before.now in
-    let after = leaves_of c.args.step.now.after.now in
+    let before = row_model c.args.step.now.before.now in
+    let after = row_model c.args.step.now.after.now in
     let watched = c.args.watched.now in
     let each = λ (v : ℕ). if keeps before after v then [] else change p m c.args.came (instruction_model c.args.instr.now) v (leaf_at after v) in
     let all = take_all c.loop-variable.variable-index watched (omega (arith, c.loop-variable-test.false)) in

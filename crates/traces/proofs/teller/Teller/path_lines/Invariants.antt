@@ -3,7 +3,7 @@ use Rattle.std.specs.List.{AllZip}
 use Rattle.program.specs.Methods.{method_model}
 use Rattle.rules.specs.Outcomes as outcomes
 use Rattle.rules.specs.Programs.{model_of}
-use Rattle.rules.specs.Rows.{leaves_of}
+use Rattle.rules.specs.Rows.{row_model}
 use Rattle.analyse.specs.Noted.{pairs_of}
 use Rattle.analyse.specs.Reach.{Differ}
 use Rattle.analyse.specs.Workers.{HasSeen, IsWorkerOf, own_of}
@@ -18,6 +18,6 @@ invariant-loop-place l = record {
   seen : (pairs : List outcomes.Pair) → HasSeen l.fn.worker pairs → HasSeen l.worker pairs;
   lines : (pairs steps : List outcomes.Pair) (first : outcomes.Pair) → HasSeen l.fn.worker pairs → slice_get pairs 0 ≡ Some first
       → AllZip (λ place x. slice_get pairs place ≡ Some x) l.indices steps
-      → map line_model l.lines.items ++ path_lines (model_of l.self.program.now) (method_model l.self.method.now) (map (λ v. v.0) l.watched) ((l.point, leaves_of l.before) ∷ drop l.place-index steps)
+      → map line_model l.lines.items ++ path_lines (model_of l.self.program.now) (method_model l.self.method.now) (map (λ v. v.0) l.watched) ((l.point, row_model l.before) ∷ drop l.place-index steps)
       ≡ start_lines (model_of l.self.program.now) (method_model l.self.method.now) (map (λ v. v.0) l.watched) first.1 ++ path_lines (model_of l.self.program.now) (method_model l.self.method.now) (map (λ v. v.0) l.watched) (first ∷ steps);
 }

@@ -1,0 +1,53 @@
+//! Rows of items, one behind the other in one list.
+
+ghost use Rattle.std.proofs.Props.{props};
+ghost use Rattle.contracts.specs.Spans.{AreWithin};
+
+/// Rows of items. The items of all of them stand in one list, and each row begins where the one before it ends.
+#[derive(Drop)]
+pub struct Groups<T> {
+    pub items: Vec<T>,
+    pub ends: Vec<usize>,
+    pub ghost within: { AreWithin items.items ends.items } by { Prim.hlevel props },
+}
+
+impl<T> Groups<T> {
+    ghost use Rattle.std.specs.Prelude.{◌≡◌, ◌<◌, ◌≤◌, get_or, length};
+    ghost use Rattle.contracts.specs.Graphs.{groups, group_at};
+    ghost use Rattle.contracts.specs.Spans.{start_of};
+
+    /// How many rows there are.
+    pub fn len(&self) -> usize
+        ensures { result ≡ length (groups self.now) }
+    {
+        self.ends.len()
+    }
+
+    /// The row at an index.
+    pub fn group(&self, at: usize) -> &[T]
+        requires { at < length (groups self.now) }
+        ensures { result.now ≡ group_at (groups self.now) at }
+    {
+        let from = self.start(at);
+        let to = self.end(at);
+        &self.items[from..to]
+    }
+
+    /// Where the row at an index begins.
+    fn start(&self, at: usize) -> usize
+        requires { at < length (groups self.now) }
+        ensures start { result ≡ start_of 0 self.now.ends.items at }
+        ensures before { result ≤ get_or self.now.ends.items at 0 }
+    {
+        if at == 0 { 0 } else { self.ends[at - 1] }
+    }
+
+    /// Where it ends.
+    fn end(&self, at: usize) -> usize
+        requires { at < length (groups self.now) }
+        ensures end { result ≡ get_or self.now.ends.items at 0 }
+        ensures within { result ≤ length self.now.items.items }
+    {
+        self.ends[at]
+    }
+}

@@ -1,8 +1,0 @@
-use Rattle.intern.proofs.TokenLemmas.{known_grows, names_grows}
-use Rattle.intern.proofs.laws.a_token_names_its_row_for_good.Goals as goal
-
-pub returns-clause-known : goal.returns-clause-known
-returns-clause-known c = known_grows
-
-pub returns-clause-names : goal.returns-clause-names
-returns-clause-names c = names_grows
