@@ -13,6 +13,7 @@ pub fn at(list: &[Span], place: usize) -> usize
 {
     // The place is an index.
     work();
+    say("at no place // at \\"place\\"");
     list[place].place
 }
 
