@@ -14,6 +14,8 @@ mod faults;
 #[cfg(test)]
 mod gates;
 #[cfg(test)]
+mod reading;
+#[cfg(test)]
 mod reasons;
 #[cfg(test)]
 mod schedules;

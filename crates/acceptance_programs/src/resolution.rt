@@ -1,6 +1,6 @@
 //! What texts mean: numbers, printed names and findings.
 
-use names::{NameFaults, resolve};
+use names::{NameFaults, resolve, resolve_tree};
 use program::{Contract, Resolved};
 use source::{Finding, Place, compare, lex};
 use std::alloc::Global;
@@ -11,7 +11,8 @@ use syntax::parse;
 fn resolve_text(alloc: Global, text: &str) -> Result<Resolved, Fail> {
     let tokens = lex(alloc, text.as_bytes())?;
     let tree = parse(alloc, &tokens)?;
-    Ok(resolve(alloc, &tree, text.as_bytes())?)
+    let (resolved, _tree) = resolve_tree(alloc, tree, text.as_bytes())?;
+    Ok(resolved)
 }
 
 /// The findings of an answer; none where it is a program.
