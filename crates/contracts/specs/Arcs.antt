@@ -19,7 +19,7 @@ ends_from arcs v = map (λ a. a.to) (filter (begins v) arcs)
 abbrev pub AllWithin : ℕ → List Arc → Type 0
 AllWithin count arcs = All (λ a. (a.from < count) × (a.to < count)) arcs
 
--- the rows have exactly the arcs
+-- the groups have exactly the arcs
 pub record AreGroups (count : ℕ) (arcs : List Arc) (graph : List (List ℕ)) : Type 0 where
   pub long : length graph ≡ count
   pub range : InRange graph

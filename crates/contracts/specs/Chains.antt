@@ -19,7 +19,7 @@ pub record AreChained (arcs : List Arc) (k : ℕ) (firsts nexts : List ℕ) : Ty
   pub first : (v : ℕ) → v < length firsts → IsFirst arcs v k (get_or firsts v 0)
   pub next : (i : ℕ) → k ≤ i → i < length arcs → IsFirst arcs (start_at arcs i) (i + 1) (get_or nexts i 0)
 
--- so many rows, each with the ends of the arcs that begin at its vertex
+-- so many groups, each with the ends of the arcs that begin at its vertex
 pub record AreEnds (arcs : List Arc) (count : ℕ) (graph : List (List ℕ)) : Type 0 where
   pub long : length graph ≡ count
   pub group : (v : ℕ) → v < count → group_at graph v ≡ ends_from arcs v

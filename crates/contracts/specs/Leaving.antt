@@ -43,7 +43,7 @@ name_among (m ∷ messages) message = if m.id.0 == message then m.name else name
 abbrev pub all_from : List Edge → ℕ → List Edge
 all_from edges q = filter (λ e. e.from.0 == q) edges
 
--- a row for each of the numbers has the edges from that state, and other states have none
+-- a group for each of the numbers has the edges from that state, and other states have none
 abbrev pub AreLeaving : List ℕ → List Edge → List (List Edge) → Type 0
 AreLeaving numbers edges lists = (length lists ≡ length numbers)
     × ((v : ℕ) → v < length numbers → group_at lists v ≡ all_from edges (get_or numbers v 0))

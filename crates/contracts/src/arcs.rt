@@ -23,7 +23,7 @@ pub struct Arc {
     pub to: usize,
 }
 
-/// The edges of one sign between the positions of their states, as rows of their ends: how long walks along them can be from each
+/// The edges of one sign between the positions of their states, as groups of their ends: how long walks along them can be from each
 /// position, where there is a longest one, and whether one leads from there back to it.
 #[derive(Drop)]
 pub struct SignGraph {

@@ -59,7 +59,7 @@ fn follow(
 
 /// For each vertex the ends of the arcs that begin there, in the order of the arcs.
 ///
-/// The first arc of a vertex is asked for once. So the end of its row is put in its place, and no other list is made for the ends.
+/// The first arc of a vertex is asked for once. So the end of its group is put in its place, and no other list is made for the ends.
 pub fn groups_of(alloc: Global, count: usize, arcs: &[Arc]) -> Result<Groups<usize>, AllocError>
     requires starts { All (λ a. a.from < count) arcs.now }
     ensures exact { IfOk result (λ graph. AreEnds arcs.now count (groups graph)) }

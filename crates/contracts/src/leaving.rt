@@ -14,7 +14,7 @@ use crate::positions::Listing;
 use program::{Edge, Side, Sign};
 use std::alloc::{AllocError, Global};
 
-/// For each state the edges from there, in order of the text: a row for the position of each state.
+/// For each state the edges from there, in order of the text: a group for the position of each state.
 pub(crate) fn edges_by_state(
     alloc: Global,
     edges: &[Edge],

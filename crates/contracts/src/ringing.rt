@@ -31,7 +31,7 @@ pub fn rings(
     Ok(found.rings)
 }
 
-/// Which rows are not empty.
+/// Which groups are not empty.
 pub fn nonempty_groups(alloc: Global, graph: &Groups<usize>) -> Result<Vec<bool>, AllocError>
     ensures { IfOk result (λ marks. marks.items ≡ map (λ group. not (length group == 0)) (groups graph.now)) }
 {
