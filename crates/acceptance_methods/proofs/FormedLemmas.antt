@@ -4,12 +4,12 @@ use Rattle.std.specs.Prelude.{IfSome}
 use Rattle.std.specs.Global.{Vec}
 use Rattle.program.specs.Methods.{MethodModel, VariableModel, method_model}
 use Rattle.program.specs.Parts.{contract_model}
-use Rattle.program.specs.Programs.{kind_lists}
+use Rattle.program.specs.Programs.{type_lists}
 use Rattle.program.specs.Scopes.{Grows}
 use Rattle.program.specs.Statements.{statement_sequence}
 use Rattle.program.specs.WellFormed.{AreStatements, AreWellFormed, Setting, in_loop, is_parameter, reached, setting}
 use Rattle.program.specs.declared.contract.Contract.{Contract}
-use Rattle.program.specs.declared.kind.HeapKind.{HeapKind}
+use Rattle.program.specs.declared.types.HeapType.{HeapType}
 use Rattle.program.specs.declared.method.Method.{Method}
 use Rattle.acceptance_methods.specs.Exchanges.{deletes, exchange, method, new, structs}
 use Rattle.rules.proofs.TransferLemmas.{none_some, one_some}
@@ -56,12 +56,12 @@ turn = (
 is_well_formed : AreWellFormed [] [] structs (method ∷ [])
 is_well_formed = record {
   messages_are = tt;
-  structs_are = (record { few = omega arith; kinds_are = tt }, (record { few = omega arith; kinds_are = (tt, tt) }, tt));
+  structs_are = (record { few = omega arith; types_are = tt }, (record { few = omega arith; types_are = (tt, tt) }, tt));
   methods_are = (
     record {
       result = tt;
       void = λ e. refl;
-      kinds = (tt, (tt, tt));
+      types = (tt, (tt, tt));
       few = omega arith;
       nested = record { all = nested_at };
       begins = None;
@@ -101,12 +101,12 @@ is_well_formed = record {
 }
 
 -- the same of what lies in memory
-pub made_well_formed : (contracts : List Contract) (messages fields : List (Vec HeapKind)) (methods : List Method) → contracts ≡ [] → messages ≡ [] → kind_lists fields ≡ structs
-    → map method_model methods ≡ method ∷ [] → AreWellFormed (map contract_model contracts) (kind_lists messages) (kind_lists fields) (map method_model methods)
+pub made_well_formed : (contracts : List Contract) (messages fields : List (Vec HeapType)) (methods : List Method) → contracts ≡ [] → messages ≡ [] → type_lists fields ≡ structs
+    → map method_model methods ≡ method ∷ [] → AreWellFormed (map contract_model contracts) (type_lists messages) (type_lists fields) (map method_model methods)
 made_well_formed contracts messages fields methods no_contract no_message told is =
-    subst (λ (cs : List Contract). AreWellFormed (map contract_model cs) (kind_lists messages) (kind_lists fields) (map method_model methods)) (sym no_contract)
-    (subst (λ (ms : List (Vec HeapKind)). AreWellFormed [] (kind_lists ms) (kind_lists fields) (map method_model methods)) (sym no_message)
-    (subst (λ (ks : List (List HeapKind)). AreWellFormed [] [] ks (map method_model methods)) (sym told)
+    subst (λ (cs : List Contract). AreWellFormed (map contract_model cs) (type_lists messages) (type_lists fields) (map method_model methods)) (sym no_contract)
+    (subst (λ (ms : List (Vec HeapType)). AreWellFormed [] (type_lists ms) (type_lists fields) (map method_model methods)) (sym no_message)
+    (subst (λ (ks : List (List HeapType)). AreWellFormed [] [] ks (map method_model methods)) (sym told)
     (subst (λ (ms : List MethodModel). AreWellFormed [] [] structs ms) (sym is) is_well_formed)))
 
 -- it is the one method

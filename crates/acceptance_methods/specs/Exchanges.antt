@@ -3,8 +3,8 @@ use Rattle.std.specs.Prelude.{ℕ, List, [], ◌∷◌, Option, Some, None, fals
 use Rattle.source.specs.declared.place.Place.{Place}
 use Rattle.program.specs.Methods.{MethodModel, VariableModel}
 use Rattle.program.specs.Statements.{StatementModel, Simple, New, While, Test, Braces, statement_sequence}
-use Rattle.program.specs.declared.kind.HeapKind.{HeapKind}
-use Rattle.program.specs.declared.kind.HeapKind.TheVariants.{Struct}
+use Rattle.program.specs.declared.types.HeapType.{HeapType}
+use Rattle.program.specs.declared.types.HeapType.TheVariants.{Struct}
 use Rattle.program.specs.declared.method.Role.TheVariants.{Local}
 use Rattle.program.specs.declared.number.VarId.{VarId}
 use Rattle.program.specs.declared.statement.Action.{Action}
@@ -20,12 +20,12 @@ abbrev pub mention : ℕ → Mention
 mention v = record { variable = record { 0 = v }; place = at }
 
 -- struct 0 has no fields that own, struct 1 one that holds a struct 0
-abbrev pub structs : List (List HeapKind)
+abbrev pub structs : List (List HeapType)
 structs = [] ∷ (Struct record { 0 = 0 } ∷ []) ∷ []
 
 -- variable 0 is of struct 0, variable 1 of struct 1
 abbrev pub variable : ℕ → Option VarId → VariableModel
-variable n outer = record { name = []; kind = Struct record { 0 = n }; role = Local; outer = outer }
+variable n outer = record { name = []; ty = Struct record { 0 = n }; role = Local; outer = outer }
 
 abbrev pub new : ℕ → List Mention → StatementModel
 new target arguments = New record { reads = []; target = mention target; arguments = arguments }

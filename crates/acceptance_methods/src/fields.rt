@@ -3,7 +3,7 @@
 
 ghost use Rattle.std.specs.Prelude.{◌≡◌, [], ◌∷◌, IfOk, length, map};
 ghost use Rattle.program.specs.Methods.{method_model, variable_model};
-ghost use Rattle.program.specs.Programs.{contracts_model, methods_model, kind_lists, structs_model};
+ghost use Rattle.program.specs.Programs.{contracts_model, methods_model, type_lists, structs_model};
 ghost use Rattle.program.specs.Statements.{statement_model};
 ghost use Rattle.rules.specs.Programs.{model_of};
 ghost use Rattle.acceptance_methods.specs.Exchanges as told;
@@ -13,7 +13,7 @@ use analyse::Worker;
 use intern::Rows;
 use machine::{Event, Owner, Replayed, replay};
 use program::{
-    Action, Block, Exchange, HeapKind, Mention, Method, MethodId, Methods, New, Resolved, Role,
+    Action, Block, Exchange, HeapType, Mention, Method, MethodId, Methods, New, Resolved, Role,
     Simple, Statement, StructId, Test, VarId, Variable, Ways,
 };
 use rules::{Breach, Program, Reason};
@@ -35,11 +35,11 @@ fn mention(variable: usize) -> Mention
 }
 
 /// What each struct has in its fields that own.
-fn structs(alloc: Global) -> Result<Vec<Vec<HeapKind>>, Memory>
-    ensures { IfOk result (λ structs. kind_lists structs.items ≡ told.structs) }
+fn structs(alloc: Global) -> Result<Vec<Vec<HeapType>>, Memory>
+    ensures { IfOk result (λ structs. type_lists structs.items ≡ told.structs) }
 {
     let mut fields = Vec::new(alloc);
-    fields.push(HeapKind::Struct(StructId(0)))?;
+    fields.push(HeapType::Struct(StructId(0)))?;
     let mut structs = Vec::new(alloc);
     structs.push(Vec::new(alloc))?;
     structs.push(fields)?;
@@ -62,7 +62,7 @@ fn variable(alloc: Global, number: usize, outer: Option<VarId>) -> Variable
 {
     Variable {
         name: Vec::new(alloc),
-        kind: HeapKind::Struct(StructId(number)),
+        ty: HeapType::Struct(StructId(number)),
         role: Role::Local,
         outer,
     }

@@ -7,7 +7,7 @@ use analyse::{give_up_all, tasks};
 use flow::{Instr, lower};
 use names::{MOST_CONTRACTS, resolve};
 use program::{
-    Action, HeapKind, MOST_STATES, MOST_VARIABLES, Mention, Method, MethodId, Methods, Role,
+    Action, HeapType, MOST_STATES, MOST_VARIABLES, Mention, Method, MethodId, Methods, Role,
     Simple, Statement, StructId, VarId, Variable,
 };
 use rules::{Leaf, Outcome, Program, Row, entry_pair, step};
@@ -38,7 +38,7 @@ fn variable(
 ) -> Result<Variable, Memory> {
     Ok(Variable {
         name: Vec::from_slice(alloc, name.as_bytes())?,
-        kind: HeapKind::Struct(StructId(0)),
+        ty: HeapType::Struct(StructId(0)),
         role,
         outer,
     })

@@ -118,7 +118,7 @@ fn switch_line(alloc: Global, place: Place, cases: &[Entrance]) -> Result<String
 /// A variable in a line.
 fn variable_line(alloc: Global, variable: &Variable) -> Result<String, Memory> {
     let name = String::from_utf8_lossy(alloc, &variable.name)?;
-    Ok(format!(in alloc; "{name} {:?} {:?}", variable.role, variable.kind)?)
+    Ok(format!(in alloc; "{name} {:?} {:?}", variable.role, variable.ty)?)
 }
 
 /// The variables of a method and its instructions, in lines.
@@ -166,9 +166,9 @@ begins at 8
 fn what_messages_bring(rt: HostRuntime) -> Result<(), Fail> {
     let methods = methods_of(rt.alloc(), CHANNELS)?;
     let mut lines = String::new(rt.alloc());
-    for kinds in methods.messages() {
-        for kind in kinds {
-            lines.push_str(&format!(in rt.alloc(); "{kind:?} ")?)?;
+    for types in methods.messages() {
+        for ty in types {
+            lines.push_str(&format!(in rt.alloc(); "{ty:?} ")?)?;
         }
         lines.push_str("\n")?;
     }

@@ -7,7 +7,7 @@ use syntax::SyntaxFault;
 #[test]
 fn a_fault_of_a_text_says_what_it_is(rt: HostRuntime) -> Result<(), Fail> {
     let place = Place { line: 1, col: 1 };
-    let rows = [
+    let sequences = [
         (TextFault::Stray(place), "stray byte"),
         (TextFault::OpenComment(place), "comment not closed"),
         (TextFault::TooLong, "text too long"),
@@ -15,7 +15,7 @@ fn a_fault_of_a_text_says_what_it_is(rt: HostRuntime) -> Result<(), Fail> {
         (TextFault::TooLarge(place), "number too large"),
         (TextFault::Memory, "out of memory"),
     ];
-    for (fault, wanted) in rows.iter() {
+    for (fault, wanted) in sequences.iter() {
         let said = format!(in rt.alloc(); "{fault}")?;
         assert!(rt; said.as_str() == *wanted, "{wanted}");
     }

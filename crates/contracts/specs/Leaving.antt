@@ -4,8 +4,8 @@ use Rattle.std.specs.Prelude.{All, Contains, get_or, length, map, take}
 use Rattle.program.specs.declared.contract.Edge.{Edge}
 use Rattle.program.specs.declared.contract.Sign.{Sign}
 use Rattle.program.specs.declared.contract.Sign.TheVariants.{Send, Receive}
-use Rattle.program.specs.declared.kind.Side.{Side}
-use Rattle.program.specs.declared.kind.Side.TheVariants.{Imp, Exp}
+use Rattle.program.specs.declared.types.Side.{Side}
+use Rattle.program.specs.declared.types.Side.TheVariants.{Imp, Exp}
 use Rattle.contracts.specs.declared.arcs.Arc.{Arc}
 use Rattle.contracts.specs.Arcs.{ends_from}
 use Rattle.contracts.specs.Graphs.{group_at}

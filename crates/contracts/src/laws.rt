@@ -6,7 +6,7 @@ ghost use Rattle.contracts.specs.Bounds.{IsBound, sign_to};
 ghost use Rattle.contracts.specs.Conditions.{AreExactly, FindingModel, IsFault, IsSound};
 ghost use Rattle.contracts.specs.Parts.{IsWhole, Parts};
 ghost use Rattle.contracts.specs.contracts.sound.Sound as sound;
-ghost use Rattle.program.specs.declared.kind.Side.{Side};
+ghost use Rattle.program.specs.declared.types.Side.{Side};
 
 use crate::sound::Sound;
 

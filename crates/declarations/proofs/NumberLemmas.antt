@@ -53,9 +53,9 @@ once_numbered f id make value same back first ys = λ i j d less lt e.
     absurd (omega (arith, less, equal))
 
 -- and they go up by one from the first on
-pub row_numbered : {Y Z I : Type 0} (f : ℕ → Y → Z) (id : Z → I) (make : ℕ → I) (value : I → ℕ) → ((n : ℕ) (y : Y) → id (f n y) ≡ make n) → ((n : ℕ) → value (make n) ≡ n) → (first : ℕ) (ys : List Y)
+pub consecutive_numbered : {Y Z I : Type 0} (f : ℕ → Y → Z) (id : Z → I) (make : ℕ → I) (value : I → ℕ) → ((n : ℕ) (y : Y) → id (f n y) ≡ make n) → ((n : ℕ) → value (make n) ≡ n) → (first : ℕ) (ys : List Y)
     → AreConsecutive first (map value (map id (map (λ p. f p.0 p.1) (enumerate_from first ys))))
-row_numbered f id make value same back first ys = λ i lt.
+consecutive_numbered f id make value same back first ys = λ i lt.
     let ids = map id (map (λ p. f p.0 p.1) (enumerate_from first ys)) in
     let size = length-map ids value in
     let many = numbers f id first ys in
@@ -63,8 +63,8 @@ row_numbered f id make value same back first ys = λ i lt.
     ∙ ap value (number_at f id make same first ys i (make 0) (omega (arith, lt, size, many))) ∙ back (first + i)
 
 -- also from the one that stands first
-pub row_from_first : (first : ℕ) (ns : List ℕ) → AreConsecutive first ns → AreConsecutive (get_or ns 0 0) ns
-row_from_first first ns row = λ i lt. let start = row 0 (omega (arith, lt)) in let here = row i lt in omega (arith, start, here)
+pub consecutive_from_first : (first : ℕ) (ns : List ℕ) → AreConsecutive first ns → AreConsecutive (get_or ns 0 0) ns
+consecutive_from_first first ns sequence = λ i lt. let start = sequence 0 (omega (arith, lt)) in let here = sequence i lt in omega (arith, start, here)
 
 -- what all that is added has, all have
 pub all_behind : {X Y : Type 0} (P : Y → Type 0) (f : List X → X → List Y) (before xs : List X) → ((i : ℕ) (x : X) → i < length xs → x ≡ get_or xs i x → All P (f (before ++ take i xs) x)) → All P (each_behind f before xs)

@@ -31,7 +31,7 @@ use Rattle.program.specs.declared.number.MessageId.{MessageId}
 use Rattle.program.specs.declared.number.StateId.{StateId}
 use Rattle.declarations.proofs.BehindLemmas.{nothing_in}
 use Rattle.declarations.proofs.MeantLemmas.{as_counted, path_is}
-use Rattle.declarations.proofs.NumberLemmas.{Among, all_behind, all_numbered, among_numbers, once_numbered, row_from_first, row_numbered}
+use Rattle.declarations.proofs.NumberLemmas.{Among, all_behind, all_numbered, among_numbers, once_numbered, consecutive_from_first, consecutive_numbered}
 use Rattle.declarations.proofs.ReadyLemmas.{clean_edges, contracts_clean, states_few}
 
 -- a name that nothing is wrong with stands among those that are declared
@@ -158,8 +158,8 @@ whole_of text m s name messages states some few none =
       message = λ e h. message e.message.0 (edge e h).message;
       states_once = once_numbered numbered_state (λ t. t.id) state_id (λ i. i.0) (λ k y. refl) (λ k. refl) s counted;
       messages_once = once_numbered (numbered_message text) (λ t. t.id) message_id (λ i. i.0) (λ k y. refl) (λ k. refl) m messages;
-      states_consecutive = row_numbered numbered_state (λ t. t.id) state_id (λ i. i.0) (λ k y. refl) (λ k. refl) s counted;
-      messages_consecutive = row_from_first m _ (row_numbered (numbered_message text) (λ t. t.id) message_id (λ i. i.0) (λ k y. refl) (λ k. refl) m messages);
+      states_consecutive = consecutive_numbered numbered_state (λ t. t.id) state_id (λ i. i.0) (λ k y. refl) (λ k. refl) s counted;
+      messages_consecutive = consecutive_from_first m _ (consecutive_numbered (numbered_message text) (λ t. t.id) message_id (λ i. i.0) (λ k y. refl) (λ k. refl) m messages);
       numbered = all_numbered (λ q. q.0 < MOST_STATES) numbered_state (λ t. t.id) state_id (λ k y. refl) s counted below;
     }
 

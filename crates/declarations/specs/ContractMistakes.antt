@@ -8,7 +8,7 @@ use Rattle.tree.specs.declared.contract.MessageParameter.{MessageParameter}
 use Rattle.declarations.specs.Declarations.{messages_of, states_of, paths_of, names_of_messages, names_of_states}
 use Rattle.declarations.specs.declared.mistake.Limit.TheVariants as limit
 use Rattle.declarations.specs.declared.mistake.Mistake.{Mistake}
-use Rattle.declarations.specs.Kinds.{type_unknown}
+use Rattle.declarations.specs.Types.{type_unknown}
 use Rattle.declarations.specs.Listed.{twice_among, past_limit, asked_message, asked_state}
 use Rattle.declarations.specs.Program.{Program}
 

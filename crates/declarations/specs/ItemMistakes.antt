@@ -7,7 +7,7 @@ use Rattle.declarations.specs.ContractMistakes.{contract_mistakes}
 use Rattle.declarations.specs.Declarations.{names_of_contracts, counted_states, states_of}
 use Rattle.declarations.specs.declared.mistake.Limit.TheVariants as limit
 use Rattle.declarations.specs.declared.mistake.Mistake.{Mistake}
-use Rattle.declarations.specs.Kinds.{type_unknown}
+use Rattle.declarations.specs.Types.{type_unknown}
 use Rattle.declarations.specs.Listed.{twice_among, past_limit}
 use Rattle.declarations.specs.Owning.{owning_fields}
 use Rattle.declarations.specs.Program.{Program, item_names}

@@ -2,7 +2,7 @@ pub mod Declarations
 pub mod Program
 pub mod Mistakes
 pub mod Listed
-pub mod Kinds
+pub mod Types
 pub mod ContractMistakes
 pub mod Named
 pub mod Owning

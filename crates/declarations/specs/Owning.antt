@@ -1,7 +1,7 @@
 -- Which fields of a struct own a block, and which parameters of a method are lent one.
 use Rattle.std.specs.Prelude.{Bool, false, not, ◌&&◌, ◌||◌, is_some, List, [], ◌∷◌, Option, option_map}
 use Rattle.std.specs.List.{filter}
-use Rattle.declarations.specs.Kinds.{is_heap}
+use Rattle.declarations.specs.Types.{is_heap}
 use Rattle.declarations.specs.Program.{Numbered, Program, struct_named}
 use Rattle.source.specs.declared.token.Span.{Span}
 use Rattle.tree.specs.Trees.{StructTree, MethodTree}

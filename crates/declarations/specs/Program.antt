@@ -41,11 +41,11 @@ Numbered X = ℕ × X
 
 -- the item at this place, if it is of this kind
 abbrev pub item_at : {X : Type 0} → (DefinitionTree → Option X) → Program → ℕ → Option (Numbered X)
-item_at kind p n = option_and_then (λ i. option_map (λ x. (n, x)) (kind i.definition)) (slice_get p.items n)
+item_at ty p n = option_and_then (λ i. option_map (λ x. (n, x)) (ty i.definition)) (slice_get p.items n)
 
 -- Contracts, structs and classes share their names: one that the first item of a name is not is not found.
 abbrev pub item_named : {X : Type 0} → (DefinitionTree → Option X) → Program → Span → Option (Numbered X)
-item_named kind p name = option_and_then (item_at kind p) (first_among p.text (item_names p) name)
+item_named ty p name = option_and_then (item_at ty p) (first_among p.text (item_names p) name)
 
 abbrev pub contract_named : Program → Span → Option (Numbered ContractTree)
 contract_named = item_named as_contract

@@ -7,7 +7,7 @@ use Rattle.tree.specs.declared.types.Type.TheVariants as type
 use Rattle.tree.specs.Trees.{ItemTree, DefinitionTree, Contract, Struct, Class, ContractTree}
 use Rattle.tree.specs.Trees.{StructTree, ClassTree, MethodTree, item_tree, method_tree}
 use Rattle.declarations.specs.Declarations.{names_of_messages, names_of_states, messages_of, states_of}
-use Rattle.declarations.specs.Kinds.{type_kind}
+use Rattle.declarations.specs.Types.{type_meant}
 use Rattle.declarations.specs.Numbered.{names_in, indices_named}
 use Rattle.declarations.specs.Outlines.{IsOutline}
 use Rattle.declarations.specs.Program.{Program, item_names}
@@ -20,7 +20,7 @@ use Rattle.declarations.specs.declared.members.ClassMethods.{ClassMethods}
 use Rattle.declarations.specs.declared.members.Members.{Members}
 use Rattle.declarations.specs.declared.members.Members.TheVariants as members
 use Rattle.declarations.specs.declared.noted.Noted.{Noted}
-use Rattle.declarations.specs.declared.noted.NotedKinds.{NotedKinds}
+use Rattle.declarations.specs.declared.noted.NotedTypes.{NotedTypes}
 use Rattle.declarations.specs.declared.scope.Scope.{Scope}
 use Rattle.declarations.specs.declared.starts.Callee.{Callee}
 
@@ -92,9 +92,9 @@ AreDeclared text [] (d ∷ ds) = ⊥
 AreDeclared text (c ∷ cs) [] = ⊥
 AreDeclared text (c ∷ cs) (d ∷ ds) = IsDeclared text c d × AreDeclared text cs ds
 
--- each kind that is noted is that of its type
-pub record AreNoted (p : Program) (noted : NotedKinds) : Type 0 where
-  pub kinds : (start : ℕ) (n : Noted) → get nat_cmp noted.first start ≡ Some n → n.kind ≡ type_kind p (type.Heap n.written)
+-- each type that is noted is what the written one means
+pub record AreNoted (p : Program) (noted : NotedTypes) : Type 0 where
+  pub types : (start : ℕ) (n : Noted) → get nat_cmp noted.first start ≡ Some n → n.ty ≡ type_meant p (type.Heap n.written)
 
 -- the text and the items of a scope
 abbrev pub program_of_scope : Scope → Program

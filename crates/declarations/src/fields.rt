@@ -5,7 +5,7 @@ ghost use Rattle.std.specs.List.{filter};
 ghost use Rattle.tree.specs.Trees.{StructTree, struct_tree};
 ghost use Rattle.declarations.specs.Declarations.{first_among};
 ghost use Rattle.declarations.specs.Named.{field_named};
-ghost use Rattle.declarations.specs.Kinds.{is_heap};
+ghost use Rattle.declarations.specs.Types.{is_heap};
 
 use crate::types::is_heap;
 use source::Span;

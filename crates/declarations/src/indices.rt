@@ -2,27 +2,27 @@
 
 ghost use Rattle.std.specs.Prelude.{◌≡◌, option_map, option_and_then};
 ghost use Rattle.tree.specs.Trees.{message_tree};
-ghost use Rattle.declarations.specs.Kinds.{type_kind};
+ghost use Rattle.declarations.specs.Types.{type_meant};
 ghost use Rattle.declarations.specs.Indices.{contract_index, message_index, sent_index, message_at, state_index};
 ghost use Rattle.declarations.specs.Named.{message_written, sent_message};
 ghost use Rattle.declarations.specs.Program.{Program, as_contract, item_at};
 ghost use Rattle.tables.specs.Words.{word_at};
 
-use crate::kinds::ValueKind;
 use crate::scope::Scope;
-use crate::types::kind_of_type;
+use crate::types::type_meant;
+use crate::value_type::ValueType;
 use source::Span;
 use tree::{Message, Type};
 
 impl<'a> Scope<'a> {
     ghost use Rattle.declarations.specs.Scopes.{IsScope};
 
-    /// The kind of a type.
+    /// What a written type means.
     #[inline(always)]
-    pub fn kind(&self, ty: Type) -> ValueKind
-        ensures { (p : Program) → IsScope p self.now → result ≡ type_kind p ty }
+    pub fn type_meant(&self, written: Type) -> ValueType
+        ensures { (p : Program) → IsScope p self.now → result ≡ type_meant p written }
     {
-        kind_of_type(self, ty)
+        type_meant(self, written)
     }
 
     /// How many items stand before the first item of this name, if it is a contract.

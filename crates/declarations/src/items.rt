@@ -5,7 +5,7 @@ ghost use Rattle.std.specs.List.{flat_map};
 ghost use Rattle.tree.specs.Trees.{ClassTree, StructTree, item_tree, definition_tree, method_tree};
 ghost use Rattle.declarations.specs.Mistakes.{Adds};
 ghost use Rattle.declarations.specs.ItemMistakes.{struct_mistakes, items_mistakes, methods_in};
-ghost use Rattle.declarations.specs.Kinds.{type_unknown};
+ghost use Rattle.declarations.specs.Types.{type_unknown};
 ghost use Rattle.declarations.specs.Listed.{twice_among};
 ghost use Rattle.declarations.specs.Program.{Program};
 ghost use Rattle.declarations.specs.Scopes.{IsScope, AreFields, AreMethods};

@@ -5,7 +5,7 @@ ghost use Rattle.std.specs.List.{flat_map};
 ghost use Rattle.tree.specs.Trees.{message_tree};
 ghost use Rattle.declarations.specs.ContractMistakes.{message_mistakes, param_names};
 ghost use Rattle.declarations.specs.Mistakes.{Adds};
-ghost use Rattle.declarations.specs.Kinds.{type_unknown};
+ghost use Rattle.declarations.specs.Types.{type_unknown};
 ghost use Rattle.declarations.specs.Program.{Program};
 ghost use Rattle.declarations.specs.Scopes.{IsScope};
 

@@ -4,7 +4,7 @@ ghost use Rattle.std.specs.Prelude.{◌≡◌, IfOk, map};
 ghost use Rattle.source.specs.Findings.{finding_model};
 ghost use Rattle.declarations.specs.Mistakes.{finding_in, most_of};
 
-use crate::kinds::ValueKind;
+use crate::value_type::ValueType;
 use program::{
     MOST_CONTRACTS, MOST_FIELDS, MOST_METHODS, MOST_PARAMETERS, MOST_STATES, MOST_VARIABLES, Side,
 };
@@ -14,8 +14,8 @@ use std::alloc::Global;
 /// What is asked of a value, a variable or a field.
 #[derive(Clone, Copy, Debug, PartialEq, Eq)]
 pub enum Demand {
-    /// That it is of this kind.
-    Kind(ValueKind),
+    /// That it is of this type.
+    OfType(ValueType),
     /// `int` or `byte`.
     Number,
     /// `bool`.
@@ -41,10 +41,10 @@ pub enum Demand {
 /// Why a type is wrong.
 #[derive(Clone, Copy, Debug, PartialEq, Eq)]
 pub enum Mismatch {
-    /// This was asked, and something of that kind was given; nothing, if the kind is missing.
-    Given(Demand, ValueKind),
-    /// A value of this kind is asked after `return`.
-    NoValue(ValueKind),
+    /// This was asked, and something of that type was given; nothing, if the type is missing.
+    Given(Demand, ValueType),
+    /// A value of this type is asked after `return`.
+    NoValue(ValueType),
     /// No value is asked after `return`.
     ValueReturned,
     /// This end of a channel does not send the message that stands behind `Send` there.

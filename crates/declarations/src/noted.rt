@@ -1,50 +1,50 @@
-//! The kinds of the types that stand in structs and in the heads of methods and messages.
+//! What the types mean that are written in structs and in the heads of methods and messages.
 
 ghost use Rattle.std.specs.Prelude.{◌≡◌, true, Some, OnOk, IfOk};
 ghost use Rattle.tree.specs.declared.types.Type.TheVariants as type;
-ghost use Rattle.declarations.specs.Kinds.{type_kind};
+ghost use Rattle.declarations.specs.Types.{type_meant};
 ghost use Rattle.declarations.specs.Program.{Program};
 ghost use Rattle.declarations.specs.Scopes.{IsScope, AreNoted};
 
-use crate::kinds::ValueKind;
 use crate::scope::Scope;
 use crate::signatures::signature_types;
-use crate::types::look_up_kind;
+use crate::types::look_up_type;
+use crate::value_type::ValueType;
 use program::Side;
 use source::Span;
 use std::alloc::{AllocError, Global};
 use std::collections::BTreeMap;
 use tree::Heap;
 
-/// A type of the exchange heap, and its kind.
+/// A type of the exchange heap as it is written, and what it means.
 #[derive(Clone, Copy)]
 pub(crate) struct Noted {
     pub(crate) written: Heap,
-    pub(crate) kind: ValueKind,
+    pub(crate) ty: ValueType,
 }
 
-/// The kinds of types, each by where the first name of its type begins. A kind is found once, so that no call and no `new`
-/// reads the names in the types of the method, the message or the struct again, which may be longer than the call.
+/// What written types mean, each by where its first name begins. That is found once, so that no call and no `new` reads the names
+/// in the types of the method, the message or the struct again, which may be longer than the call.
 #[derive(Drop)]
-pub(crate) struct NotedKinds {
+pub(crate) struct NotedTypes {
     pub(crate) first: BTreeMap<u32, Noted>,
 }
 
-impl NotedKinds {
-    /// No kinds.
-    pub(crate) fn new(alloc: Global) -> NotedKinds
+impl NotedTypes {
+    /// No types.
+    pub(crate) fn new(alloc: Global) -> NotedTypes
         ensures { (p : Program) → AreNoted p result }
     {
-        NotedKinds {
+        NotedTypes {
             first: BTreeMap::new(alloc),
         }
     }
 
-    /// The kinds of the types in the structs, and in the heads of the methods and messages, in scope.
-    pub(crate) fn of(alloc: Global, scope: &Scope<'_>) -> Result<NotedKinds, AllocError>
+    /// What the types mean that are written in the structs, and in the heads of the methods and messages, in scope.
+    pub(crate) fn of(alloc: Global, scope: &Scope<'_>) -> Result<NotedTypes, AllocError>
         ensures { IfOk result (λ noted. (p : Program) → IsScope p scope.now → AreNoted p noted) }
     {
-        let mut noted = NotedKinds::new(alloc);
+        let mut noted = NotedTypes::new(alloc);
         let types = signature_types(alloc, &scope.members)?;
         for written in &types {
             noted.note(scope, *written)?;
@@ -52,7 +52,7 @@ impl NotedKinds {
         Ok(noted)
     }
 
-    /// Notes the kind of this type.
+    /// Notes what this type means.
     fn note(&mut self, scope: &Scope<'_>, written: Heap) -> Result<(), AllocError>
         ensures { (p : Program) → IsScope p scope.now → AreNoted p self.old → OnOk result (AreNoted p self.new) }
     {
@@ -62,29 +62,29 @@ impl NotedKinds {
         Ok(())
     }
 
-    /// The kind of this type, if it is noted.
-    pub(crate) fn find(&self, written: Heap) -> Option<ValueKind>
-        ensures { (p : Program) (k : ValueKind) → AreNoted p self.now → result ≡ Some k → k ≡ type_kind p (type.Heap written) }
+    /// What this type means, if it is noted.
+    pub(crate) fn find(&self, written: Heap) -> Option<ValueType>
+        ensures { (p : Program) (k : ValueType) → AreNoted p self.now → result ≡ Some k → k ≡ type_meant p (type.Heap written) }
     {
         let noted = self.first.get(&begins(written)?)?;
-        kind_for(*noted, written)
+        type_for(*noted, written)
     }
 }
 
-/// The kind that is noted, if it is that of this type.
-fn kind_for(noted: Noted, written: Heap) -> Option<ValueKind>
-    ensures { (p : Program) (k : ValueKind) → noted.kind ≡ type_kind p (type.Heap noted.written) → result ≡ Some k
-        → k ≡ type_kind p (type.Heap written) }
+/// The type that is noted, if it is what this one means.
+fn type_for(noted: Noted, written: Heap) -> Option<ValueType>
+    ensures { (p : Program) (k : ValueType) → noted.ty ≡ type_meant p (type.Heap noted.written) → result ≡ Some k
+        → k ≡ type_meant p (type.Heap written) }
 {
     if is_same(noted.written, written) {
-        return Some(noted.kind);
+        return Some(noted.ty);
     }
     None
 }
 
 /// Whether two types are written at the same place.
 fn is_same(left: Heap, right: Heap) -> bool
-    ensures { (p : Program) → result ≡ true → type_kind p (type.Heap left) ≡ type_kind p (type.Heap right) }
+    ensures { (p : Program) → result ≡ true → type_meant p (type.Heap left) ≡ type_meant p (type.Heap right) }
 {
     match (left, right) {
         (Heap::Pointer { name, .. }, Heap::Pointer { name: other, .. }) => is_same_name(
@@ -144,10 +144,10 @@ fn begins(written: Heap) -> Option<u32> {
 }
 
 fn noted_type(scope: &Scope<'_>, written: Heap) -> Noted
-    ensures { (p : Program) → IsScope p scope.now → result.kind ≡ type_kind p (type.Heap result.written) }
+    ensures { (p : Program) → IsScope p scope.now → result.ty ≡ type_meant p (type.Heap result.written) }
 {
     Noted {
         written,
-        kind: look_up_kind(scope, written),
+        ty: look_up_type(scope, written),
     }
 }

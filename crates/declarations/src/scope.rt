@@ -12,7 +12,7 @@ ghost use Rattle.declarations.specs.Scopes.{AllMembers};
 
 use crate::fields::Fields;
 use crate::members::{ClassMethods, Declared, Members};
-use crate::noted::NotedKinds;
+use crate::noted::NotedTypes;
 use source::Span;
 use std::alloc::{AllocError, Global};
 use tables::Table;
@@ -27,7 +27,7 @@ pub struct Scope<'a> {
     pub(crate) items: &'a [Item],
     pub(crate) names: Table<'a>,
     pub(crate) members: Vec<Members<'a>>,
-    pub(crate) noted: NotedKinds,
+    pub(crate) noted: NotedTypes,
 }
 
 impl<'a> Scope<'a> {
@@ -47,9 +47,9 @@ impl<'a> Scope<'a> {
             items,
             names,
             members,
-            noted: NotedKinds::new(alloc),
+            noted: NotedTypes::new(alloc),
         };
-        scope.noted = NotedKinds::of(alloc, &scope)?;
+        scope.noted = NotedTypes::of(alloc, &scope)?;
         Ok(scope)
     }
 

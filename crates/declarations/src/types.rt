@@ -1,132 +1,133 @@
-//! The kinds of types that are written, and the names in them.
+//! What written types mean, and the names in them.
 
 ghost use Rattle.std.specs.Prelude.{◌≡◌, OnOk};
 ghost use Rattle.tree.specs.Trees.{ContractTree};
 ghost use Rattle.declarations.specs.Mistakes.{Adds};
-ghost use Rattle.declarations.specs.Kinds.{is_heap, type_kind, pointer_kind, endpoint_kind};
-ghost use Rattle.declarations.specs.Kinds.{type_unknown, pointer_unknown, endpoint_unknown};
+ghost use Rattle.declarations.specs.Types.{is_heap, type_meant, pointer_type, endpoint_type};
+ghost use Rattle.declarations.specs.Types.{type_unknown, pointer_unknown, endpoint_unknown};
 ghost use Rattle.declarations.specs.Program.{Program, contract_named, struct_named};
 ghost use Rattle.declarations.specs.Scopes.{IsScope, IsDeclared};
 
 use crate::judging::{add_unknown, judge_name};
-use crate::kinds::ValueKind;
 use crate::members::Declared;
 use crate::mistake::{Mistake, NameSort};
 use crate::scope::Scope;
+use crate::value_type::ValueType;
 use program::Side;
 use source::{Memory, Span};
 use tree::{Heap, Type};
 
 /// Whether it is a type of the exchange heap.
-pub fn is_heap(ty: Type) -> bool
-    ensures { result ≡ is_heap ty }
+pub fn is_heap(written: Type) -> bool
+    ensures { result ≡ is_heap written }
 {
-    matches!(ty, Type::Heap(_))
+    matches!(written, Type::Heap(_))
 }
 
-/// The kind of a type.
+/// What a written type means.
 #[inline(always)]
-pub(crate) fn kind_of_type(scope: &Scope<'_>, ty: Type) -> ValueKind
-    ensures { (p : Program) → IsScope p scope.now → result ≡ type_kind p ty }
+pub(crate) fn type_meant(scope: &Scope<'_>, written: Type) -> ValueType
+    ensures { (p : Program) → IsScope p scope.now → result ≡ type_meant p written }
 {
-    match ty {
-        Type::Scalar(scalar) => ValueKind::Scalar(scalar),
-        Type::Heap(heap) => kind_of_heap(scope, heap),
+    match written {
+        Type::Scalar(scalar) => ValueType::Scalar(scalar),
+        Type::Heap(heap) => heap_type_meant(scope, heap),
     }
 }
 
-fn kind_of_heap(scope: &Scope<'_>, ty: Heap) -> ValueKind
-    ensures { (p : Program) → IsScope p scope.now → result ≡ type_kind p (Type.Heap ty) }
+fn heap_type_meant(scope: &Scope<'_>, written: Heap) -> ValueType
+    ensures { (p : Program) → IsScope p scope.now → result ≡ type_meant p (Type.Heap written) }
 {
-    match scope.noted.find(ty) {
+    match scope.noted.find(written) {
         Some(noted) => noted,
-        None => look_up_kind(scope, ty),
+        None => look_up_type(scope, written),
     }
 }
 
-/// The kind of a type, by the names in it.
-pub(crate) fn look_up_kind(scope: &Scope<'_>, ty: Heap) -> ValueKind
-    ensures { (p : Program) → IsScope p scope.now → result ≡ type_kind p (Type.Heap ty) }
+/// What a written type means, by the names in it.
+pub(crate) fn look_up_type(scope: &Scope<'_>, written: Heap) -> ValueType
+    ensures { (p : Program) → IsScope p scope.now → result ≡ type_meant p (Type.Heap written) }
 {
-    match ty {
-        Heap::Pointer { name, .. } => kind_of_pointer(scope, name),
-        Heap::Array { element, .. } => ValueKind::Array(element),
+    match written {
+        Heap::Pointer { name, .. } => pointer_type(scope, name),
+        Heap::Array { element, .. } => ValueType::Array(element),
         Heap::Endpoint {
             contract,
             side,
             state,
             ..
-        } => kind_of_endpoint(scope, contract, side, state),
+        } => endpoint_type(scope, contract, side, state),
     }
 }
 
-/// The kind of a pointer to the struct of this name.
-fn kind_of_pointer(scope: &Scope<'_>, name: Span) -> ValueKind
-    ensures { (p : Program) → IsScope p scope.now → result ≡ pointer_kind (struct_named p name) }
+/// The type of a pointer to the struct of this name.
+fn pointer_type(scope: &Scope<'_>, name: Span) -> ValueType
+    ensures { (p : Program) → IsScope p scope.now → result ≡ pointer_type (struct_named p name) }
 {
     match scope.structure(name) {
-        Some((place, _)) => ValueKind::Pointer(place),
-        None => ValueKind::Unknown,
+        Some((place, _)) => ValueType::Pointer(place),
+        None => ValueType::Unknown,
     }
 }
 
-fn kind_of_endpoint(scope: &Scope<'_>, contract: Span, side: Side, state: Option<Span>) -> ValueKind
-    ensures { (p : Program) → IsScope p scope.now → result ≡ endpoint_kind p.text (contract_named p contract) side state }
+fn endpoint_type(scope: &Scope<'_>, contract: Span, side: Side, state: Option<Span>) -> ValueType
+    ensures { (p : Program) → IsScope p scope.now → result ≡ endpoint_type p.text (contract_named p contract) side state }
 {
     match scope.contract(contract) {
-        Some((place, declared)) => kind_of_end(scope.text, place, declared, side, state),
-        None => ValueKind::Unknown,
+        Some((place, declared)) => end_type(scope.text, place, declared, side, state),
+        None => ValueType::Unknown,
     }
 }
 
-fn kind_of_end(
+fn end_type(
     text: &[u8],
     index: usize,
     declared: &Declared<'_>,
     side: Side,
     state: Option<Span>,
-) -> ValueKind
+) -> ValueType
     ensures { (c : ContractTree) → IsDeclared text.now c declared.now
-        → result ≡ endpoint_kind text.now (Some (index, c)) side state }
+        → result ≡ endpoint_type text.now (Some (index, c)) side state }
 {
     match state {
-        Some(state) => kind_of_end_in(text, index, declared, side, state),
-        None => ValueKind::Endpoint(side, index),
+        Some(state) => end_type_in(text, index, declared, side, state),
+        None => ValueType::Endpoint(side, index),
     }
 }
 
-fn kind_of_end_in(
+fn end_type_in(
     text: &[u8],
     index: usize,
     declared: &Declared<'_>,
     side: Side,
     state: Span,
-) -> ValueKind
+) -> ValueType
     ensures { (c : ContractTree) → IsDeclared text.now c declared.now
-        → result ≡ endpoint_kind text.now (Some (index, c)) side (Some state) }
+        → result ≡ endpoint_type text.now (Some (index, c)) side (Some state) }
 {
     match declared.states.find(state.slice(text)) {
-        Some(_) => ValueKind::Endpoint(side, index),
-        None => ValueKind::Unknown,
+        Some(_) => ValueType::Endpoint(side, index),
+        None => ValueType::Unknown,
     }
 }
 
 /// Adds the names in a type that are not declared.
 ///
 /// `Memory` is returned if a growth was refused.
-pub fn judge_type(scope: &Scope<'_>, ty: Type, found: &mut Vec<Mistake>) -> Result<(), Memory>
-    ensures { (p : Program) → IsScope p scope.now → OnOk result (Adds found.old.items found.new.items (type_unknown p ty)) }
+pub fn judge_type(scope: &Scope<'_>, written: Type, found: &mut Vec<Mistake>) -> Result<(), Memory>
+    ensures { (p : Program) → IsScope p scope.now → OnOk result (Adds found.old.items found.new.items (type_unknown p written)) }
 {
-    match ty {
+    match written {
         Type::Scalar(_) => Ok(()),
         Type::Heap(heap) => judge_heap(scope, heap, found),
     }
 }
 
-fn judge_heap(scope: &Scope<'_>, ty: Heap, found: &mut Vec<Mistake>) -> Result<(), Memory>
-    ensures { (p : Program) → IsScope p scope.now → OnOk result (Adds found.old.items found.new.items (type_unknown p (Type.Heap ty))) }
+fn judge_heap(scope: &Scope<'_>, written: Heap, found: &mut Vec<Mistake>) -> Result<(), Memory>
+    ensures { (p : Program) → IsScope p scope.now
+        → OnOk result (Adds found.old.items found.new.items (type_unknown p (Type.Heap written))) }
 {
-    match ty {
+    match written {
         Heap::Pointer { name, .. } => judge_pointer(scope, name, found),
         Heap::Array { .. } => Ok(()),
         Heap::Endpoint {

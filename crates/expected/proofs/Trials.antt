@@ -11,7 +11,7 @@ use Rattle.tree.specs.Symbols.{Symbol, End, seen_as, symbols}
 use Rattle.tree.specs.Trees.{ItemTree}
 use Rattle.syntax.specs.Parsing.{Viable, IsFirstWrong}
 use Rattle.expected.specs.Expected.{IsExpected}
-use Rattle.syntax.proofs.Tops.{symbols_length}
+use Rattle.syntax.proofs.pieces.Tops.{symbols_length}
 
 abbrev pub seen : Token → Symbol
 seen t = seen_as t.kind t.span

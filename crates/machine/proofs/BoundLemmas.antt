@@ -8,7 +8,7 @@ use Rattle.program.specs.Parts.{ContractModel, Parts}
 use Rattle.program.specs.Programs.{ProgramModel}
 use Rattle.program.specs.declared.contract.Edge.{Edge}
 use Rattle.program.specs.declared.contract.Sign.{Sign}
-use Rattle.program.specs.declared.kind.Side.{Side}
+use Rattle.program.specs.declared.types.Side.{Side}
 use Rattle.program.specs.declared.number.StateId.{StateId}
 use Rattle.contracts.specs.Bounds.{IsBound, sign_to}
 use Rattle.machine.specs.Outcomes.{Bounds}

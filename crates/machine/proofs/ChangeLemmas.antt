@@ -185,7 +185,7 @@ or_owner false true to was = refl
 or_owner false false to was = refl
 
 with_owner : Block → Owner → Block
-with_owner b o = record { kind = b.kind; owner = o; peer = b.peer; state = b.state; queue = b.queue; fields = b.fields }
+with_owner b o = record { ty = b.ty; owner = o; peer = b.peer; state = b.state; queue = b.queue; fields = b.fields }
 
 both : (to : Owner) (given : List ℕ) (a j : ℕ) (b : Block) → handed to (a ∷ []) j (handed to given j b) ≡ handed to (given ++ a ∷ []) j b
 unfolding with_owner
@@ -212,7 +212,7 @@ changed_length f (b ∷ bs) = ap suc (changed_length (λ a. f (suc a)) bs)
 pub same_length : (f : ℕ → Block → Block) (now old : List made.Block.Block) → blocks_model now ≡ changed f (blocks_model old) → length now ≡ length old
 same_length f now old e = sym (seen_length now) ∙ (ap length e ∙ (changed_length f (blocks_model old) ∙ seen_length old))
 
-pub handed_at : (to : Owner) (a : ℕ) (b : Block) → handed to (a ∷ []) a b ≡ record { kind = b.kind; owner = to; peer = b.peer; state = b.state; queue = b.queue; fields = b.fields }
+pub handed_at : (to : Owner) (a : ℕ) (b : Block) → handed to (a ∷ []) a b ≡ record { ty = b.ty; owner = to; peer = b.peer; state = b.state; queue = b.queue; fields = b.fields }
 handed_at to a b = rw (eqb_same a a refl) refl
 
 -- ---- a message that is sent
@@ -225,7 +225,7 @@ gone_none true = refl
 gone_none false = refl
 
 abbrev pub the_sent : Block → Owner → ℕ → List MessageHeld → Block
-the_sent b owner state queue = record { kind = b.kind; owner = owner; peer = b.peer; state = state; queue = queue; fields = b.fields }
+the_sent b owner state queue = record { ty = b.ty; owner = owner; peer = b.peer; state = state; queue = queue; fields = b.fields }
 
 sent_one : (a state to : ℕ) (m : MessageHeld) (j : ℕ) (b : Block) → in_state a state j (handed (Queue to) m.payload j (queued to m j b)) ≡ sent_block a state to false m j b
 sent_one a state to m j b = ap (λ t. the_sent b (if is_among m.payload j then Queue to else b.owner) (if j == a then state else b.state) (if t then b.queue ++ m ∷ [] else b.queue)) (sym (not_gone (j == to)))

@@ -5,7 +5,7 @@ use Rattle.std.proofs.lemmas.Bool.{cases_eq}
 use Rattle.std.specs.Prelude.{◌⊎◌, if◌then◌else◌, slice_get}
 use Rattle.machine.specs.Blocks.{exchanged_block}
 use Rattle.machine.specs.Heaps.{IsHeld, occurs, one_if}
-use Rattle.machine.specs.World.{Block, block_at, changed, is_inside, no_kind, owns}
+use Rattle.machine.specs.World.{Block, block_at, changed, is_inside, no_type, owns}
 use Rattle.machine.specs.declared.worlds.Owner.{Owner}
 use Rattle.machine.specs.declared.worlds.Owner.TheVariants.{Process, Inside, Channel}
 use Rattle.machine.proofs.ChangeLemmas.{eqb_apart, eqb_same, true≢false}
@@ -66,7 +66,7 @@ module _ (bs : List Block) (self at field given held : ℕ) (h : IsHeld bs) (own
       let n2 = eqb_apart j held (λ e. let k = inside_there bs held at held_is in omega arith) in
       let n3 = eqb_apart j at (λ e. let k = owned_there bs self at owned_at in omega arith) in
       ap (λ (b : Bool). record {
-        kind = no_kind;
+        ty = no_type;
         owner = if b then Inside at else (if j == held then Process self else Channel);
         peer = 0;
         state = 0;
@@ -74,7 +74,7 @@ module _ (bs : List Block) (self at field given held : ℕ) (h : IsHeld bs) (own
         fields = if j == at then set [] field given else [];
       }) n1
       ∙ (ap (λ (b : Bool). record {
-        kind = no_kind;
+        ty = no_type;
         owner = if b then Process self else Channel;
         peer = 0;
         state = 0;
@@ -82,7 +82,7 @@ module _ (bs : List Block) (self at field given held : ℕ) (h : IsHeld bs) (own
         fields = if j == at then set [] field given else [];
       }) n2
       ∙ ap (λ (b : Bool). record {
-        kind = no_kind;
+        ty = no_type;
         owner = Channel;
         peer = 0;
         state = 0;

@@ -5,7 +5,7 @@ use Rattle.std.proofs.lemmas.Bool.{cases_Bool, cases_eq, cases_lt}
 use Rattle.std.proofs.lemmas.List.{map-append}
 use Rattle.std.specs.Prelude.{◌⊎◌, ◌||◌, if◌then◌else◌, slice_get}
 use Rattle.program.specs.Lists.{is_among}
-use Rattle.program.specs.declared.kind.HeapKind.{HeapKind}
+use Rattle.program.specs.declared.types.HeapType.{HeapType}
 use Rattle.machine.specs.Answers.{with_field}
 use Rattle.machine.specs.BlockViews.{block_model, blocks_model, held_model}
 use Rattle.machine.specs.Blocks.{exchanged_block, handed, new_block, received_block, sent_block}
@@ -136,11 +136,11 @@ changed_append f [] b = refl
 changed_append f (x ∷ bs) b = ap (λ (xs : List Block). f 0 x ∷ xs) (changed_append (λ a. f (suc a)) bs b)
 
 -- the new block, whose queue is empty, and whose fields are what is given
-pub made_model : (kind : HeapKind) (self : ℕ) (given : List ℕ) (queue : List made_held.Held) (fields : List ℕ) → queue ≡ [] → fields ≡ given
-    → with_parts (new_block kind self 0 0 given) (Process self) (map held_model queue) fields ≡ new_block kind self 0 0 given
-made_model kind self given queue fields empty same =
-    ap (λ (q : List made_held.Held). with_parts (new_block kind self 0 0 given) (Process self) (map held_model q) fields) empty
-    ∙ ap (with_parts (new_block kind self 0 0 given) (Process self) []) same
+pub made_model : (ty : HeapType) (self : ℕ) (given : List ℕ) (queue : List made_held.Held) (fields : List ℕ) → queue ≡ [] → fields ≡ given
+    → with_parts (new_block ty self 0 0 given) (Process self) (map held_model queue) fields ≡ new_block ty self 0 0 given
+made_model ty self given queue fields empty same =
+    ap (λ (q : List made_held.Held). with_parts (new_block ty self 0 0 given) (Process self) (map held_model q) fields) empty
+    ∙ ap (with_parts (new_block ty self 0 0 given) (Process self) []) same
 
 -- it is put behind the others
 pub made_pushed : (made : Block) (old new : List made_block.Block) (b : made_block.Block) → new ≡ old ++ b ∷ [] → block_model b ≡ made
@@ -148,15 +148,15 @@ pub made_pushed : (made : Block) (old new : List made_block.Block) (b : made_blo
 made_pushed made old new b pushed same =
     ap blocks_model pushed ∙ (map-append block_model old (b ∷ []) ∙ ap (λ (x : Block). blocks_model old ++ x ∷ []) same)
 
-module _ (bs : List Block) (self : ℕ) (given : List ℕ) (kind : HeapKind) (h : IsHeld bs)
+module _ (bs : List Block) (self : ℕ) (given : List ℕ) (ty : HeapType) (h : IsHeld bs)
     (mine : (x : ℕ) → is_among given x ≡ true → owns bs self x ≡ true)
     (once : (x : ℕ) → occurs given x ≡ one_if (is_among given x)) where
   -- The block stands behind the others, and then what is given goes into it.
-  pub made_is : changed (handed (Inside (length bs)) given) (bs ++ new_block kind self 0 0 given ∷ [])
-      ≡ changed (handed (Inside (length bs)) given) bs ++ new_block kind self 0 0 given ∷ []
-  made_is = changed_append (handed (Inside (length bs)) given) bs (new_block kind self 0 0 given)
+  pub made_is : changed (handed (Inside (length bs)) given) (bs ++ new_block ty self 0 0 given ∷ [])
+      ≡ changed (handed (Inside (length bs)) given) bs ++ new_block ty self 0 0 given ∷ []
+  made_is = changed_append (handed (Inside (length bs)) given) bs (new_block ty self 0 0 given)
       ∙ ap (λ (t : Bool). changed (handed (Inside (length bs)) given) bs
-      ++ with_parts (new_block kind self 0 0 given) (if t then Inside (length bs) else Process self) [] given ∷ []) none
+      ++ with_parts (new_block ty self 0 0 given) (if t then Inside (length bs) else Process self) [] given ∷ []) none
     where
       none : is_among given (length bs) ≡ false
       none = ⊎_elim (λ t. absurd (let k = owned_there bs self (length bs) (mine (length bs) t) in omega arith)) (λ f. f)
@@ -164,26 +164,26 @@ module _ (bs : List Block) (self : ℕ) (given : List ℕ) (kind : HeapKind) (h 
 
   -- the same of the blocks as they were on the way
   pub grown_is : (n : ℕ) (before pushed now : List Block) → n ≡ length bs → before ≡ bs
-      → pushed ≡ before ++ new_block kind self 0 0 given ∷ []
+      → pushed ≡ before ++ new_block ty self 0 0 given ∷ []
       → now ≡ changed (handed (Inside n) given) pushed
-      → now ≡ changed (handed (Inside (length bs)) given) bs ++ new_block kind self 0 0 given ∷ []
+      → now ≡ changed (handed (Inside (length bs)) given) bs ++ new_block ty self 0 0 given ∷ []
   grown_is n before pushed now long same put hands =
       hands ∙ (ap (λ (k : ℕ). changed (handed (Inside k) given) pushed) long
-      ∙ (ap (changed (handed (Inside (length bs)) given)) (put ∙ ap (λ (xs : List Block). xs ++ new_block kind self 0 0 given ∷ []) same)
+      ∙ (ap (changed (handed (Inside (length bs)) given)) (put ∙ ap (λ (xs : List Block). xs ++ new_block ty self 0 0 given ∷ []) same)
       ∙ made_is))
 
-  pub new_brought : IsBrought bs → IsBrought (changed (handed (Inside (length bs)) given) bs ++ new_block kind self 0 0 given ∷ [])
-  new_brought is = brought_same bs (new.grown bs self given kind h mine once)
-      (λ a. queue a (new.where_is bs self given kind h mine once a))
-      (λ j a. by j a (new.where_is bs self given kind h mine once j)) is
+  pub new_brought : IsBrought bs → IsBrought (changed (handed (Inside (length bs)) given) bs ++ new_block ty self 0 0 given ∷ [])
+  new_brought is = brought_same bs (new.grown bs self given ty h mine once)
+      (λ a. queue a (new.where_is bs self given ty h mine once a))
+      (λ j a. by j a (new.where_is bs self given ty h mine once j)) is
     where
       queue : (a : ℕ) → (a < length bs) ⊎ ((a ≡ length bs) ⊎ (length bs < a))
-          → (block_at (new.grown bs self given kind h mine once) a).queue ≡ (block_at bs a).queue
-      queue a (inl less) = ap (λ (b : Block). b.queue) (new.grown_old bs self given kind h mine once a less)
-      queue a (inr (inl e)) = ap (λ (n : ℕ). (block_at (new.grown bs self given kind h mine once) n).queue) e
-          ∙ (ap (λ (b : Block). b.queue) (new.grown_new bs self given kind h mine once)
+          → (block_at (new.grown bs self given ty h mine once) a).queue ≡ (block_at bs a).queue
+      queue a (inl less) = ap (λ (b : Block). b.queue) (new.grown_old bs self given ty h mine once a less)
+      queue a (inr (inl e)) = ap (λ (n : ℕ). (block_at (new.grown bs self given ty h mine once) n).queue) e
+          ∙ (ap (λ (b : Block). b.queue) (new.grown_new bs self given ty h mine once)
           ∙ sym (ap (λ (b : Block). b.queue) (past bs a (omega arith))))
-      queue a (inr (inr more)) = ap (λ (b : Block). b.queue) (new.grown_past bs self given kind h mine once a more)
+      queue a (inr (inr more)) = ap (λ (b : Block). b.queue) (new.grown_past bs self given ty h mine once a more)
           ∙ sym (ap (λ (b : Block). b.queue) (past bs a (omega arith)))
 
       old_owner : (j a : ℕ) (t : Bool) → is_among given j ≡ t
@@ -192,14 +192,14 @@ module _ (bs : List Block) (self : ℕ) (given : List ℕ) (kind : HeapKind) (h 
       old_owner j a false e = refl
 
       by : (j a : ℕ) → (j < length bs) ⊎ ((j ≡ length bs) ⊎ (length bs < j))
-          → is_queue (block_at (new.grown bs self given kind h mine once) j).owner a ≡ is_queue (block_at bs j).owner a
-      by j a (inl less) = ap (λ (b : Block). is_queue b.owner a) (new.grown_old bs self given kind h mine once j less)
+          → is_queue (block_at (new.grown bs self given ty h mine once) j).owner a ≡ is_queue (block_at bs j).owner a
+      by j a (inl less) = ap (λ (b : Block). is_queue b.owner a) (new.grown_old bs self given ty h mine once j less)
           ∙ old_owner j a (is_among given j) refl
-      by j a (inr (inl e)) = ap (λ (n : ℕ). is_queue (block_at (new.grown bs self given kind h mine once) n).owner a) e
-          ∙ (ap (λ (b : Block). is_queue b.owner a) (new.grown_new bs self given kind h mine once)
+      by j a (inr (inl e)) = ap (λ (n : ℕ). is_queue (block_at (new.grown bs self given ty h mine once) n).owner a) e
+          ∙ (ap (λ (b : Block). is_queue b.owner a) (new.grown_new bs self given ty h mine once)
           ∙ sym (ap (λ (b : Block). is_queue b.owner a) (past bs j (omega arith))))
-      by j a (inr (inr more)) = ap (λ (b : Block). is_queue b.owner a) (new.grown_past bs self given kind h mine once j more)
+      by j a (inr (inr more)) = ap (λ (b : Block). is_queue b.owner a) (new.grown_past bs self given ty h mine once j more)
           ∙ sym (ap (λ (b : Block). is_queue b.owner a) (past bs j (omega arith)))
 
-  pub new_holds : IsHeld (changed (handed (Inside (length bs)) given) bs ++ new_block kind self 0 0 given ∷ [])
-  new_holds = new.new_held bs self given kind h mine once
+  pub new_holds : IsHeld (changed (handed (Inside (length bs)) given) bs ++ new_block ty self 0 0 given ∷ [])
+  new_holds = new.new_held bs self given ty h mine once

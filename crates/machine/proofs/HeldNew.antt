@@ -5,10 +5,10 @@ use Rattle.std.proofs.lemmas.Bool.{cases_Bool, cases_eq, cases_lt}
 use Rattle.std.proofs.lemmas.List.{length_push}
 use Rattle.std.specs.Prelude.{◌⊎◌, if◌then◌else◌}
 use Rattle.program.specs.Lists.{is_among}
-use Rattle.program.specs.declared.kind.HeapKind.{HeapKind}
+use Rattle.program.specs.declared.types.HeapType.{HeapType}
 use Rattle.machine.specs.Blocks.{handed, new_block}
 use Rattle.machine.specs.Heaps.{IsHeld, occurs, one_if}
-use Rattle.machine.specs.World.{Block, block_at, changed, is_inside, no_block, no_kind, owns}
+use Rattle.machine.specs.World.{Block, block_at, changed, is_inside, no_block, no_type, owns}
 use Rattle.machine.specs.declared.worlds.Owner.{Owner}
 use Rattle.machine.specs.declared.worlds.Owner.TheVariants.{Inside, Channel}
 use Rattle.machine.proofs.ChangeLemmas.{changed_length, eqb_apart, eqb_same}
@@ -26,7 +26,7 @@ added_new : (bs : List Block) (b : Block) → block_at (bs ++ b ∷ []) (length 
 added_new [] b = refl
 added_new (x ∷ bs) b = added_new bs b
 
-module _ (bs : List Block) (self : ℕ) (given : List ℕ) (kind : HeapKind) (h : IsHeld bs)
+module _ (bs : List Block) (self : ℕ) (given : List ℕ) (ty : HeapType) (h : IsHeld bs)
     (mine : (x : ℕ) → is_among given x ≡ true → owns bs self x ≡ true)
     (once : (x : ℕ) → occurs given x ≡ one_if (is_among given x)) where
   abbrev pub new_at : ℕ
@@ -36,7 +36,7 @@ module _ (bs : List Block) (self : ℕ) (given : List ℕ) (kind : HeapKind) (h 
   put_in = changed (handed (Inside new_at) given) bs
 
   abbrev pub made : Block
-  made = new_block kind self 0 0 given
+  made = new_block ty self 0 0 given
 
   abbrev pub grown : List Block
   grown = put_in ++ made ∷ []
@@ -47,7 +47,7 @@ module _ (bs : List Block) (self : ℕ) (given : List ℕ) (kind : HeapKind) (h 
   pub put_at : (j : ℕ) → block_at put_in j ≡ handed (Inside new_at) given j (block_at bs j)
   put_at j = changed_all (handed (Inside new_at) given) bs j (λ past.
       ap (λ (b : Bool). record {
-        kind = no_kind;
+        ty = no_type;
         owner = if b then Inside new_at else Channel;
         peer = 0;
         state = 0;

@@ -5,7 +5,7 @@ use Rattle.std.proofs.lemmas.Bool.{cases_Bool}
 use Rattle.std.specs.Prelude.{◌⊎◌, if◌then◌else◌}
 use Rattle.machine.specs.Blocks.{freed_block, goes_with, in_queue_of}
 use Rattle.machine.specs.Heaps.{IsHeld, Rooted, below, occurs, of_process, one_if, top}
-use Rattle.machine.specs.World.{Block, block_at, changed, is_inside, is_process, is_queue, no_kind, owns}
+use Rattle.machine.specs.World.{Block, block_at, changed, is_inside, is_process, is_queue, no_type, owns}
 use Rattle.machine.specs.declared.worlds.Owner.{Owner}
 use Rattle.machine.specs.declared.worlds.Owner.TheVariants.{Process, Queue, Inside, Channel, Freed}
 use Rattle.machine.proofs.ChangeLemmas.{eqb_apart, true≢false}
@@ -113,7 +113,7 @@ module _ (bs : List Block) (a : ℕ) (h : IsHeld bs) (own : of_process (block_at
   pub left_at : (j : ℕ) → block_at left j ≡ freed_block goes j (block_at bs j)
   left_at j = changed_all (freed_block goes) bs j (λ past.
       ap (λ (b : Bool). record {
-        kind = no_kind;
+        ty = no_type;
         owner = if b then Freed else Channel;
         peer = 0;
         state = 0;

@@ -2,7 +2,7 @@
 use Rattle.std.proofs.Common.{◌≡◌, ℕ, List, [], ◌∷◌, ◌++◌, Some, ap, ◌∙◌, refl, subst, sym, length, set}
 use Rattle.std.specs.Prelude.{Option}
 use Rattle.program.specs.declared.call.Argument.{Argument}
-use Rattle.program.specs.declared.kind.HeapKind.{HeapKind}
+use Rattle.program.specs.declared.types.HeapType.{HeapType}
 use Rattle.program.specs.declared.statement.Mention.{Mention}
 use Rattle.machine.specs.Answers.{IsFirstFault, Pass, on_top, with_variables}
 use Rattle.machine.specs.Blocks.{argument_tests_in, handed, new_block}
@@ -40,8 +40,8 @@ module _ (bs b : List Block) (self : ℕ) (variables : List (Option ℕ)) (same 
   given_once payloads given is pass = subst AreOnce (sym is) (pass_once b self variables payloads pass)
 
 -- the blocks, when a process has made one of what it gives
-abbrev pub blocks_with : (kind : HeapKind) (self : ℕ) (given : List ℕ) → List Block → List Block
-blocks_with kind self given bs = changed (handed (Inside (length bs)) given) bs ++ new_block kind self 0 0 given ∷ []
+abbrev pub blocks_with : (ty : HeapType) (self : ℕ) (given : List ℕ) → List Block → List Block
+blocks_with ty self given bs = changed (handed (Inside (length bs)) given) bs ++ new_block ty self 0 0 given ∷ []
 
 -- a frame at this point, with these variables
 abbrev pub frame_at : Frame → ℕ → List (Option ℕ) → Frame
@@ -49,22 +49,22 @@ frame_at f point variables = record { method = f.method; point = point; variable
 
 -- The world then. The frame f lets go what is given, takes the address, and is then f2.
 pub world_with : (processes : List (List Frame)) (self : ℕ) (rest : List Frame) (f f2 : Frame) (point target address : ℕ)
-    (bs after : List Block) (arguments claimed : List Argument) (given : List ℕ) (left : List (Option ℕ)) (kind known : HeapKind)
-    → claimed ≡ arguments → given ≡ addresses f.variables arguments → address ≡ length bs → known ≡ kind → left ≡ let_go f.variables claimed
+    (bs after : List Block) (arguments claimed : List Argument) (given : List ℕ) (left : List (Option ℕ)) (ty known : HeapType)
+    → claimed ≡ arguments → given ≡ addresses f.variables arguments → address ≡ length bs → known ≡ ty → left ≡ let_go f.variables claimed
     → f2 ≡ with_variables f (set left target (Some address)) → after ≡ blocks_with known self given bs
     → on_top processes self rest (frame_at f point (set (let_go f.variables arguments) target (Some (length bs))))
-    (blocks_with kind self (addresses f.variables arguments) bs)
+    (blocks_with ty self (addresses f.variables arguments) bs)
     ≡ on_top processes self rest (frame_at f2 point f2.variables) after
-world_with processes self rest f f2 point target address bs after arguments claimed given left kind known these gives at kinds gone put made =
+world_with processes self rest f f2 point target address bs after arguments claimed given left ty known these gives at types gone put made =
     let variables : set (let_go f.variables arguments) target (Some (length bs)) ≡ f2.variables =
     sym (ap (λ (x : Frame). x.variables) put
     ∙ (ap (λ (l : List (Option ℕ)). set l target (Some address)) (gone ∙ ap (let_go f.variables) these)
     ∙ ap (λ (n : ℕ). set (let_go f.variables arguments) target (Some n)) at)) in
     let method : f.method ≡ f2.method = sym (ap (λ (x : Frame). x.method) put) in
-    let blocks : blocks_with kind self (addresses f.variables arguments) bs ≡ after =
-    sym (made ∙ (ap (λ (k : HeapKind). blocks_with k self given bs) kinds ∙ ap (λ (g : List ℕ). blocks_with kind self g bs) gives)) in
+    let blocks : blocks_with ty self (addresses f.variables arguments) bs ≡ after =
+    sym (made ∙ (ap (λ (k : HeapType). blocks_with k self given bs) types ∙ ap (λ (g : List ℕ). blocks_with ty self g bs) gives)) in
     ap (λ (l : List (Option ℕ)). on_top processes self rest (frame_at f point l)
-    (blocks_with kind self (addresses f.variables arguments) bs)) variables
+    (blocks_with ty self (addresses f.variables arguments) bs)) variables
     ∙ (ap (λ (m : ℕ). on_top processes self rest (record { method = m; point = point; variables = f2.variables })
-    (blocks_with kind self (addresses f.variables arguments) bs)) method
+    (blocks_with ty self (addresses f.variables arguments) bs)) method
     ∙ ap (on_top processes self rest (frame_at f2 point f2.variables)) blocks)

@@ -7,10 +7,10 @@ use Rattle.program.specs.Parts.{ContractModel}
 use Rattle.program.specs.Programs.{ProgramModel}
 use Rattle.program.specs.Statements.{StatementModel, StatementsModel, Simple, New, Send, MoreStatements, NoStatement}
 use Rattle.program.specs.declared.contract.Sign.TheVariants as sign
-use Rattle.program.specs.declared.kind.HeapKind.{HeapKind}
-use Rattle.program.specs.declared.kind.HeapKind.TheVariants.{Struct, Endpoint}
-use Rattle.program.specs.declared.kind.Side.{Side}
-use Rattle.program.specs.declared.kind.Side.TheVariants.{Imp, Exp}
+use Rattle.program.specs.declared.types.HeapType.{HeapType}
+use Rattle.program.specs.declared.types.HeapType.TheVariants.{Struct, Endpoint}
+use Rattle.program.specs.declared.types.Side.{Side}
+use Rattle.program.specs.declared.types.Side.TheVariants.{Imp, Exp}
 use Rattle.program.specs.declared.method.Role.TheVariants.{Local}
 use Rattle.program.specs.declared.statement.Action.TheVariants as does
 use Rattle.program.specs.declared.statement.Mention.{Mention}
@@ -27,9 +27,9 @@ use Rattle.machine.specs.declared.worlds.Owner.TheVariants.{Process, Queue, Insi
 abbrev at : Place
 at = record { line = 1; col = 1 }
 
-abbrev variable : HeapKind → Option ℕ → VariableModel
-variable k None = record { name = []; kind = k; role = Local; outer = None }
-variable k (Some n) = record { name = []; kind = k; role = Local; outer = Some record { 0 = n } }
+abbrev variable : HeapType → Option ℕ → VariableModel
+variable k None = record { name = []; ty = k; role = Local; outer = None }
+variable k (Some n) = record { name = []; ty = k; role = Local; outer = Some record { 0 = n } }
 
 abbrev mention : ℕ → Mention
 mention n = record { variable = record { 0 = n }; place = at }
@@ -112,9 +112,9 @@ abbrev reads_what_it_sent : ProgramModel
 reads_what_it_sent = opens (makes [] ∷ sends 2 ∷ Simple (mention 2 ∷ []) does.Nothing ∷ [])
 
 pub sent_then : blocks_of (three reads_what_it_sent) ≡
-    record { kind = Endpoint record { 0 = 0 } Imp record { 0 = 0 }; owner = Process 0; peer = 1; state = 0; queue = record { message = 0; payload = 2 ∷ [] } ∷ []; fields = [] }
-    ∷ record { kind = Endpoint record { 0 = 0 } Exp record { 0 = 0 }; owner = Process 0; peer = 0; state = 1; queue = []; fields = [] }
-    ∷ record { kind = Struct record { 0 = 0 }; owner = Queue 0; peer = 0; state = 0; queue = []; fields = [] } ∷ []
+    record { ty = Endpoint record { 0 = 0 } Imp record { 0 = 0 }; owner = Process 0; peer = 1; state = 0; queue = record { message = 0; payload = 2 ∷ [] } ∷ []; fields = [] }
+    ∷ record { ty = Endpoint record { 0 = 0 } Exp record { 0 = 0 }; owner = Process 0; peer = 0; state = 1; queue = []; fields = [] }
+    ∷ record { ty = Struct record { 0 = 0 }; owner = Queue 0; peer = 0; state = 0; queue = []; fields = [] } ∷ []
 sent_then = refl
 
 pub read_then : four reads_what_it_sent ≡ Faulty F1
@@ -150,11 +150,11 @@ kept_then = refl
 
 -- ---- blocks inside blocks
 abbrev struct_of : Owner → List ℕ → Block
-struct_of owner fields = record { kind = Struct record { 0 = 0 }; owner = owner; peer = 0; state = 0; queue = []; fields = fields }
+struct_of owner fields = record { ty = Struct record { 0 = 0 }; owner = owner; peer = 0; state = 0; queue = []; fields = fields }
 
 abbrev end_of : Side → Owner → ℕ → List MessageHeld → Block
 end_of side owner peer queue =
-    record { kind = Endpoint record { 0 = 0 } side record { 0 = 0 }; owner = owner; peer = peer; state = 0; queue = queue; fields = [] }
+    record { ty = Endpoint record { 0 = 0 } side record { 0 = 0 }; owner = owner; peer = peer; state = 0; queue = queue; fields = [] }
 
 abbrev deletes : ProgramModel
 deletes = record {

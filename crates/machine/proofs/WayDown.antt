@@ -23,7 +23,7 @@ module _ (bs0 : List Block) (a : ℕ) (bs : List Block) (x : ℕ) (h : Frees bs0
   left_at : (j : ℕ) → block_at below_x j ≡ fields_left x rest j (block_at bs j)
   left_at j = changed_all (fields_left x rest) bs j (λ past.
       ap (λ (t : Bool). record {
-        kind = no_block.kind;
+        ty = no_block.ty;
         owner = Channel;
         peer = 0;
         state = 0;

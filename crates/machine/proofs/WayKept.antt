@@ -57,7 +57,7 @@ lies_same bs bs' same (suc n) c j =
 -- ---- what a block becomes
 abbrev pub with_parts : Block → Owner → List MessageHeld → List ℕ → Block
 with_parts b owner queue fields =
-    record { kind = b.kind; owner = owner; peer = b.peer; state = b.state; queue = queue; fields = fields }
+    record { ty = b.ty; owner = owner; peer = b.peer; state = b.state; queue = queue; fields = fields }
 
 -- a block that goes, or stays
 abbrev pub freed_as : (goes : ℕ → Bool) → Bool → Block → Block

@@ -22,7 +22,7 @@ module _ (bs0 : List Block) (a : ℕ) (bs : List Block) (x : ℕ) (h : Frees bs0
   without_at : (j : ℕ) → block_at without j ≡ freed_one x j (block_at bs j)
   without_at j = changed_all (freed_one x) bs j (λ past.
       ap (λ (t : Bool). record {
-        kind = no_block.kind;
+        ty = no_block.ty;
         owner = if t then Freed else Channel;
         peer = 0;
         state = 0;

@@ -118,7 +118,7 @@ claimed_in variables taken (a ∷ arguments) =
 -- the endpoint at an address goes on to a state
 abbrev pub in_state : (a state : ℕ) → ℕ → Block → Block
 in_state a state j b = record {
-  kind = b.kind;
+  ty = b.ty;
   owner = b.owner;
   peer = b.peer;
   state = if j == a then state else b.state;
@@ -129,7 +129,7 @@ in_state a state j b = record {
 -- a message goes to the queue of the endpoint at an address
 abbrev pub queued : ℕ → MessageHeld → ℕ → Block → Block
 queued to m j b = record {
-  kind = b.kind;
+  ty = b.ty;
   owner = b.owner;
   peer = b.peer;
   state = b.state;
@@ -140,7 +140,7 @@ queued to m j b = record {
 -- the endpoint at an address has these messages left in its queue
 abbrev pub left_in : ℕ → List MessageHeld → ℕ → Block → Block
 left_in a messages j b = record {
-  kind = b.kind;
+  ty = b.ty;
   owner = b.owner;
   peer = b.peer;
   state = b.state;
@@ -151,7 +151,7 @@ left_in a messages j b = record {
 -- a field of the block at an address holds this
 abbrev pub with_field : (at field given : ℕ) → ℕ → Block → Block
 with_field at field given j b = record {
-  kind = b.kind;
+  ty = b.ty;
   owner = b.owner;
   peer = b.peer;
   state = b.state;

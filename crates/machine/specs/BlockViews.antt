@@ -11,7 +11,7 @@ held_model h = record { message = h.message.0; payload = h.payload.items }
 -- a block
 abbrev pub block_model : made_block.Block → Block
 block_model b = record {
-  kind = b.kind;
+  ty = b.ty;
   owner = b.owner;
   peer = b.peer;
   state = b.state.0;

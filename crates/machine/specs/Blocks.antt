@@ -4,10 +4,10 @@ use Rattle.std.specs.Prelude.{List, [], ◌∷◌, ◌++◌, length, Option, Som
 use Rattle.program.specs.Lists.{is_among}
 use Rattle.program.specs.Programs.{ProgramModel}
 use Rattle.program.specs.declared.call.Argument.{Argument}
-use Rattle.program.specs.declared.kind.HeapKind.{HeapKind}
-use Rattle.program.specs.declared.kind.HeapKind.TheVariants.{Endpoint}
-use Rattle.program.specs.declared.kind.Side.{Side}
-use Rattle.program.specs.declared.kind.Side.TheVariants.{Imp}
+use Rattle.program.specs.declared.types.HeapType.{HeapType}
+use Rattle.program.specs.declared.types.HeapType.TheVariants.{Endpoint}
+use Rattle.program.specs.declared.types.Side.{Side}
+use Rattle.program.specs.declared.types.Side.TheVariants.{Imp}
 use Rattle.program.specs.declared.statement.Channel as made
 use Rattle.contracts.specs.Leaving.{end_on}
 use Rattle.rules.specs.Endpoints.{edges_in, edges_out}
@@ -21,7 +21,7 @@ use Rattle.machine.specs.declared.worlds.Owner.TheVariants.{Process, Queue, Insi
 -- these blocks go to an owner
 abbrev pub handed : Owner → List ℕ → ℕ → Block → Block
 handed to given j b = record {
-  kind = b.kind;
+  ty = b.ty;
   owner = if is_among given j then to else b.owner;
   peer = b.peer;
   state = b.state;
@@ -52,7 +52,7 @@ in_queue_of _ P = false
 -- The blocks that go are freed. Their queues are emptied, and what these owned goes to the channel. Their fields hold nothing any more.
 abbrev pub freed_block : (goes : ℕ → Bool) → ℕ → Block → Block
 freed_block goes j b = record {
-  kind = b.kind;
+  ty = b.ty;
   owner = if goes j then Freed else (if in_queue_of b.owner goes then Channel else b.owner);
   peer = b.peer;
   state = b.state;
@@ -64,7 +64,7 @@ freed_block goes j b = record {
 -- now, and the other is a process's.
 abbrev pub exchanged_block : (self at field given held : ℕ) → ℕ → Block → Block
 exchanged_block self at field given held j b = record {
-  kind = b.kind;
+  ty = b.ty;
   owner = if j == given then Inside at else (if j == held then Process self else b.owner);
   peer = b.peer;
   state = b.state;
@@ -76,7 +76,7 @@ exchanged_block self at field given held j b = record {
 -- at the address to, unless that is gone.
 abbrev pub sent_block : (a state to : ℕ) (gone : Bool) → MessageHeld → ℕ → Block → Block
 sent_block a state to gone m j b = record {
-  kind = b.kind;
+  ty = b.ty;
   owner = if is_among m.payload j then (if gone then Channel else Queue to) else b.owner;
   peer = b.peer;
   state = if j == a then state else b.state;
@@ -87,7 +87,7 @@ sent_block a state to gone m j b = record {
 -- the endpoint at a receives the front of its queue for a process
 abbrev pub received_block : (self a state : ℕ) → MessageHeld → List MessageHeld → ℕ → Block → Block
 received_block self a state m rest j b = record {
-  kind = b.kind;
+  ty = b.ty;
   owner = if is_among m.payload j then Process self else b.owner;
   peer = b.peer;
   state = if j == a then state else b.state;
@@ -96,9 +96,9 @@ received_block self a state m rest j b = record {
 }
 
 -- a new block of a process, with these addresses in its fields
-abbrev pub new_block : HeapKind → ℕ → ℕ → ℕ → List ℕ → Block
-new_block kind self peer state fields = record {
-  kind = kind;
+abbrev pub new_block : HeapType → ℕ → ℕ → ℕ → List ℕ → Block
+new_block ty self peer state fields = record {
+  ty = ty;
   owner = Process self;
   peer = peer;
   state = state;
@@ -107,16 +107,16 @@ new_block kind self peer state fields = record {
 }
 
 -- whether it is an importing end
-abbrev pub is_imp : HeapKind → Bool
+abbrev pub is_imp : HeapType → Bool
 is_imp (Endpoint contract Imp state) = true
 is_imp _ = false
 
 -- an end of a channel of a contract
-abbrev pub end_kind : made.Channel → Side → HeapKind
-end_kind c side = Endpoint c.contract side record { 0 = 0 }
+abbrev pub end_type : made.Channel → Side → HeapType
+end_type c side = Endpoint c.contract side record { 0 = 0 }
 
 -- how many messages the queue to it may hold
-abbrev pub bound_of : Bounds → HeapKind → ℕ
+abbrev pub bound_of : Bounds → HeapType → ℕ
 bound_of bound (Endpoint contract side state) = bound contract.0 side
 bound_of bound _ = 0
 
@@ -139,15 +139,15 @@ argument_tests_in blocks self variables taken (a ∷ arguments) =
 
 -- the state behind the edge along which the endpoint at an address sends a message
 abbrev pub sent_state : ProgramModel → List Block → (at message : ℕ) → Option ℕ
-sent_state p blocks at message = end_on (edges_out p (Some (block_at blocks at).kind) (block_at blocks at).state) message
+sent_state p blocks at message = end_on (edges_out p (Some (block_at blocks at).ty) (block_at blocks at).state) message
 
 -- the state behind the edge along which it receives one
 abbrev pub received_state : ProgramModel → List Block → (at message : ℕ) → Option ℕ
-received_state p blocks at message = end_on (edges_in p (Some (block_at blocks at).kind) (block_at blocks at).state) message
+received_state p blocks at message = end_on (edges_in p (Some (block_at blocks at).ty) (block_at blocks at).state) message
 
 -- whether the endpoint at an address may take one more message, unless it is freed
 abbrev pub has_room_in : Bounds → List Block → ℕ → Bool
-has_room_in bound blocks to = freed blocks to || nat_lt (length (block_at blocks to).queue) (bound_of bound (block_at blocks to).kind)
+has_room_in bound blocks to = freed blocks to || nat_lt (length (block_at blocks to).queue) (bound_of bound (block_at blocks to).ty)
 
 -- the tests of a send behind those of what it names
 abbrev pub send_tests_in : Bounds → List Block → ℕ → Option ℕ → List Test

@@ -7,7 +7,7 @@ use Rattle.machine.specs.declared.worlds.Owner.TheVariants.{Inside}
 -- the block at an address has these left in its fields
 abbrev pub fields_left : ℕ → List ℕ → ℕ → Block → Block
 fields_left x rest j b = record {
-  kind = b.kind;
+  ty = b.ty;
   owner = b.owner;
   peer = b.peer;
   state = b.state;

@@ -3,7 +3,7 @@ use Rattle.std.specs.Prelude.{ℕ, ◌+◌, ◌==◌, Bool, if◌then◌else◌,
 use Rattle.std.specs.Prelude.{List, [], ◌∷◌, ◌++◌, map, length, slice_get, set}
 use Rattle.program.specs.Programs.{ProgramModel}
 use Rattle.program.specs.declared.call.Argument.{Argument}
-use Rattle.program.specs.declared.kind.Side.TheVariants.{Imp, Exp}
+use Rattle.program.specs.declared.types.Side.TheVariants.{Imp, Exp}
 use Rattle.program.specs.declared.statement as stated
 use Rattle.program.specs.declared.statement.Mention.{Mention}
 use Rattle.flow.specs.Cases.{EntranceModel, case_for, first_mentions}
@@ -14,8 +14,8 @@ use Rattle.flow.specs.declared.graph.Branches.TheVariants.{Either, Only}
 use Rattle.rules.specs.Endpoints.{first_state}
 use Rattle.machine.specs.Blocks.{argument_tests_in, has_room_in, is_own_still, owns_none, send_tests_in}
 use Rattle.machine.specs.Blocks.{received_state, sent_state}
-use Rattle.machine.specs.Blocks.{end_kind, exchanged_block, freed_block, goes_with, handed, is_imp, new_block, received_block, sent_block}
-use Rattle.machine.specs.Frames.{call_next, call_target, entered, instruction_at, kind_at, method_at, variables_of}
+use Rattle.machine.specs.Blocks.{end_type, exchanged_block, freed_block, goes_with, handed, is_imp, new_block, received_block, sent_block}
+use Rattle.machine.specs.Frames.{call_next, call_target, entered, instruction_at, type_at, method_at, variables_of}
 use Rattle.machine.specs.Frames.{address, addresses, bound_to, forgotten, gone_with, payloads_claimed, put}
 use Rattle.machine.specs.Outcomes.{Bounds, Outcome, Moved, Faulty, Waits, NoChoice, Test, test, tested}
 use Rattle.machine.specs.World.{Block, Frame, MessageHeld, World, block_at, changed, cut_off, freed, is_own_in, let_go, read}
@@ -122,15 +122,15 @@ module _ (p : ProgramModel) (bound : Bounds) (w : World) (self : ℕ) (f : Frame
       tested (argument_tests [] given)
       (on next (set (let_go f.variables given) v.variable.0 (Some (length w.blocks)))
       (changed (handed (Inside (length w.blocks)) (addresses f.variables given)) w.blocks
-      ++ new_block (kind_at (variables_of p f.method) v.variable.0) self 0 0 (addresses f.variables given) ∷ []))
+      ++ new_block (type_at (variables_of p f.method) v.variable.0) self 0 0 (addresses f.variables given) ∷ []))
   event_of (NewChannel c next) choice =
-      let first_is_imp = is_imp (kind_at (variables_of p f.method) c.first.variable.0) in
+      let first_is_imp = is_imp (type_at (variables_of p f.method) c.first.variable.0) in
       let a = length w.blocks in
       let begins = first_state p c.contract.0 in
       on next
       (set (set f.variables c.first.variable.0 (Some (if first_is_imp then a else a + 1))) c.second.variable.0
       (Some (if first_is_imp then a + 1 else a)))
-      (w.blocks ++ new_block (end_kind c Imp) self (a + 1) begins [] ∷ new_block (end_kind c Exp) self a begins [] ∷ [])
+      (w.blocks ++ new_block (end_type c Imp) self (a + 1) begins [] ∷ new_block (end_type c Exp) self a begins [] ∷ [])
   event_of (Move v u next) choice =
       tested (test (is_own (has u)) F1 ∷ []) (on next (set (set f.variables v.variable.0 (has u)) u.variable.0 None) w.blocks)
   event_of (Delete v next) choice =

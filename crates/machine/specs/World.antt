@@ -1,8 +1,8 @@
 -- The world of the machine: processes as stacks of frames, the innermost first, and blocks by their addresses.
 use Rattle.std.specs.Prelude.{ℕ, suc, ◌==◌, Bool, true, false, ◌&&◌, List, [], ◌∷◌, Option, Some, None, get_or, set, if◌then◌else◌}
 use Rattle.program.specs.declared.call.Argument.{Argument}
-use Rattle.program.specs.declared.kind.HeapKind.{HeapKind}
-use Rattle.program.specs.declared.kind.HeapKind.TheVariants.{Struct}
+use Rattle.program.specs.declared.types.HeapType.{HeapType}
+use Rattle.program.specs.declared.types.HeapType.TheVariants.{Struct}
 use Rattle.machine.specs.declared.worlds.Owner.{Owner}
 use Rattle.machine.specs.declared.worlds.Owner.TheVariants.{Process, Queue, Inside, Channel, Freed}
 
@@ -14,7 +14,7 @@ pub record MessageHeld : Type 0 where
 -- A block. Its peer, state and queue mean something where it is an endpoint. Its fields are the addresses that the owning fields of a
 -- struct hold, in order; a freed block has none.
 pub record Block : Type 0 where
-  pub kind : HeapKind
+  pub ty : HeapType
   pub owner : Owner
   pub peer : ℕ
   pub state : ℕ
@@ -33,12 +33,12 @@ pub record World : Type 0 where
   pub blocks : List Block
 
 -- what a variable holds that is not there
-abbrev pub no_kind : HeapKind
-no_kind = Struct record { 0 = 0 }
+abbrev pub no_type : HeapType
+no_type = Struct record { 0 = 0 }
 
 -- Where no block is, nobody has one.
 abbrev pub no_block : Block
-no_block = record { kind = no_kind; owner = Channel; peer = 0; state = 0; queue = []; fields = [] }
+no_block = record { ty = no_type; owner = Channel; peer = 0; state = 0; queue = []; fields = [] }
 
 -- the block at an address
 abbrev pub block_at : List Block → ℕ → Block

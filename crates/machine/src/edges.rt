@@ -13,12 +13,12 @@ ghost use Rattle.machine.specs.Blocks.{received_state, sent_state, has_room_in, 
 ghost use Rattle.machine.specs.Outcomes.{Bounds};
 ghost use Rattle.machine.specs.Runs.{AreBounds};
 ghost use Rattle.machine.specs.Views.{blocks_model};
-ghost use Rattle.machine.specs.World.{block_at, cut_off, freed, no_kind};
+ghost use Rattle.machine.specs.World.{block_at, cut_off, freed, no_type};
 
 use crate::halts::{Fault, Refusal};
-use crate::reading::{is_cut_off, is_freed, kind_of, peer_of, queue_length, state_of};
+use crate::reading::{is_cut_off, is_freed, peer_of, queue_length, state_of, type_of};
 use crate::worlds::Block;
-use program::{ContractId, HeapKind, MessageId, Side, StateId};
+use program::{ContractId, HeapType, MessageId, Side, StateId};
 use rules::Program;
 
 /// What an endpoint sends along: its address, its peer and whether that is gone, and the state behind it.
@@ -40,14 +40,14 @@ fn bound_at(program: &Program, contract: ContractId, side: Side) -> u32
     }
 }
 
-/// How many messages the queue to an endpoint of this kind may hold.
-fn bound_of(program: &Program, kind: HeapKind) -> u32
-    ensures bound { (bound : Bounds) → AreBounds (model_of program.now) bound → result ≡ told.bound_of bound kind }
-    ensures none { kind ≡ no_kind → result ≡ 0 }
+/// How many messages the queue to an endpoint of this type may hold.
+fn bound_of(program: &Program, ty: HeapType) -> u32
+    ensures bound { (bound : Bounds) → AreBounds (model_of program.now) bound → result ≡ told.bound_of bound ty }
+    ensures none { ty ≡ no_type → result ≡ 0 }
 {
-    match kind {
-        HeapKind::Endpoint { contract, side, .. } => bound_at(program, contract, side),
-        HeapKind::Struct(_) | HeapKind::Array(_) => 0,
+    match ty {
+        HeapType::Endpoint { contract, side, .. } => bound_at(program, contract, side),
+        HeapType::Struct(_) | HeapType::Array(_) => 0,
     }
 }
 
@@ -57,7 +57,7 @@ fn has_room(program: &Program, blocks: &[Block], to: usize) -> bool
     ensures there { IsTrue result → freed (blocks_model blocks.now) to ≡ false → to < length (blocks_model blocks.now) }
 {
     is_freed(blocks, to)
-        || queue_length(blocks, to) < bound_of(program, kind_of(blocks, to)) as usize
+        || queue_length(blocks, to) < bound_of(program, type_of(blocks, to)) as usize
 }
 
 /// The state of an endpoint behind a send of the message. None, where it sends no such message in its state; where it is cut off, the
@@ -80,7 +80,7 @@ fn state_behind(
     if is_cut_off(blocks, at) {
         return Some(state);
     }
-    program.state_after_send(Some(kind_of(blocks, at)), state.0, message)
+    program.state_after_send(Some(type_of(blocks, at)), state.0, message)
 }
 
 /// What an endpoint sends a message along, if its state sends it and the queue to its peer may take it.
@@ -131,20 +131,20 @@ fn other(side: Side) -> Side
 }
 
 /// What stands at the other end of a channel.
-fn other_end(kind: HeapKind) -> HeapKind
-    ensures { (p : ProgramModel) (q : ℕ) → edges_out p (Some result) q ≡ edges_in p (Some kind) q }
+fn other_end(ty: HeapType) -> HeapType
+    ensures { (p : ProgramModel) (q : ℕ) → edges_out p (Some result) q ≡ edges_in p (Some ty) q }
 {
-    match kind {
-        HeapKind::Endpoint {
+    match ty {
+        HeapType::Endpoint {
             contract,
             side,
             state,
-        } => HeapKind::Endpoint {
+        } => HeapType::Endpoint {
             contract,
             side: other(side),
             state,
         },
-        HeapKind::Struct(_) | HeapKind::Array(_) => kind,
+        HeapType::Struct(_) | HeapType::Array(_) => ty,
     }
 }
 
@@ -159,7 +159,7 @@ pub(crate) fn state_received(
         (block_at (blocks_model blocks.now) at).state }
 {
     let state = state_of(blocks, at);
-    match program.state_after_send(Some(other_end(kind_of(blocks, at))), state.0, message) {
+    match program.state_after_send(Some(other_end(type_of(blocks, at))), state.0, message) {
         Some(next) => next,
         None => state,
     }

@@ -14,7 +14,7 @@ use crate::freeing::free;
 use crate::halts::Refusal;
 use crate::reading::field_of;
 use crate::worlds::{Block, Held, Owner};
-use program::{HeapKind, MessageId, StateId};
+use program::{HeapType, MessageId, StateId};
 use std::alloc::Global;
 use std::collections::VecDeque;
 
@@ -68,14 +68,14 @@ impl Heap {
         &mut self,
         alloc: Global,
         process: usize,
-        kind: HeapKind,
+        ty: HeapType,
         given: &[usize],
     ) -> Result<(), Refusal>
         requires owned { AreOwnedBy (blocks_model self.old.blocks.items) process given.now }
         requires once { AreOnce given.now }
         ensures added { OnOk result (blocks_model self.new.blocks.items
             ≡ changed (handed (Owner.Inside (length (blocks_model self.old.blocks.items))) given.now) (blocks_model self.old.blocks.items)
-            ++ new_block kind process 0 0 given.now ∷ []) }
+            ++ new_block ty process 0 0 given.now ∷ []) }
         ensures same { OnErr result (blocks_model self.new.blocks.items ≡ blocks_model self.old.blocks.items) }
         ensures memory { IfErr result (λ refusal. refusal ≡ Refusal.Memory) }
     {
@@ -83,7 +83,7 @@ impl Heap {
         let fields = Vec::from_slice(alloc, given)?;
         self.list(process)?;
         self.blocks.push(Block {
-            kind,
+            ty,
             owner: Owner::Process(process),
             peer: 0,
             state: StateId(0),

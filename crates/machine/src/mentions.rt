@@ -7,7 +7,7 @@ ghost use Rattle.rules.specs.Programs.{model_of};
 ghost use Rattle.rules.specs.Scopes.{declared_between, is_this};
 ghost use Rattle.machine.specs.Answers.{with_variables};
 ghost use Rattle.machine.specs.Bindings.{AllMayTake};
-ghost use Rattle.machine.specs.Frames.{address, bound_to, forgotten, kind_at, variables_of};
+ghost use Rattle.machine.specs.Frames.{address, bound_to, forgotten, type_at, variables_of};
 ghost use Rattle.machine.specs.Frames as told;
 ghost use Rattle.machine.specs.Views.{StillTakes, Takes, frame_model, variables_model};
 ghost use Rattle.machine.specs.World.{let_go, read};
@@ -15,7 +15,7 @@ ghost use Rattle.machine.specs.World.{let_go, read};
 use crate::halts::Refusal;
 use crate::variables::Variables;
 use crate::worlds::Frame;
-use program::{Argument, HeapKind, Mention, Method, MethodId, StructId, VarId};
+use program::{Argument, HeapType, Mention, Method, MethodId, StructId, VarId};
 use rules::Program;
 
 impl Frame {
@@ -69,15 +69,15 @@ impl Frame {
 }
 
 /// What a variable of a method holds.
-pub(crate) fn kind_at(program: &Program, method: MethodId, v: VarId) -> HeapKind
-    ensures { result ≡ kind_at (variables_of (model_of program.now) method.0) v.0 }
+pub(crate) fn type_at(program: &Program, method: MethodId, v: VarId) -> HeapType
+    ensures { result ≡ type_at (variables_of (model_of program.now) method.0) v.0 }
 {
     if let Some(method) = program.methods().get(method.0 as usize) {
         if let Some(variable) = method.variables.get(v.0) {
-            return variable.kind;
+            return variable.ty;
         }
     }
-    HeapKind::Struct(StructId(0))
+    HeapType::Struct(StructId(0))
 }
 
 /// The variable of the exchange heap before this one in scope.

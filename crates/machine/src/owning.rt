@@ -3,11 +3,11 @@
 ghost use Rattle.std.specs.Prelude.{◌≡◌, ◌+◌, ◌++◌, ◌∷◌, [], IfErr, List, OnErr, OnOk, length};
 ghost use Rattle.program.specs.Programs.{ProgramModel};
 ghost use Rattle.flow.specs.Graphs.{New, NewChannel, Delete};
-ghost use Rattle.program.specs.declared.kind.Side.TheVariants.{Imp, Exp};
+ghost use Rattle.program.specs.declared.types.Side.TheVariants.{Imp, Exp};
 ghost use Rattle.rules.specs.Programs.{model_of};
 ghost use Rattle.machine.specs.Answers.{Tells, on_top};
-ghost use Rattle.machine.specs.Blocks.{end_kind, is_imp, new_block};
-ghost use Rattle.machine.specs.Frames.{kind_at, variables_of};
+ghost use Rattle.machine.specs.Blocks.{end_type, is_imp, new_block};
+ghost use Rattle.machine.specs.Frames.{type_at, variables_of};
 ghost use Rattle.machine.specs.Machine.{event_of};
 ghost use Rattle.machine.specs.Outcomes.{Bounds};
 ghost use Rattle.machine.specs.Views.{block_model, blocks_model, frame_model};
@@ -15,11 +15,11 @@ ghost use Rattle.machine.specs.World as seen;
 
 use crate::halts::{Fault, Refusal};
 use crate::heaps::Heap;
-use crate::mentions::kind_at;
+use crate::mentions::type_at;
 use crate::payloads::{are_unsent, lets_payloads_go, payload_addresses};
 use crate::reading::own;
 use crate::worlds::{Block, Frame, Owner};
-use program::{Channel, HeapKind, Mention, Side, StateId};
+use program::{Channel, HeapType, Mention, Side, StateId};
 use rules::Program;
 use std::alloc::Global;
 use std::collections::VecDeque;
@@ -62,9 +62,9 @@ pub(crate) fn new(
     }
     let given = payload_addresses(alloc, frame, making.arguments)?;
     let address = heap.blocks().len();
-    let kind = kind_at(program, frame.method, making.target.variable);
+    let ty = type_at(program, frame.method, making.target.variable);
     frame.list(making.target)?;
-    heap.add(alloc, turn.process, kind, &given)?;
+    heap.add(alloc, turn.process, ty, &given)?;
     lets_payloads_go(&mut frame.variables, making.arguments);
     frame.put(making.target, Some(address));
     frame.point = turn.next;
@@ -87,11 +87,11 @@ fn new_alone(
     ensures same_blocks { OnErr result (blocks_model heap.new.blocks.items ≡ blocks_model heap.old.blocks.items) }
 {
     let address = heap.blocks().len();
-    let kind = kind_at(program, frame.method, target.variable);
+    let ty = type_at(program, frame.method, target.variable);
     frame.list(target)?;
     heap.add_alone(
         turn.process,
-        new_block(alloc, turn.process, kind, 0, StateId(0)),
+        new_block(alloc, turn.process, ty, 0, StateId(0)),
     )?;
     frame.put(target, Some(address));
     frame.point = turn.next;
@@ -124,24 +124,24 @@ pub(crate) fn delete(
 }
 
 /// Whether it is an importing end.
-fn is_imp(kind: HeapKind) -> bool
-    ensures { result ≡ is_imp kind }
+fn is_imp(ty: HeapType) -> bool
+    ensures { result ≡ is_imp ty }
 {
-    match kind {
-        HeapKind::Endpoint { side, .. } => match side {
+    match ty {
+        HeapType::Endpoint { side, .. } => match side {
             Side::Imp => true,
             Side::Exp => false,
         },
-        HeapKind::Struct(_) | HeapKind::Array(_) => false,
+        HeapType::Struct(_) | HeapType::Array(_) => false,
     }
 }
 
 /// A new block of a process, with an empty queue and without owning fields.
-fn new_block(alloc: Global, process: usize, kind: HeapKind, peer: usize, state: StateId) -> Block
-    ensures { block_model result ≡ new_block kind process peer state.0 [] }
+fn new_block(alloc: Global, process: usize, ty: HeapType, peer: usize, state: StateId) -> Block
+    ensures { block_model result ≡ new_block ty process peer state.0 [] }
 {
     Block {
-        kind,
+        ty,
         owner: Owner::Process(process),
         peer,
         state,
@@ -150,11 +150,11 @@ fn new_block(alloc: Global, process: usize, kind: HeapKind, peer: usize, state: 
     }
 }
 
-/// The kind of an end of a channel.
-fn end_kind(channel: Channel, side: Side) -> HeapKind
-    ensures { result ≡ end_kind channel side }
+/// The type of an end of a channel.
+fn end_type(channel: Channel, side: Side) -> HeapType
+    ensures { result ≡ end_type channel side }
 {
-    HeapKind::Endpoint {
+    HeapType::Endpoint {
         contract: channel.contract,
         side,
         state: StateId(0),
@@ -170,8 +170,8 @@ fn open(
     state: StateId,
 ) -> Result<(), Refusal>
     ensures opened { OnOk result (blocks_model heap.new.blocks.items ≡ blocks_model heap.old.blocks.items
-        ++ new_block (end_kind channel Imp) process (length (blocks_model heap.old.blocks.items) + 1) state.0 []
-        ∷ new_block (end_kind channel Exp) process (length (blocks_model heap.old.blocks.items)) state.0 [] ∷ []) }
+        ++ new_block (end_type channel Imp) process (length (blocks_model heap.old.blocks.items) + 1) state.0 []
+        ∷ new_block (end_type channel Exp) process (length (blocks_model heap.old.blocks.items)) state.0 [] ∷ []) }
     ensures same { OnErr result (blocks_model heap.new.blocks.items ≡ blocks_model heap.old.blocks.items) }
     ensures memory { IfErr result (λ refusal. refusal ≡ Refusal.Memory) }
 {
@@ -179,11 +179,11 @@ fn open(
     let imp = new_block(
         alloc,
         process,
-        end_kind(channel, Side::Imp),
+        end_type(channel, Side::Imp),
         address + 1,
         state,
     );
-    let exp = new_block(alloc, process, end_kind(channel, Side::Exp), address, state);
+    let exp = new_block(alloc, process, end_type(channel, Side::Exp), address, state);
     heap.add_two(process, imp, exp)
 }
 
@@ -204,7 +204,7 @@ pub(crate) fn new_channel(
 {
     let address = heap.blocks().len();
     let state = program.first_state(channel.contract);
-    let first_is_imp = is_imp(kind_at(program, frame.method, channel.first.variable));
+    let first_is_imp = is_imp(type_at(program, frame.method, channel.first.variable));
     frame.list(channel.first)?;
     frame.list(channel.second)?;
     open(alloc, heap, turn.process, channel, state)?;

@@ -6,7 +6,7 @@ ghost use Rattle.machine.specs.Views.{blocks_model};
 ghost use Rattle.machine.specs.World.{block_at, cut_off, freed, is_freed, is_own_in, is_process, is_queue};
 
 use crate::worlds::{Block, Owner};
-use program::{HeapKind, MessageId, StateId, StructId};
+use program::{HeapType, MessageId, StateId, StructId};
 
 impl Owner {
     /// Whether it is this process.
@@ -77,12 +77,12 @@ pub(crate) fn peer_of(blocks: &[Block], a: usize) -> usize
 }
 
 /// What the block at an address is.
-pub(crate) fn kind_of(blocks: &[Block], a: usize) -> HeapKind
-    ensures { result ≡ (block_at (blocks_model blocks.now) a).kind }
+pub(crate) fn type_of(blocks: &[Block], a: usize) -> HeapType
+    ensures { result ≡ (block_at (blocks_model blocks.now) a).ty }
 {
     match blocks.get(a) {
-        Some(block) => block.kind,
-        None => HeapKind::Struct(StructId(0)),
+        Some(block) => block.ty,
+        None => HeapType::Struct(StructId(0)),
     }
 }
 

@@ -2,7 +2,7 @@
 
 use crate::heaps::Heap;
 use crate::variables::Variables;
-use program::{HeapKind, MessageId, MethodId, StateId};
+use program::{HeapType, MessageId, MethodId, StateId};
 use std::collections::VecDeque;
 
 /// Who has a block.
@@ -31,7 +31,7 @@ pub struct Held {
 /// the addresses that the owning fields of a struct hold, in order.
 #[derive(Drop)]
 pub struct Block {
-    pub kind: HeapKind,
+    pub ty: HeapType,
     pub owner: Owner,
     pub peer: usize,
     pub state: StateId,

@@ -10,13 +10,13 @@ use Rattle.tree.specs.Operators.{Operators, below}
 use Rattle.tree.specs.Expressions.{LevelTree, AtomTree, StepOf, Chain, Unary}
 use Rattle.tree.specs.Factors.{step_sequence}
 use Rattle.tree.specs.declared.expression.Prefix.{Prefix}
-use Rattle.names.specs.Expressions.{InScope, kind_of, place_of, signed_kind, sign_asked}
+use Rattle.names.specs.Expressions.{InScope, type_of, place_of, signed_type, sign_asked}
 use Rattle.declarations.specs.Mistakes.{Adds}
-use Rattle.declarations.specs.Kinds.{is_unknown}
+use Rattle.declarations.specs.Types.{is_unknown}
 use Rattle.names.specs.Operands.{IsJudged, Judges, IsJoined, IsSigned}
 use Rattle.names.specs.Shapes.{Shape, Joined, Joint, Signed, joint_of, sign_of, signed, shape, joined, atom_shape}
-use Rattle.declarations.specs.declared.kinds.ValueKind.{ValueKind}
-use Rattle.declarations.specs.declared.kinds.ValueKind.TheVariants as kind
+use Rattle.declarations.specs.declared.value_type.ValueType.{ValueType}
+use Rattle.declarations.specs.declared.value_type.ValueType.TheVariants as ty
 use Rattle.names.specs.declared.operands.Operand.{Operand}
 use Rattle.declarations.specs.declared.scope.Scope.{Scope}
 use Rattle.names.specs.declared.variables.Variables.{Variables}
@@ -24,36 +24,36 @@ use Rattle.declarations.proofs.AddLemmas.{adds_then}
 
 -- what an expression is judged to be
 abbrev judged_as : InScope → Shape → Operand
-judged_as s e = record { kind = kind_of s e; place = place_of e }
+judged_as s e = record { ty = type_of s e; place = place_of e }
 
-is_judged_as : (s : InScope) (e : Shape) (o : Operand) → o.kind ≡ kind_of s e → o.place ≡ place_of e → o ≡ judged_as s e
-is_judged_as s e o kind-is place-is =
-    let operand : ValueKind → Place → Operand = λ k p. record { kind = k; place = p } in
-    ap (λ k. operand k o.place) kind-is ∙ ap (operand (kind_of s e)) place-is
+is_judged_as : (s : InScope) (e : Shape) (o : Operand) → o.ty ≡ type_of s e → o.place ≡ place_of e → o ≡ judged_as s e
+is_judged_as s e o ty-is place-is =
+    let operand : ValueType → Place → Operand = λ k p. record { ty = k; place = p } in
+    ap (λ k. operand k o.place) ty-is ∙ ap (operand (type_of s e)) place-is
 
 -- two operands that are joined, by the expressions that they are
-pub joined_shapes : (s : InScope) (joint : Joint) (l r : Shape) {more new : List Mistake} {left right o : Operand} → left.kind ≡ kind_of s l → left.place ≡ place_of l → right.kind ≡ kind_of s r → right.place ≡ place_of r → IsJoined joint left right more new o → IsJoined joint (judged_as s l) (judged_as s r) more new o
-joined_shapes s joint l r {more = more} {new = new} {left = left} {right = right} {o = o} left-kind left-place right-kind right-place both =
-    subst (λ a. IsJoined joint a (judged_as s r) more new o) (is_judged_as s l left left-kind left-place)
-    (subst (λ b. IsJoined joint left b more new o) (is_judged_as s r right right-kind right-place) both)
+pub joined_shapes : (s : InScope) (joint : Joint) (l r : Shape) {more new : List Mistake} {left right o : Operand} → left.ty ≡ type_of s l → left.place ≡ place_of l → right.ty ≡ type_of s r → right.place ≡ place_of r → IsJoined joint left right more new o → IsJoined joint (judged_as s l) (judged_as s r) more new o
+joined_shapes s joint l r {more = more} {new = new} {left = left} {right = right} {o = o} left-ty left-place right-ty right-place both =
+    subst (λ a. IsJoined joint a (judged_as s r) more new o) (is_judged_as s l left left-ty left-place)
+    (subst (λ b. IsJoined joint left b more new o) (is_judged_as s r right right-ty right-place) both)
 
 judged_joined : (s : InScope) (joint : Joint) (l r : Shape) {old mid more new : List Mistake} {left right o : Operand} → IsJudged s l old mid left → IsJudged s r mid more right → IsJoined joint left right more new o → IsJudged s (Joined joint l r) old new o
 judged_joined s joint l r first second both =
-    let asked = joined_shapes s joint l r first.kind first.place second.kind second.place both in
+    let asked = joined_shapes s joint l r first.ty first.place second.ty second.place both in
     record {
-      kind = asked.kind;
+      ty = asked.ty;
       place = asked.place;
       found = adds_then first.found (adds_then second.found asked.found);
     }
 
 judged_signed : (s : InScope) (p : Prefix) (e : Shape) {old mid new : List Mistake} {inner o : Operand} → IsJudged s e old mid inner → IsSigned (sign_of p.operator) p.span.place inner mid new o → IsJudged s (Signed (sign_of p.operator) p.span.place e) old new o
 judged_signed s p e {mid = mid} {new = new} {inner = inner} first sign =
-    let unknown : ValueKind → ValueKind = λ k. if is_unknown k then kind.Unknown else signed_kind (sign_of p.operator) in
+    let unknown : ValueType → ValueType = λ k. if is_unknown k then ty.Unknown else signed_type (sign_of p.operator) in
     record {
-      kind = sign.kind ∙ ap unknown first.kind;
+      ty = sign.ty ∙ ap unknown first.ty;
       place = sign.at;
       found = adds_then first.found
-          (subst (Adds mid new) (ap (λ k. sign_asked (sign_of p.operator) k inner.place) first.kind ∙ ap (sign_asked (sign_of p.operator) (kind_of s e)) first.place) sign.found);
+          (subst (Adds mid new) (ap (λ k. sign_asked (sign_of p.operator) k inner.place) first.ty ∙ ap (sign_asked (sign_of p.operator) (type_of s e)) first.place) sign.found);
     }
 
 -- one more part of a chain

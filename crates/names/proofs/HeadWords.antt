@@ -16,15 +16,15 @@ use Rattle.tree.specs.declared.statement as made
 use Rattle.tree.specs.declared.statement.Awaited.{Awaited}
 use Rattle.tree.specs.declared.statement.Awaited.TheVariants.{Message, Closed}
 use Rattle.names.specs.Bodies.{head_of, heads_of}
-use Rattle.names.specs.Cases.{Head, same_name, same_awaited, is_closed, awaited_span, twice_mistakes, kind_head_mistakes, other_head_mistakes, awaits_too, names_endpoint, awaits_closed}
+use Rattle.names.specs.Cases.{Head, same_name, same_awaited, is_closed, awaited_span, twice_mistakes, type_head_mistakes, other_head_mistakes, awaits_too, names_endpoint, awaits_closed}
 use Rattle.names.specs.Expressions.{InScope}
 use Rattle.declarations.specs.declared.mistake.Mistake.{Mistake}
 use Rattle.declarations.specs.declared.mistake.Mistake.TheVariants.{CaseTwice}
 use Rattle.declarations.specs.Mistakes.{Adds}
-use Rattle.declarations.specs.Kinds.{is_silent}
-use Rattle.declarations.specs.declared.kinds.ValueKind.{ValueKind}
-use Rattle.declarations.specs.declared.kinds.ValueKind.TheVariants as kind
-use Rattle.program.specs.declared.kind.Side.{Side}
+use Rattle.declarations.specs.Types.{is_silent}
+use Rattle.declarations.specs.declared.value_type.ValueType.{ValueType}
+use Rattle.declarations.specs.declared.value_type.ValueType.TheVariants as ty
+use Rattle.program.specs.declared.types.Side.{Side}
 use Rattle.names.specs.Heads.{awaiting_of, awaited_word, key_words, head_words, same_message, same_key, key_at, is_before, switch_heads}
 use Rattle.lemmas.specs.Places.{first_position}
 use Rattle.tables.specs.Words.{word_at, words_at, same_word}
@@ -146,13 +146,13 @@ switch_heads_are s =
     ∙ mapped head_of case_tree (made.Switch.out-Switch s).others.items)
 
 -- a case on what is no endpoint
-pub no_endpoint : (s : InScope) (all earlier : List Head) (k : ValueKind) (h : Head) → ((end : Side) (n : ℕ) → k ≡ kind.Endpoint end n → ⊥) → kind_head_mistakes s all earlier k h ≡ (if is_silent k then [] else other_head_mistakes k h)
-no_endpoint s all earlier (kind.Scalar t) h other = refl
-no_endpoint s all earlier (kind.Pointer n) h other = refl
-no_endpoint s all earlier (kind.Array t) h other = refl
-no_endpoint s all earlier (kind.Endpoint end n) h other = absurd (other end n refl)
-no_endpoint s all earlier kind.Missing h other = refl
-no_endpoint s all earlier kind.Unknown h other = refl
+pub no_endpoint : (s : InScope) (all earlier : List Head) (k : ValueType) (h : Head) → ((end : Side) (n : ℕ) → k ≡ ty.Endpoint end n → ⊥) → type_head_mistakes s all earlier k h ≡ (if is_silent k then [] else other_head_mistakes k h)
+no_endpoint s all earlier (ty.Scalar t) h other = refl
+no_endpoint s all earlier (ty.Pointer n) h other = refl
+no_endpoint s all earlier (ty.Array t) h other = refl
+no_endpoint s all earlier (ty.Endpoint end n) h other = absurd (other end n refl)
+no_endpoint s all earlier ty.Missing h other = refl
+no_endpoint s all earlier ty.Unknown h other = refl
 
 -- what is told unless it is so
 pub told_unless : {X : Type 0} (b : Bool) (xs : List X) → (if not b then xs else []) ≡ (if b then [] else xs)

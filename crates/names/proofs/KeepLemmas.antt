@@ -12,7 +12,7 @@ use Rattle.names.specs.Bodies.{Surroundings, statement_turn, statements_turn, bl
 use Rattle.names.specs.Cases.{Head, typed_turn, bind_turn, binds_turn}
 use Rattle.declarations.specs.Program.{Program}
 use Rattle.names.specs.Variables.{Variable, Frame, variable_named, declared_variable}
-use Rattle.declarations.specs.declared.kinds.ValueKind.{ValueKind}
+use Rattle.declarations.specs.declared.value_type.ValueType.{ValueType}
 
 pub record Extends (f g : Frame) : Type 0 where
   pub more : List Variable
@@ -31,10 +31,10 @@ one_more : (b : Bool) (vs : List Variable) (v : Variable) → (if b then vs else
 one_more true vs v = sym (append-nil vs)
 one_more false vs v = refl
 
-declared_extends : (text : List ℕ) (name : Span) (kind : ValueKind) (heap : Bool) (f : Frame) → Extends f (declared_variable text name kind heap f).frame
-declared_extends text name kind heap f = record {
-  more = if is_some (variable_named text f.variables name) then [] else record { name = name; kind = kind } ∷ [];
-  is = one_more (is_some (variable_named text f.variables name)) f.variables (record { name = name; kind = kind });
+declared_extends : (text : List ℕ) (name : Span) (ty : ValueType) (heap : Bool) (f : Frame) → Extends f (declared_variable text name ty heap f).frame
+declared_extends text name ty heap f = record {
+  more = if is_some (variable_named text f.variables name) then [] else record { name = name; ty = ty } ∷ [];
+  is = one_more (is_some (variable_named text f.variables name)) f.variables (record { name = name; ty = ty });
 }
 
 block_same : (m : Surroundings) (b : BlockTree) (f : Frame) → (block_turn m b f).frame.variables ≡ f.variables

@@ -3,58 +3,58 @@ use Rattle.std.proofs.Common.{◌≡◌, ℕ, List, Bool, true, false, refl, if�
 use Rattle.std.specs.Option.{option_map_or}
 use Rattle.std.specs.Prelude.{Option, None, Some}
 use Rattle.source.specs.declared.token.Span.{Span}
-use Rattle.program.specs.declared.kind.Scalar.{Scalar}
-use Rattle.program.specs.declared.kind.Side.{Side}
+use Rattle.program.specs.declared.types.Scalar.{Scalar}
+use Rattle.program.specs.declared.types.Side.{Side}
 use Rattle.tree.specs.Trees.{ContractTree, StructTree}
 use Rattle.tree.specs.declared.class as made
 use Rattle.tree.specs.declared.types as type_nodes
 use Rattle.tree.specs.declared.types.Heap.TheVariants as heap
 use Rattle.tree.specs.declared.types.Type.TheVariants as type
 use Rattle.declarations.specs.Declarations.{is_declared, names_of_states, states_of}
-use Rattle.declarations.specs.Kinds.{endpoint_kind, is_heap, pointer_kind, type_kind}
+use Rattle.declarations.specs.Types.{endpoint_type, is_heap, pointer_type, type_meant}
 use Rattle.declarations.specs.Named.{field_named}
 use Rattle.declarations.specs.Program.{Program, as_struct, contract_named, item_at, struct_named}
-use Rattle.declarations.specs.declared.kinds.ValueKind.{ValueKind}
-use Rattle.declarations.specs.declared.kinds.ValueKind.TheVariants as kind
-use Rattle.names.specs.Expressions.{InScope, field_kind, is_owning, owns, struct_field_kind}
+use Rattle.declarations.specs.declared.value_type.ValueType.{ValueType}
+use Rattle.declarations.specs.declared.value_type.ValueType.TheVariants as ty
+use Rattle.names.specs.Expressions.{InScope, field_type, is_owning, owns, struct_field_type}
 
-no_pointer : {X : Type 0} (o : Option (ℕ × X)) (n : Scalar) → pointer_kind o ≡ kind.Scalar n → ⊥
+no_pointer : {X : Type 0} (o : Option (ℕ × X)) (n : Scalar) → pointer_type o ≡ ty.Scalar n → ⊥
 no_pointer None n is = cc
 no_pointer (Some s) n is = cc
 
 no_state : (declared : Bool) (end : Side) (contract : ℕ) (n : Scalar)
-    → (if declared then kind.Endpoint end contract else kind.Unknown) ≡ kind.Scalar n → ⊥
+    → (if declared then ty.Endpoint end contract else ty.Unknown) ≡ ty.Scalar n → ⊥
 no_state true end contract n is = cc
 no_state false end contract n is = cc
 
 no_endpoint : (text : List ℕ) (o : Option (ℕ × ContractTree)) (end : Side) (state : Option Span) (n : Scalar)
-    → endpoint_kind text o end state ≡ kind.Scalar n → ⊥
+    → endpoint_type text o end state ≡ ty.Scalar n → ⊥
 no_endpoint text None end state n is = cc
 no_endpoint text (Some c) end None n is = cc
 no_endpoint text (Some c) end (Some state) n is = no_state (is_declared text (names_of_states (states_of c.1)) state) end c.0 n is
 
-scalar_type : (p : Program) (t : type_nodes.Type.Type) (n : Scalar) → type_kind p t ≡ kind.Scalar n → is_heap t ≡ false
+scalar_type : (p : Program) (t : type_nodes.Type.Type) (n : Scalar) → type_meant p t ≡ ty.Scalar n → is_heap t ≡ false
 scalar_type p (type.Scalar s) n is = refl
 scalar_type p (type.Heap (heap.Pointer name bang)) n is = absurd (no_pointer (struct_named p name) n is)
 scalar_type p (type.Heap (heap.Array element bang)) n is = cc
 scalar_type p (type.Heap (heap.Endpoint contract end state bang in_heap)) n is =
     absurd (no_endpoint p.text (contract_named p contract) end state n is)
 
-scalar_field : (s : InScope) (o : Option made.Field.Field) (n : Scalar) → struct_field_kind s o ≡ kind.Scalar n → is_owning o ≡ false
+scalar_field : (s : InScope) (o : Option made.Field.Field) (n : Scalar) → struct_field_type s o ≡ ty.Scalar n → is_owning o ≡ false
 scalar_field s None n is = refl
 scalar_field s (Some f) n is = scalar_type s.program f.ty n is
 
 scalar_in : (s : InScope) (o : Option (ℕ × StructTree)) (field : Span) (n : Scalar)
-    → option_map_or (λ x. struct_field_kind s (field_named s.program.text x.1 field)) o kind.Unknown ≡ kind.Scalar n
+    → option_map_or (λ x. struct_field_type s (field_named s.program.text x.1 field)) o ty.Unknown ≡ ty.Scalar n
     → option_map_or (λ x. is_owning (field_named s.program.text x.1 field)) o false ≡ false
 scalar_in s None field n is = refl
 scalar_in s (Some x) field n is = scalar_field s (field_named s.program.text x.1 field) n is
 
 -- a field that is a scalar
-pub scalar_owns : (s : InScope) (held : ValueKind) (field : Span) (n : Scalar) → field_kind s held field ≡ kind.Scalar n → owns s held field ≡ false
-scalar_owns s (kind.Scalar t) field n is = refl
-scalar_owns s (kind.Pointer place) field n is = scalar_in s (item_at as_struct s.program place) field n is
-scalar_owns s (kind.Array t) field n is = refl
-scalar_owns s (kind.Endpoint end c) field n is = refl
-scalar_owns s kind.Missing field n is = refl
-scalar_owns s kind.Unknown field n is = refl
+pub scalar_owns : (s : InScope) (held : ValueType) (field : Span) (n : Scalar) → field_type s held field ≡ ty.Scalar n → owns s held field ≡ false
+scalar_owns s (ty.Scalar t) field n is = refl
+scalar_owns s (ty.Pointer place) field n is = scalar_in s (item_at as_struct s.program place) field n is
+scalar_owns s (ty.Array t) field n is = refl
+scalar_owns s (ty.Endpoint end c) field n is = refl
+scalar_owns s ty.Missing field n is = refl
+scalar_owns s ty.Unknown field n is = refl

@@ -11,12 +11,12 @@ use Rattle.declarations.specs.Scopes.{AreMethods, IsClass}
 use Rattle.declarations.specs.declared.members.ClassMethods.{ClassMethods}
 use Rattle.names.specs.Values.{class_meant, Role, send_mistakes, argument_mistakes}
 use Rattle.names.specs.Expressions.{InScope}
-use Rattle.declarations.specs.Kinds.{is_silent, unless}
+use Rattle.declarations.specs.Types.{is_silent, unless}
 use Rattle.names.specs.Shapes.{Shape}
-use Rattle.declarations.specs.declared.kinds.ValueKind.{ValueKind}
-use Rattle.declarations.specs.declared.kinds.ValueKind.TheVariants as kind
+use Rattle.declarations.specs.declared.value_type.ValueType.{ValueType}
+use Rattle.declarations.specs.declared.value_type.ValueType.TheVariants as ty
 use Rattle.source.specs.declared.token.Span.{Span}
-use Rattle.program.specs.declared.kind.Side.{Side}
+use Rattle.program.specs.declared.types.Side.{Side}
 use Rattle.declarations.specs.declared.mistake.Demand.TheVariants as demand
 use Rattle.declarations.specs.declared.mistake.Mismatch.TheVariants.{Given}
 use Rattle.declarations.proofs.AddLemmas.{adds_then}
@@ -30,13 +30,13 @@ class_lacks text None h = refl
 class_lacks text (Some c) h = absurd h
 
 -- a call on what is no endpoint
-pub no_send : (s : InScope) (k : ValueKind) (role : Role) (variable word : Span) (arguments : List Shape) → ((end : Side) (n : ℕ) → k ≡ kind.Endpoint end n → ⊥) → send_mistakes s k role variable word arguments ≡ unless (is_silent k) variable.place (Given demand.Endpoint k) ++ argument_mistakes s [] arguments
-no_send s (kind.Scalar t) role variable word arguments other = refl
-no_send s (kind.Pointer n) role variable word arguments other = refl
-no_send s (kind.Array t) role variable word arguments other = refl
-no_send s (kind.Endpoint end n) role variable word arguments other = absurd (other end n refl)
-no_send s kind.Missing role variable word arguments other = refl
-no_send s kind.Unknown role variable word arguments other = refl
+pub no_send : (s : InScope) (k : ValueType) (role : Role) (variable word : Span) (arguments : List Shape) → ((end : Side) (n : ℕ) → k ≡ ty.Endpoint end n → ⊥) → send_mistakes s k role variable word arguments ≡ unless (is_silent k) variable.place (Given demand.Endpoint k) ++ argument_mistakes s [] arguments
+no_send s (ty.Scalar t) role variable word arguments other = refl
+no_send s (ty.Pointer n) role variable word arguments other = refl
+no_send s (ty.Array t) role variable word arguments other = refl
+no_send s (ty.Endpoint end n) role variable word arguments other = absurd (other end n refl)
+no_send s ty.Missing role variable word arguments other = refl
+no_send s ty.Unknown role variable word arguments other = refl
 
 -- a struct that was looked up, with its fields that own
 abbrev owning_of : Option (ℕ × StructTree) → Option (ℕ × List made.Field.Field)

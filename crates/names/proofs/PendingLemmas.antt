@@ -12,7 +12,7 @@ use Rattle.names.specs.Expressions.{InScope}
 use Rattle.declarations.specs.Mistakes.{Adds}
 use Rattle.names.specs.Shapes.{Shape, shape}
 use Rattle.names.specs.Values.{argument_asked, argument_mistakes, number_of_arguments}
-use Rattle.declarations.specs.declared.kinds.ValueKind.{ValueKind}
+use Rattle.declarations.specs.declared.value_type.ValueType.{ValueType}
 
 -- of all that was to be added, the rest still is
 pub record Pends (old new : List Mistake) (all rest : List Mistake) : Type 0 where
@@ -28,46 +28,46 @@ pends_less {mid = mid} {more = more} {rest = rest} pends adds =
 pub pends_none : {old new : List Mistake} {all : List Mistake} → Pends old new all [] → Adds old new all
 pends_none {new = new} pends = record { all = sym (append-nil new) ∙ sym pends.is }
 
-none_left : (i : ℕ) → drop {A = ValueKind} i [] ≡ []
+none_left : (i : ℕ) → drop {A = ValueType} i [] ≡ []
 none_left zero = refl
 none_left (suc i) = refl
 
 -- an argument, and those behind it
-argument_next : (s : InScope) (kinds : List ValueKind) (es : List Shape) (i : ℕ) (e : Shape) → i < length es → argument_mistakes s (drop i kinds) (drop i es) ≡ argument_asked s (slice_get kinds i) (get_or es i e) ++ argument_mistakes s (drop (suc i) kinds) (drop (suc i) es)
-argument_next s kinds [] i e lt = absurd (omega (arith, lt))
+argument_next : (s : InScope) (types : List ValueType) (es : List Shape) (i : ℕ) (e : Shape) → i < length es → argument_mistakes s (drop i types) (drop i es) ≡ argument_asked s (slice_get types i) (get_or es i e) ++ argument_mistakes s (drop (suc i) types) (drop (suc i) es)
+argument_next s types [] i e lt = absurd (omega (arith, lt))
 argument_next s [] (x ∷ es) zero e lt = refl
-argument_next s (k ∷ kinds) (x ∷ es) zero e lt = refl
-argument_next s [] (x ∷ es) (suc i) e lt = ap (λ kinds. argument_mistakes s kinds (drop i es)) (sym (none_left i)) ∙ argument_next s [] es i e (omega (arith, lt))
-argument_next s (k ∷ kinds) (x ∷ es) (suc i) e lt = argument_next s kinds es i e (omega (arith, lt))
+argument_next s (k ∷ types) (x ∷ es) zero e lt = refl
+argument_next s [] (x ∷ es) (suc i) e lt = ap (λ types. argument_mistakes s types (drop i es)) (sym (none_left i)) ∙ argument_next s [] es i e (omega (arith, lt))
+argument_next s (k ∷ types) (x ∷ es) (suc i) e lt = argument_next s types es i e (omega (arith, lt))
 
--- kinds behind the last argument are not looked at
-pub kinds_enough : (s : InScope) (kinds : List ValueKind) (es : List Shape) → argument_mistakes s (take (length es) kinds) es ≡ argument_mistakes s kinds es
-kinds_enough s kinds [] = refl
-kinds_enough s [] (e ∷ es) = refl
-kinds_enough s (k ∷ kinds) (e ∷ es) = ap (λ l. argument_asked s (Some k) e ++ l) (kinds_enough s kinds es)
+-- types behind the last argument are not looked at
+pub types_enough : (s : InScope) (types : List ValueType) (es : List Shape) → argument_mistakes s (take (length es) types) es ≡ argument_mistakes s types es
+types_enough s types [] = refl
+types_enough s [] (e ∷ es) = refl
+types_enough s (k ∷ types) (e ∷ es) = ap (λ l. argument_asked s (Some k) e ++ l) (types_enough s types es)
 
 -- an argument in memory, and those behind it
-pub argument_less : {X : Type 0} {old mid new : List Mistake} {all : List Mistake} (tree : X → ExpressionTree) (s : InScope) (kinds : List ValueKind) (xs : List X) (i : ℕ) (x : X) (k : Option ValueKind)
-    → i < length xs → x ≡ get_or xs i x → k ≡ slice_get kinds i
-    → Pends old mid all (argument_mistakes s (drop i kinds) (drop i (map shape (map tree xs))))
+pub argument_less : {X : Type 0} {old mid new : List Mistake} {all : List Mistake} (tree : X → ExpressionTree) (s : InScope) (types : List ValueType) (xs : List X) (i : ℕ) (x : X) (k : Option ValueType)
+    → i < length xs → x ≡ get_or xs i x → k ≡ slice_get types i
+    → Pends old mid all (argument_mistakes s (drop i types) (drop i (map shape (map tree xs))))
     → Adds mid new (argument_asked s k (shape (tree x)))
-    → Pends old new all (argument_mistakes s (drop (i + 1) kinds) (drop (i + 1) (map shape (map tree xs))))
-argument_less {old = old} {mid = mid} {new = new} {all = all} tree s kinds xs i x k lt is at pends adds =
+    → Pends old new all (argument_mistakes s (drop (i + 1) types) (drop (i + 1) (map shape (map tree xs))))
+argument_less {old = old} {mid = mid} {new = new} {all = all} tree s types xs i x k lt is at pends adds =
     let es : List Shape = map shape (map tree xs) in
-    let rest = argument_mistakes s (drop (i + 1) kinds) (drop (i + 1) es) in
+    let rest = argument_mistakes s (drop (i + 1) types) (drop (i + 1) es) in
     let here : get_or es i (shape (tree x)) ≡ shape (tree x) = get_or-map shape (map tree xs) i (tree x) ∙ ap shape (get_or-map tree xs i x ∙ ap tree (sym is)) in
     let less : i < length es = omega (arith, lt, length-map (map tree xs) (shape {l = Joined Or}), length-map xs tree) in
-    let next = argument_next s kinds es i (shape (tree x)) less
-    ∙ ap (λ n. argument_asked s (slice_get kinds i) (get_or es i (shape (tree x))) ++ argument_mistakes s (drop n kinds) (drop n es)) (sym (add-one i))
-    ∙ ap (λ e. argument_asked s (slice_get kinds i) e ++ rest) here ∙ ap (λ o. argument_asked s o (shape (tree x)) ++ rest) (sym at) in
+    let next = argument_next s types es i (shape (tree x)) less
+    ∙ ap (λ n. argument_asked s (slice_get types i) (get_or es i (shape (tree x))) ++ argument_mistakes s (drop n types) (drop n es)) (sym (add-one i))
+    ∙ ap (λ e. argument_asked s (slice_get types i) e ++ rest) here ∙ ap (λ o. argument_asked s o (shape (tree x)) ++ rest) (sym at) in
     pends_less (subst (Pends old mid all) next pends) adds
 
--- kinds of as many parameters as there are arguments
-pub enough_kinds : {X Y : Type 0} (tree : X → ExpressionTree) (kind : Y → ValueKind) (s : InScope) (params : List Y) (xs : List X) → argument_mistakes s (map kind (take (length xs) params)) (map shape (map tree xs)) ≡ argument_mistakes s (map kind params) (map shape (map tree xs))
-enough_kinds tree kind s params xs =
+-- types of as many parameters as there are arguments
+pub enough_types : {X Y : Type 0} (tree : X → ExpressionTree) (ty : Y → ValueType) (s : InScope) (params : List Y) (xs : List X) → argument_mistakes s (map ty (take (length xs) params)) (map shape (map tree xs)) ≡ argument_mistakes s (map ty params) (map shape (map tree xs))
+enough_types tree ty s params xs =
     let es : List Shape = map shape (map tree xs) in
     let size : length es ≡ length xs = length-map (map tree xs) (shape {l = Joined Or}) ∙ length-map xs tree in
-    ap (λ kinds. argument_mistakes s kinds es) (sym (take-map kind (length xs) params) ∙ ap (λ n. take n (map kind params)) (sym size)) ∙ kinds_enough s (map kind params) es
+    ap (λ types. argument_mistakes s types es) (sym (take-map ty (length xs) params) ∙ ap (λ n. take n (map ty params)) (sym size)) ∙ types_enough s (map ty params) es
 
 -- as many arguments as there are expressions
 pub numbered : {X Y : Type 0} {old new : List Mistake} (tree : X → ExpressionTree) (params : List Y) (n : ℕ) (xs : List X) (place : Place) → n ≡ length params → Adds old new (if n == length xs then [] else WrongNumber place n (length xs) ∷ []) → Adds old new (number_of_arguments params (map (shape {l = Joined Or}) (map tree xs)) place)

@@ -1,4 +1,4 @@
--- A row of factors, judged from the left, is the sum of terms that it is as a tree.
+-- A sequence of factors, judged from the left, is the sum of terms that it is as a tree.
 use Rattle.std.proofs.Common.{◌≡◌, ℕ, ◌+◌, ◌<◌, ◌≤◌, List, [], ◌∷◌, ◌++◌, length, map, take, get_or, sym, refl, ap, ◌∙◌, subst, append_assoc}
 use Rattle.std.specs.Prelude.{Option, Some, None, IfOk, Result, Ok, Err}
 use Rattle.std.proofs.lemmas.List.{take_more, take_all, map-append}
@@ -57,10 +57,10 @@ judges_first e made first = record { all = λ p f is_scope is_frame. made _ e _ 
 judged_times : (s : InScope) (t : TermShapes) (e : Shape) {old mid more new : List Mistake} {terms : Terms} {right o : Operand} → IsJudgedTerms s t old mid terms → IsJudged s e mid more right → IsJoined Sum terms.last right more new o
     → IsJudgedTerms s (record { before = t.before; last = Joined Sum t.last e }) old new (record { before = terms.before; last = o })
 judged_times s t e {old = old} {new = new} first second both =
-    let asked = joined_shapes s Sum t.last e first.kind first.place second.kind second.place both in
+    let asked = joined_shapes s Sum t.last e first.ty first.place second.ty second.place both in
     record {
       before = first.before;
-      kind = asked.kind;
+      ty = asked.ty;
       place = asked.place;
       found = subst (Adds old new) (append_assoc (before_mistakes s t.before) (expression_mistakes s t.last) _) (adds_then first.found (adds_then second.found asked.found));
     }
@@ -83,10 +83,10 @@ judges_next t f operator sign tree {scope = scope} {variables = variables} {old 
       all = λ p g is_scope is_frame.
           let all = joined _ t old (first.all p g is_scope is_frame) in
           let one = second.all p g is_scope is_frame in
-          record { before = (all.kind, all.place); kind = one.kind; place = one.place; found = adds_then all.found one.found };
+          record { before = (all.ty, all.place); ty = one.ty; place = one.place; found = adds_then all.found one.found };
     })
 
--- a row of factors as far as it was judged
+-- a sequence of factors as far as it was judged
 abbrev pub factors_to : {X : Type 0} → (X → FactorTree) → TermShapes → List X → ℕ → TermShapes
 factors_to f t xs i = with_factors t (map f (take i xs))
 

@@ -17,8 +17,8 @@ use Rattle.tables.specs.Tables.{IsTable}
 use Rattle.names.specs.Variables as model
 use Rattle.names.specs.Variables.{Frame, Turn, turn, variable_named, entered_variable, past_heap, declared_variable}
 use Rattle.tables.specs.Words.{word_at, words_at, same_word}
-use Rattle.declarations.specs.declared.kinds.ValueKind.{ValueKind}
-use Rattle.declarations.specs.declared.kinds.ValueKind.TheVariants as kind
+use Rattle.declarations.specs.declared.value_type.ValueType.{ValueType}
+use Rattle.declarations.specs.declared.value_type.ValueType.TheVariants as ty
 use Rattle.names.specs.declared.variables.Variable.{Variable}
 use Rattle.names.specs.declared.variables.Variables.{Variables}
 use Rattle.tables.proofs.FirstLemmas.{apart_more, last_lacked}
@@ -39,8 +39,8 @@ pub variable_found : (text : List ℕ) (f : Frame) (v : Variables) (name : Span)
     → option_map variable_model (option_and_then (slice_get v.list.items) place) ≡ variable_named text f.variables name
 variable_found text f v name place h is = named_at text f v h place ∙ ap (option_and_then (slice_get f.variables)) is
 
-here : Span → ValueKind → model.Variable
-here name k = record { name = name; kind = k }
+here : Span → ValueType → model.Variable
+here name k = record { name = name; ty = k }
 
 some_there : (text : List ℕ) (variables : List model.Variable) (name : Span) (o : Option ℕ) → first_of (words_in text variables) (word_at text name) ≡ o → is_some (option_and_then (slice_get variables) o) ≡ is_some o
 some_there text variables name None is = refl
@@ -48,30 +48,30 @@ some_there text variables name (Some k) is =
     let at = position-Some (same_word (word_at text name)) (words_in text variables) k [] is in
     let many = length-map (map (λ (x : model.Variable). x.name) variables) (word_at text) ∙ length-map variables (λ (x : model.Variable). x.name) in
     let lt : k < length variables = omega (arith, at.0, many) in
-    ap is_some (slice_get-get_or variables k (here name kind.Unknown) lt)
+    ap is_some (slice_get-get_or variables k (here name ty.Unknown) lt)
 
 -- a variable of a name is in scope where the name is among theirs
 pub is_named : (text : List ℕ) (variables : List model.Variable) (name : Span) → is_some (variable_named text variables name) ≡ is_some (first_of (words_in text variables) (word_at text name))
 is_named text variables name = some_there text variables name (first_of (words_in text variables) (word_at text name)) refl
 
-abbrev entered_by : Option model.Variable → Span → ValueKind → Frame → Turn
+abbrev entered_by : Option model.Variable → Span → ValueType → Frame → Turn
 entered_by known name k f = turn (twice name (option_map (λ v. v.name) known))
-    (record { variables = if is_some known then f.variables else f.variables ++ record { name = name; kind = k } ∷ []; heap = f.heap })
+    (record { variables = if is_some known then f.variables else f.variables ++ record { name = name; ty = k } ∷ []; heap = f.heap })
 
 -- a new name
-pub entered_new : (text : List ℕ) (f : Frame) (v w : Variables) (name : Span) (k : ValueKind) (word : List ℕ) (old : List Mistake) → IsFrame text f v → word ≡ word_at text name
+pub entered_new : (text : List ℕ) (f : Frame) (v w : Variables) (name : Span) (k : ValueType) (word : List ℕ) (old : List Mistake) → IsFrame text f v → word ≡ word_at text name
     → None ≡ variable_named text f.variables name
     → ((words : List (List ℕ)) → IsTable words v.names → first_of words word ≡ None → IsTable (words ++ word ∷ []) w.names)
-    → w.list.items ≡ v.list.items ++ record { name = name; kind = k } ∷ [] → w.heap ≡ v.heap → Turned text old old w (entered_variable text name k f)
+    → w.list.items ≡ v.list.items ++ record { name = name; ty = k } ∷ [] → w.heap ≡ v.heap → Turned text old old w (entered_variable text name k f)
 entered_new text f v w name k word old h at unnamed table list heap =
     let words = words_in text f.variables in
     let none : first_of words (word_at text name) ≡ None = none_is (first_of words (word_at text name)) (sym (is_named text f.variables name) ∙ ap is_some (sym unnamed)) in
     let found_none : first_of words word ≡ None = subst (λ x. first_of words x ≡ None) (sym at) none in
-    let more = words_push text f.variables (record { name = name; kind = k }) in
+    let more = words_push text f.variables (record { name = name; ty = k }) in
     subst (λ o. Turned text old old w (entered_by o name k f)) unnamed (record {
       found = adds_none old;
       frame = record {
-        list = ap (map variable_model) list ∙ map-append variable_model v.list.items (record { name = name; kind = k } ∷ []) ∙ ap (λ l. l ++ record { name = name; kind = k } ∷ []) h.list;
+        list = ap (map variable_model) list ∙ map-append variable_model v.list.items (record { name = name; ty = k } ∷ []) ∙ ap (λ l. l ++ record { name = name; ty = k } ∷ []) h.list;
         names = subst (λ l. IsTable l w.names) (sym more) (subst (λ x. IsTable (words ++ x ∷ []) w.names) at (table words h.names found_none));
         apart = subst IsApart (sym more) ((apart_more words (word_at text name) none).0 h.apart);
         heap = heap ∙ h.heap;
@@ -79,7 +79,7 @@ entered_new text f v w name k word old h at unnamed table list heap =
     })
 
 -- one of the exchange heap is counted, and comes into scope
-pub declared_counted : (text : List ℕ) (f : Frame) (v : Variables) (name : Span) (k : ValueKind) (heap : Bool) (old mid new : List Mistake) (r : Result (Unit {0}) Memory) → heap ≡ true → Adds old mid (past_heap name f.heap)
+pub declared_counted : (text : List ℕ) (f : Frame) (v : Variables) (name : Span) (k : ValueType) (heap : Bool) (old mid new : List Mistake) (r : Result (Unit {0}) Memory) → heap ≡ true → Adds old mid (past_heap name f.heap)
     → OnOk r (Turned text mid new v (entered_variable text name k (record { variables = f.variables; heap = f.heap + 1 }))) → OnOk r (Turned text old new v (declared_variable text name k heap f))
 declared_counted text f v name k heap old mid new (Err e) is first second = tt
 declared_counted text f v name k heap old mid new (Ok u) is first second =

@@ -1,25 +1,25 @@
--- The kind of an expression, and what is wrong with the names and kinds in it.
+-- The type of an expression, and what is wrong with the names and types in it.
 use Rattle.std.specs.Prelude.{Bool, false, ◌||◌, not, List, [], ◌∷◌, ◌++◌, codes, length, if◌then◌else◌}
 use Rattle.std.specs.Prelude.{Option, None, Some, is_some}
 use Rattle.std.specs.Option.{option_map_or}
 use Rattle.source.specs.declared.place.Place.{Place}
 use Rattle.source.specs.declared.token.Span.{Span}
-use Rattle.program.specs.declared.kind.Scalar.TheVariants as scalar
+use Rattle.program.specs.declared.types.Scalar.TheVariants as scalar
 use Rattle.declarations.specs.declared.mistake.Mistake.{Mistake}
 use Rattle.declarations.specs.declared.mistake.Mistake.TheVariants.{Unknown}
 use Rattle.declarations.specs.declared.mistake.NameSort.TheVariants as sort
 use Rattle.declarations.specs.declared.mistake.Demand.TheVariants as demand
 use Rattle.declarations.specs.declared.mistake.Mismatch.TheVariants.{Given, FieldOwns}
 use Rattle.declarations.specs.Named.{field_named}
-use Rattle.declarations.specs.Kinds.{is_silent, is_unknown, is_number, is_truth, is_block, is_heap, type_kind, unless}
+use Rattle.declarations.specs.Types.{is_silent, is_unknown, is_number, is_truth, is_block, is_heap, type_meant, unless}
 use Rattle.declarations.specs.Program.{Program, as_struct, item_at}
 use Rattle.names.specs.Shapes.{Shape, Number, Truth, Mention, Field, Element, Parens, Signed}
 use Rattle.names.specs.Shapes.{Joined, Joint, Logic, Likeness, Sum, Sign, Denial, Minus}
 use Rattle.tree.specs.declared.class as made
 use Rattle.names.specs.Variables.{Variable, variable_named}
 use Rattle.tables.specs.Words.{word_at, same_word}
-use Rattle.declarations.specs.declared.kinds.ValueKind.{ValueKind}
-use Rattle.declarations.specs.declared.kinds.ValueKind.TheVariants as kind
+use Rattle.declarations.specs.declared.value_type.ValueType.{ValueType}
+use Rattle.declarations.specs.declared.value_type.ValueType.TheVariants as ty
 
 -- what is in scope: a program, and variables
 pub record InScope : Type 0 where
@@ -44,10 +44,10 @@ place_of (Parens place inner) = place
 place_of (Signed sign place inner) = place
 place_of (Joined joint left right) = place_of left
 
--- the kind of a field of what a variable holds; of an array there is the length alone
-abbrev pub struct_field_kind : InScope → Option made.Field.Field → ValueKind
-struct_field_kind s None = kind.Unknown
-struct_field_kind s (Some f) = type_kind s.program f.ty
+-- the type of a field of what a variable holds; of an array there is the length alone
+abbrev pub struct_field_type : InScope → Option made.Field.Field → ValueType
+struct_field_type s None = ty.Unknown
+struct_field_type s (Some f) = type_meant s.program f.ty
 
 -- A field owns where it is of a type of the exchange heap, whether the names in that are declared or not.
 abbrev pub is_owning : Option made.Field.Field → Bool
@@ -55,74 +55,74 @@ is_owning None = false
 is_owning (Some f) = is_heap f.ty
 
 -- whether a field of what a variable holds owns
-abbrev pub owns : InScope → ValueKind → Span → Bool
-owns s (kind.Pointer n) field = option_map_or (λ x. is_owning (field_named s.program.text x.1 field)) (item_at as_struct s.program n) false
+abbrev pub owns : InScope → ValueType → Span → Bool
+owns s (ty.Pointer n) field = option_map_or (λ x. is_owning (field_named s.program.text x.1 field)) (item_at as_struct s.program n) false
 owns s _ field = false
 
-abbrev pub field_kind : InScope → ValueKind → Span → ValueKind
-field_kind s (kind.Array element) field = if is_length s field then kind.Scalar scalar.Int else kind.Unknown
-field_kind s (kind.Pointer n) field =
-    option_map_or (λ x. struct_field_kind s (field_named s.program.text x.1 field)) (item_at as_struct s.program n) kind.Unknown
-field_kind s kind.Unknown field = kind.Unknown
-field_kind s _ field = kind.Missing
+abbrev pub field_type : InScope → ValueType → Span → ValueType
+field_type s (ty.Array element) field = if is_length s field then ty.Scalar scalar.Int else ty.Unknown
+field_type s (ty.Pointer n) field =
+    option_map_or (λ x. struct_field_type s (field_named s.program.text x.1 field)) (item_at as_struct s.program n) ty.Unknown
+field_type s ty.Unknown field = ty.Unknown
+field_type s _ field = ty.Missing
 
--- the kind of an element, where the index is built on an unknown name or not
-abbrev pub element_kind : ValueKind → Bool → ValueKind
-element_kind kind.Unknown lost = kind.Unknown
-element_kind (kind.Array element) lost = if lost then kind.Unknown else kind.Scalar element
-element_kind _ lost = if lost then kind.Unknown else kind.Missing
+-- the type of an element, where the index is built on an unknown name or not
+abbrev pub element_type : ValueType → Bool → ValueType
+element_type ty.Unknown lost = ty.Unknown
+element_type (ty.Array element) lost = if lost then ty.Unknown else ty.Scalar element
+element_type _ lost = if lost then ty.Unknown else ty.Missing
 
--- the kind of what is meant by a name; of a name that nothing declares it is unknown
-abbrev pub held : Option Variable → ValueKind
-held None = kind.Unknown
-held (Some v) = v.kind
+-- the type of what is meant by a name; of a name that nothing declares it is unknown
+abbrev pub held : Option Variable → ValueType
+held None = ty.Unknown
+held (Some v) = v.ty
 
-abbrev pub joined_kind : Joint → ValueKind
-joined_kind Sum = kind.Scalar scalar.Int
-joined_kind _ = kind.Scalar scalar.Bool
+abbrev pub joined_type : Joint → ValueType
+joined_type Sum = ty.Scalar scalar.Int
+joined_type _ = ty.Scalar scalar.Bool
 
-abbrev pub signed_kind : Sign → ValueKind
-signed_kind Denial = kind.Scalar scalar.Bool
-signed_kind Minus = kind.Scalar scalar.Int
+abbrev pub signed_type : Sign → ValueType
+signed_type Denial = ty.Scalar scalar.Bool
+signed_type Minus = ty.Scalar scalar.Int
 
--- An operator gives its own kind, but for operands that are built on an unknown name.
-abbrev pub kind_of : InScope → Shape → ValueKind
-kind_of s (Number place) = kind.Scalar scalar.Int
-kind_of s (Truth place) = kind.Scalar scalar.Bool
-kind_of s (Mention name) = held (meant s name)
-kind_of s (Field name field) = field_kind s (held (meant s name)) field
-kind_of s (Element name index) = element_kind (held (meant s name)) (is_unknown (kind_of s index))
-kind_of s (Parens place inner) = kind_of s inner
-kind_of s (Signed sign place inner) = if is_unknown (kind_of s inner) then kind.Unknown else signed_kind sign
-kind_of s (Joined joint left right) = if is_unknown (kind_of s left) || is_unknown (kind_of s right) then kind.Unknown
-    else joined_kind joint
+-- An operator gives its own type, but for operands that are built on an unknown name.
+abbrev pub type_of : InScope → Shape → ValueType
+type_of s (Number place) = ty.Scalar scalar.Int
+type_of s (Truth place) = ty.Scalar scalar.Bool
+type_of s (Mention name) = held (meant s name)
+type_of s (Field name field) = field_type s (held (meant s name)) field
+type_of s (Element name index) = element_type (held (meant s name)) (is_unknown (type_of s index))
+type_of s (Parens place inner) = type_of s inner
+type_of s (Signed sign place inner) = if is_unknown (type_of s inner) then ty.Unknown else signed_type sign
+type_of s (Joined joint left right) = if is_unknown (type_of s left) || is_unknown (type_of s right) then ty.Unknown
+    else joined_type joint
 
 -- what is asked of an operand
-abbrev pub asked_number : ValueKind → Place → List Mistake
+abbrev pub asked_number : ValueType → Place → List Mistake
 asked_number k place = unless (is_silent k || is_number k) place (Given demand.Number k)
 
-abbrev pub asked_truth : ValueKind → Place → List Mistake
+abbrev pub asked_truth : ValueType → Place → List Mistake
 asked_truth k place = unless (is_silent k || is_truth k) place (Given demand.Truth k)
 
-abbrev pub asked_either : ValueKind → Place → List Mistake
+abbrev pub asked_either : ValueType → Place → List Mistake
 asked_either k place = unless (is_silent k || (is_number k || is_truth k)) place (Given demand.Scalar k)
 
 -- Of two that are compared the left one decides, where it is a number or a truth value.
-abbrev pub asked_like : ValueKind → ValueKind → Place → List Mistake
+abbrev pub asked_like : ValueType → ValueType → Place → List Mistake
 asked_like left k place = if is_number left then asked_number k place
     else (if is_truth left then asked_truth k place else asked_either k place)
 
-abbrev pub left_asked : Joint → ValueKind → Place → List Mistake
+abbrev pub left_asked : Joint → ValueType → Place → List Mistake
 left_asked Logic k place = asked_truth k place
 left_asked Likeness k place = asked_either k place
 left_asked _ k place = asked_number k place
 
-abbrev pub right_asked : Joint → ValueKind → ValueKind → Place → List Mistake
+abbrev pub right_asked : Joint → ValueType → ValueType → Place → List Mistake
 right_asked Logic left k place = asked_truth k place
 right_asked Likeness left k place = asked_like left k place
 right_asked _ left k place = asked_number k place
 
-abbrev pub sign_asked : Sign → ValueKind → Place → List Mistake
+abbrev pub sign_asked : Sign → ValueType → Place → List Mistake
 sign_asked Denial k place = asked_truth k place
 sign_asked Minus k place = asked_number k place
 
@@ -136,14 +136,14 @@ mention_mistakes s name = variable_mistakes s name
     ++ unless (not (is_block (held (meant s name)))) name.place (Given demand.NoBlock (held (meant s name)))
 
 -- only an array has elements
-abbrev pub element_mistakes : ValueKind → Span → List Mistake
-element_mistakes (kind.Array element) name = []
+abbrev pub element_mistakes : ValueType → Span → List Mistake
+element_mistakes (ty.Array element) name = []
 element_mistakes k name = unless (is_silent k) name.place (Given demand.Array k)
 
 -- a struct has its fields, an array its length, anything else none
-abbrev pub field_mistakes : InScope → ValueKind → Span → Span → List Mistake
-field_mistakes s (kind.Array element) name field = if is_length s field then [] else Unknown field sort.Length ∷ []
-field_mistakes s (kind.Pointer n) name field =
+abbrev pub field_mistakes : InScope → ValueType → Span → Span → List Mistake
+field_mistakes s (ty.Array element) name field = if is_length s field then [] else Unknown field sort.Length ∷ []
+field_mistakes s (ty.Pointer n) name field =
     option_map_or (λ x. if is_some (field_named s.program.text x.1 field) then [] else Unknown field (sort.Field n) ∷ [])
     (item_at as_struct s.program n) []
 field_mistakes s k name field = unless (is_silent k) name.place (Given demand.Fields k)
@@ -156,13 +156,13 @@ expression_mistakes s (Field name field) =
     variable_mistakes s name ++ (field_mistakes s (held (meant s name)) name field
     ++ unless (not (owns s (held (meant s name)) field)) name.place FieldOwns)
 expression_mistakes s (Element name index) =
-    expression_mistakes s index ++ (asked_number (kind_of s index) (place_of index)
+    expression_mistakes s index ++ (asked_number (type_of s index) (place_of index)
     ++ (variable_mistakes s name ++ element_mistakes (held (meant s name)) name))
 expression_mistakes s (Parens place inner) = expression_mistakes s inner
-expression_mistakes s (Signed sign place inner) = expression_mistakes s inner ++ sign_asked sign (kind_of s inner) (place_of inner)
+expression_mistakes s (Signed sign place inner) = expression_mistakes s inner ++ sign_asked sign (type_of s inner) (place_of inner)
 expression_mistakes s (Joined joint left right) =
     expression_mistakes s left ++ (expression_mistakes s right
-    ++ (left_asked joint (kind_of s left) (place_of left) ++ right_asked joint (kind_of s left) (kind_of s right) (place_of right)))
+    ++ (left_asked joint (type_of s left) (place_of left) ++ right_asked joint (type_of s left) (type_of s right) (place_of right)))
 
 -- An expression that is the whole of a value, an argument or what is returned: a variable of the exchange heap may stand
 -- there alone.
@@ -172,7 +172,7 @@ whole_mistakes s e = expression_mistakes s e
 
 -- an expression of which a truth value, or a number, is asked
 abbrev pub truth_mistakes : InScope → Shape → List Mistake
-truth_mistakes s e = expression_mistakes s e ++ asked_truth (kind_of s e) (place_of e)
+truth_mistakes s e = expression_mistakes s e ++ asked_truth (type_of s e) (place_of e)
 
 abbrev pub number_mistakes : InScope → Shape → List Mistake
-number_mistakes s e = expression_mistakes s e ++ asked_number (kind_of s e) (place_of e)
+number_mistakes s e = expression_mistakes s e ++ asked_number (type_of s e) (place_of e)

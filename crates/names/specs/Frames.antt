@@ -18,7 +18,7 @@ use Rattle.names.specs.declared.variables.Variables.{Variables}
 
 -- a variable without its memory
 abbrev pub variable_model : Variable → model.Variable
-variable_model v = record { name = v.name; kind = v.kind }
+variable_model v = record { name = v.name; ty = v.ty }
 
 -- the names of the variables in scope, as they are written
 abbrev pub words_in : List ℕ → List model.Variable → List (List ℕ)

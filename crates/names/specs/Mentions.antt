@@ -8,22 +8,22 @@ use Rattle.names.specs.Operands.{in_frame}
 use Rattle.declarations.specs.Program.{Program}
 use Rattle.declarations.specs.Scopes.{IsScope}
 use Rattle.names.specs.Variables.{Frame}
-use Rattle.declarations.specs.declared.kinds.ValueKind.{ValueKind}
+use Rattle.declarations.specs.declared.value_type.ValueType.{ValueType}
 use Rattle.declarations.specs.declared.scope.Scope.{Scope}
 use Rattle.names.specs.declared.variables.Variables.{Variables}
 
--- it is of this kind, and these findings were added
-pub record IsGiven (is : ValueKind) (more : List Mistake) (old new : List Mistake) (k : ValueKind) : Type 0 where
-  pub kind : k ≡ is
+-- it is of this type, and these findings were added
+pub record IsGiven (is : ValueType) (more : List Mistake) (old new : List Mistake) (k : ValueType) : Type 0 where
+  pub ty : k ≡ is
   pub found : Adds old new more
 
 -- whatever is in scope, of that program
-pub record GivesIn (scope : Scope) (kind : InScope → ValueKind) (more : InScope → List Mistake) (old new : List Mistake)
-    (k : ValueKind) : Type 0 where
-  pub all : (s : InScope) → IsScope s.program scope → IsGiven (kind s) (more s) old new k
+pub record GivesIn (scope : Scope) (ty : InScope → ValueType) (more : InScope → List Mistake) (old new : List Mistake)
+    (k : ValueType) : Type 0 where
+  pub all : (s : InScope) → IsScope s.program scope → IsGiven (ty s) (more s) old new k
 
 -- whatever these have in scope
-pub record Gives (scope : Scope) (variables : Variables) (kind : InScope → ValueKind) (more : InScope → List Mistake)
-    (old new : List Mistake) (k : ValueKind) : Type 0 where
+pub record Gives (scope : Scope) (variables : Variables) (ty : InScope → ValueType) (more : InScope → List Mistake)
+    (old new : List Mistake) (k : ValueType) : Type 0 where
   pub all : (p : Program) (f : Frame) → IsScope p scope → IsFrame p.text f variables
-      → IsGiven (kind (in_frame p f)) (more (in_frame p f)) old new k
+      → IsGiven (ty (in_frame p f)) (more (in_frame p f)) old new k

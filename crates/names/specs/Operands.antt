@@ -2,16 +2,16 @@
 use Rattle.std.specs.Prelude.{◌≡◌, ◌++◌, ◌||◌, List, if◌then◌else◌}
 use Rattle.declarations.specs.declared.mistake.Mistake.{Mistake}
 use Rattle.source.specs.declared.place.Place.{Place}
-use Rattle.names.specs.Expressions.{InScope, kind_of, place_of, expression_mistakes, whole_mistakes}
-use Rattle.names.specs.Expressions.{joined_kind, left_asked, right_asked, signed_kind, sign_asked}
+use Rattle.names.specs.Expressions.{InScope, type_of, place_of, expression_mistakes, whole_mistakes}
+use Rattle.names.specs.Expressions.{joined_type, left_asked, right_asked, signed_type, sign_asked}
 use Rattle.declarations.specs.Mistakes.{Adds}
 use Rattle.names.specs.Frames.{IsFrame}
-use Rattle.declarations.specs.Kinds.{is_unknown}
+use Rattle.declarations.specs.Types.{is_unknown}
 use Rattle.declarations.specs.Program.{Program}
 use Rattle.declarations.specs.Scopes.{IsScope}
 use Rattle.names.specs.Shapes.{Shape, Joint, Sign}
 use Rattle.names.specs.Variables.{Frame}
-use Rattle.declarations.specs.declared.kinds.ValueKind.TheVariants as kind
+use Rattle.declarations.specs.declared.value_type.ValueType.TheVariants as ty
 use Rattle.names.specs.declared.operands.Operand.{Operand}
 use Rattle.declarations.specs.declared.scope.Scope.{Scope}
 use Rattle.names.specs.declared.variables.Variables.{Variables}
@@ -20,15 +20,15 @@ use Rattle.names.specs.declared.variables.Variables.{Variables}
 abbrev pub in_frame : Program → Frame → InScope
 in_frame p f = record { program = p; variables = f.variables }
 
--- an operand is of the kind and at the place of this expression, and what is wrong in it was added
+-- an operand is of the type and at the place of this expression, and what is wrong in it was added
 pub record IsJudged (s : InScope) (e : Shape) (old new : List Mistake) (o : Operand) : Type 0 where
-  pub kind : o.kind ≡ kind_of s e
+  pub ty : o.ty ≡ type_of s e
   pub place : o.place ≡ place_of e
   pub found : Adds old new (expression_mistakes s e)
 
 -- the same for the whole of a value, an argument or what is returned
 pub record IsJudgedWhole (s : InScope) (e : Shape) (old new : List Mistake) (o : Operand) : Type 0 where
-  pub kind : o.kind ≡ kind_of s e
+  pub ty : o.ty ≡ type_of s e
   pub place : o.place ≡ place_of e
   pub found : Adds old new (whole_mistakes s e)
 
@@ -41,12 +41,12 @@ pub record JudgesWhole (scope : Scope) (variables : Variables) (e : Shape) (old 
 
 -- two operands, joined
 pub record IsJoined (joint : Joint) (left right : Operand) (old new : List Mistake) (o : Operand) : Type 0 where
-  pub kind : o.kind ≡ (if is_unknown left.kind || is_unknown right.kind then kind.Unknown else joined_kind joint)
+  pub ty : o.ty ≡ (if is_unknown left.ty || is_unknown right.ty then ty.Unknown else joined_type joint)
   pub place : o.place ≡ left.place
-  pub found : Adds old new (left_asked joint left.kind left.place ++ right_asked joint left.kind right.kind right.place)
+  pub found : Adds old new (left_asked joint left.ty left.place ++ right_asked joint left.ty right.ty right.place)
 
 -- an operand with a sign before it
 pub record IsSigned (sign : Sign) (place : Place) (inner : Operand) (old new : List Mistake) (o : Operand) : Type 0 where
-  pub kind : o.kind ≡ (if is_unknown inner.kind then kind.Unknown else signed_kind sign)
+  pub ty : o.ty ≡ (if is_unknown inner.ty then ty.Unknown else signed_type sign)
   pub at : o.place ≡ place
-  pub found : Adds old new (sign_asked sign inner.kind inner.place)
+  pub found : Adds old new (sign_asked sign inner.ty inner.place)

@@ -12,19 +12,19 @@ use Rattle.names.specs.Findings.{program_findings, program_mistakes}
 use Rattle.names.specs.declared.fault.NameFaults.{NameFaults}
 use Rattle.names.specs.declared.fault.NameFaults.TheVariants as faults
 
--- nothing is wrong with the names and kinds of a program, and these are its contracts: no two states and no two messages share a number
+-- nothing is wrong with the names and types of a program, and these are its contracts: no two states and no two messages share a number
 pub record IsResolution (p : Program) (resolved : Resolved) : Type 0 where
   pub clean : program_mistakes p ≡ []
   pub contracts : map contract_model resolved.contracts.items ≡ resolved_contracts p.text (contracts_of p.items)
   pub apart : AreApart (map contract_parts resolved.contracts.items)
   pub whole : All (λ c. IsWhole (contract_parts c)) resolved.contracts.items
 
--- something is wrong with the names and kinds, and this is all of it
+-- something is wrong with the names and types, and this is all of it
 pub record AreMistakes (p : Program) (mistakes : List Mistake) : Type 0 where
   pub some : mistakes ≢ []
   pub all : mistakes ≡ program_mistakes p
 
--- these are all that is wrong with the names and kinds, and something is
+-- these are all that is wrong with the names and types, and something is
 pub record AreAll (p : Program) (found : List Finding) : Type 0 where
   pub some : found ≢ []
   pub each : (f : FindingModel) → Contains (map finding_model found) f ↔ Contains (program_findings p) f

@@ -4,7 +4,7 @@ use Rattle.declarations.specs.declared.mistake.Mistake.{Mistake}
 use Rattle.tree.specs.Factors.{FactorTree}
 use Rattle.tree.specs.declared.expression.FactorOperator.{FactorOperator}
 use Rattle.tree.specs.declared.expression.FactorOperator.TheVariants as operators
-use Rattle.names.specs.Expressions.{InScope, kind_of, place_of, expression_mistakes}
+use Rattle.names.specs.Expressions.{InScope, type_of, place_of, expression_mistakes}
 use Rattle.declarations.specs.Mistakes.{Adds}
 use Rattle.names.specs.Frames.{IsFrame}
 use Rattle.names.specs.Operands.{in_frame}
@@ -48,10 +48,10 @@ abbrev pub with_factors : TermShapes → List FactorTree → TermShapes
 with_factors t [] = t
 with_factors t (f ∷ fs) = with_factors (with_factor t f) fs
 
--- the terms before the last one are of this kind and at this place
+-- the terms before the last one are of this type and at this place
 abbrev pub IsBefore : InScope → Option Shape → Option Operand → Type 0
 IsBefore s None None = Unit {0}
-IsBefore s (Some e) (Some o) = (o.kind ≡ kind_of s e) × (o.place ≡ place_of e)
+IsBefore s (Some e) (Some o) = (o.ty ≡ type_of s e) × (o.place ≡ place_of e)
 IsBefore s _ _ = ⊥
 
 -- what is wrong in them
@@ -59,10 +59,10 @@ abbrev pub before_mistakes : InScope → Option Shape → List Mistake
 before_mistakes s None = []
 before_mistakes s (Some e) = expression_mistakes s e
 
--- the terms are of these kinds and at these places, and what is wrong in them was added
+-- the terms are of these types and at these places, and what is wrong in them was added
 pub record IsJudgedTerms (s : InScope) (t : TermShapes) (old new : List Mistake) (terms : Terms) : Type 0 where
   pub before : IsBefore s t.before terms.before
-  pub kind : terms.last.kind ≡ kind_of s t.last
+  pub ty : terms.last.ty ≡ type_of s t.last
   pub place : terms.last.place ≡ place_of t.last
   pub found : Adds old new (before_mistakes s t.before ++ expression_mistakes s t.last)
 

@@ -1,11 +1,11 @@
-//! What is wrong with the names and kinds of arguments.
+//! What is wrong with the names and types of arguments.
 
 ghost use Rattle.std.specs.Prelude.{◌≡◌, map, take, List, OnOk, IfOk, slice_get};
 ghost use Rattle.tree.specs.ExpressionTrees.{expression_tree};
 ghost use Rattle.tree.specs.declared.types.«Type».{«Type» as TypeModel};
 ghost use Rattle.declarations.specs.Mistakes.{Adds};
 ghost use Rattle.names.specs.Frames.{IsFrame};
-ghost use Rattle.declarations.specs.Kinds.{type_kind};
+ghost use Rattle.declarations.specs.Types.{type_meant};
 ghost use Rattle.declarations.specs.Program.{Program};
 ghost use Rattle.declarations.specs.Scopes.{IsScope};
 ghost use Rattle.names.specs.Shapes.{shape};
@@ -15,16 +15,16 @@ ghost use Rattle.names.specs.Variables.{Frame};
 use crate::expressions::judge_whole;
 use crate::variables::Variables;
 use crate::wholes::judge_asked;
-use declarations::{Mistake, Scope, ValueKind};
+use declarations::{Mistake, Scope, ValueType};
 use source::Memory;
 use std::alloc::Global;
 use tree::{Expression, Field, MessageParameter, Parameter, Type};
 
-/// Adds what is wrong with an argument for a parameter of this kind, if there is one.
+/// Adds what is wrong with an argument for a parameter of this type, if there is one.
 fn judge_argument(
     scope: &Scope<'_>,
     variables: &Variables<'_>,
-    asked: Option<ValueKind>,
+    asked: Option<ValueType>,
     argument: &Expression,
     found: &mut Vec<Mistake>,
 ) -> Result<(), Memory>
@@ -33,7 +33,7 @@ fn judge_argument(
         (argument_asked (record { program = p; variables = f.variables }) asked (shape (expression_tree argument.now)))) }
 {
     match asked {
-        Some(kind) => judge_asked(scope, variables, kind, argument, found),
+        Some(ty) => judge_asked(scope, variables, ty, argument, found),
         None => {
             judge_whole(scope, variables, argument, found)?;
             Ok(())
@@ -41,17 +41,17 @@ fn judge_argument(
     }
 }
 
-fn kind_at(kinds: &[ValueKind], index: usize) -> Option<ValueKind>
-    ensures { result ≡ slice_get kinds.now index }
+fn type_at(types: &[ValueType], index: usize) -> Option<ValueType>
+    ensures { result ≡ slice_get types.now index }
 {
-    kinds.get(index).copied()
+    types.get(index).copied()
 }
 
-/// Adds what is wrong with arguments for parameters of these kinds.
+/// Adds what is wrong with arguments for parameters of these types.
 pub(crate) fn judge_arguments(
     scope: &Scope<'_>,
     variables: &Variables<'_>,
-    asked: &[ValueKind],
+    asked: &[ValueType],
     arguments: &[Expression],
     found: &mut Vec<Mistake>,
 ) -> Result<(), Memory>
@@ -60,8 +60,8 @@ pub(crate) fn judge_arguments(
         (record { program = p; variables = f.variables }) asked.now (map shape (map expression_tree arguments.now)))) }
 {
     for (place, argument) in arguments.iter().enumerate() {
-        let kind = kind_at(asked, place);
-        judge_argument(scope, variables, kind, argument, found)?;
+        let ty = type_at(asked, place);
+        judge_argument(scope, variables, ty, argument, found)?;
     }
     Ok(())
 }
@@ -69,52 +69,52 @@ pub(crate) fn judge_arguments(
 /// What has a type in a text: a parameter of a method or of a message, or a field.
 pub(crate) trait Typed {
     /// Its type.
-    ghost type_of: { Self → TypeModel };
+    ghost as_written: { Self → TypeModel };
 
     /// Its type.
-    fn ty(&self) -> Type
-        ensures { result ≡ type_of self.now };
+    fn written_type(&self) -> Type
+        ensures { result ≡ as_written self.now };
 }
 
 impl Typed for Parameter {
-    ghost type_of = { λ x. x.ty };
+    ghost as_written = { λ x. x.ty };
 
-    fn ty(&self) -> Type {
+    fn written_type(&self) -> Type {
         self.ty
     }
 }
 
 impl Typed for MessageParameter {
-    ghost type_of = { λ x. x.ty };
+    ghost as_written = { λ x. x.ty };
 
-    fn ty(&self) -> Type {
+    fn written_type(&self) -> Type {
         self.ty
     }
 }
 
 impl Typed for Field {
-    ghost type_of = { λ x. x.ty };
+    ghost as_written = { λ x. x.ty };
 
-    fn ty(&self) -> Type {
+    fn written_type(&self) -> Type {
         self.ty
     }
 }
 
-/// The kinds of the first so many of these parameters or fields.
-fn kinds_of<T: Typed>(
+/// The types of the first so many of these parameters or fields.
+fn types_of<T: Typed>(
     alloc: Global,
     scope: &Scope<'_>,
     typed: &[T],
     most: usize,
-) -> Result<Vec<ValueKind>, Memory>
-    ensures { IfOk result (λ kinds. (p : Program) → IsScope p scope.now
-        → kinds.items ≡ map (λ x. type_kind p (T.type_of x)) (take most typed.now)) }
+) -> Result<Vec<ValueType>, Memory>
+    ensures { IfOk result (λ types. (p : Program) → IsScope p scope.now
+        → types.items ≡ map (λ x. type_meant p (T.as_written x)) (take most typed.now)) }
 {
-    let mut kinds = Vec::new(alloc);
+    let mut types = Vec::new(alloc);
     for one in &typed[..most.min(typed.len())] {
-        kinds.push(scope.kind(one.ty()))?;
+        types.push(scope.type_meant(one.written_type()))?;
     }
-    Ok(kinds)
+    Ok(types)
 }
 
 /// Adds what is wrong with arguments for these parameters or fields.
@@ -128,8 +128,8 @@ pub(crate) fn judge_typed_arguments<T: Typed>(
 ) -> Result<(), Memory>
     ensures { (p : Program) (f : Frame) → IsScope p scope.now → IsFrame p.text f variables.now
         → OnOk result (Adds found.old.items found.new.items (argument_mistakes (record { program = p; variables = f.variables })
-        (map (λ x. type_kind p (T.type_of x)) typed.now) (map shape (map expression_tree arguments.now)))) }
+        (map (λ x. type_meant p (T.as_written x)) typed.now) (map shape (map expression_tree arguments.now)))) }
 {
-    let kinds = kinds_of(alloc, scope, typed, arguments.len())?;
-    judge_arguments(scope, variables, &kinds, arguments, found)
+    let types = types_of(alloc, scope, typed, arguments.len())?;
+    judge_arguments(scope, variables, &types, arguments, found)
 }

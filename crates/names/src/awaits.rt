@@ -10,7 +10,7 @@ ghost use Rattle.tree.specs.Trees.{message_tree};
 
 use crate::operands::{add_wrong_type, ask};
 use crate::told::judge_count;
-use declarations::{Demand, Mismatch, Mistake, ValueKind};
+use declarations::{Demand, Mismatch, Mistake, ValueType};
 use program::{Direction, Side};
 use source::{Memory, Span};
 use tree::{Awaited, Bind, Message};
@@ -79,20 +79,16 @@ pub(crate) fn judge_case_twice(
 
 /// Adds what is wrong with a case on what is no endpoint.
 pub(crate) fn judge_other_head(
-    kind: ValueKind,
+    ty: ValueType,
     endpoint: Span,
     awaited: Awaited,
     binds: &[Bind],
     found: &mut Vec<Mistake>,
 ) -> Result<(), Memory>
     ensures { OnOk result (Adds found.old.items found.new.items
-        (other_head_mistakes kind (record { endpoint = endpoint; awaited = awaited; binds = binds.now }))) }
+        (other_head_mistakes ty (record { endpoint = endpoint; awaited = awaited; binds = binds.now }))) }
 {
-    add_wrong_type(
-        endpoint.place,
-        Mismatch::Given(Demand::Endpoint, kind),
-        found,
-    )?;
+    add_wrong_type(endpoint.place, Mismatch::Given(Demand::Endpoint, ty), found)?;
     match awaited {
         Awaited::Closed(word) => judge_closed(binds, word, found),
         Awaited::Message(_) => Ok(()),
@@ -107,7 +103,7 @@ pub(crate) fn judge_message_case(
     binds: &[Bind],
     found: &mut Vec<Mistake>,
 ) -> Result<(), Memory>
-    ensures { (p : Program) (vs : List Variable) (k : ValueKind) → OnOk result (Adds found.old.items found.new.items
+    ensures { (p : Program) (vs : List Variable) (k : ValueType) → OnOk result (Adds found.old.items found.new.items
         (message_case_mistakes (record { program = p; variables = vs }) k (Some (message_tree message.now)) end word binds.now)) }
 {
     let well = receives(end, message.direction);

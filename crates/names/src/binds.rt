@@ -2,31 +2,31 @@
 
 ghost use Rattle.std.specs.Prelude.{◌≡◌, ◌++◌, List, Option, OnOk, option_map, slice_get};
 ghost use Rattle.tree.specs.Trees.{message_tree};
-ghost use Rattle.program.specs.declared.kind.Side.{Side};
+ghost use Rattle.program.specs.declared.types.Side.{Side};
 ghost use Rattle.tree.specs.declared.contract.MessageParameter.{MessageParameter};
 ghost use Rattle.names.specs.Cases.{typed_turn, bind_turn, binds_turn, brings_heap};
-ghost use Rattle.declarations.specs.Kinds.{brought_kind};
+ghost use Rattle.declarations.specs.Types.{brought_type};
 ghost use Rattle.declarations.specs.Mistakes.{Adds};
 ghost use Rattle.names.specs.Frames.{IsFrame, Turned};
-ghost use Rattle.declarations.specs.Kinds.{agree, is_heap, type_kind, type_unknown, unless};
+ghost use Rattle.declarations.specs.Types.{agree, is_heap, type_meant, type_unknown, unless};
 ghost use Rattle.declarations.specs.Program.{Program};
 ghost use Rattle.declarations.specs.Scopes.{IsScope};
 ghost use Rattle.names.specs.Variables.{Frame, declared_variable};
 
 use crate::operands::ask;
 use crate::variables::{Variable, Variables};
-use declarations::{Demand, Mismatch, Mistake, Scope, ValueKind, is_heap, judge_type};
+use declarations::{Demand, Mismatch, Mistake, Scope, ValueType, is_heap, judge_type};
 use source::{Memory, Span};
 use std::alloc::Global;
 use tree::{Bind, MessageParameter, Type};
 
-/// The kind of what a message brings for this parameter, if there is one.
-fn brought_kind(scope: &Scope<'_>, parameter: Option<&MessageParameter>) -> ValueKind
-    ensures { (p : Program) → IsScope p scope.now → result ≡ brought_kind p (option_map (λ x. x.now) parameter.entry) }
+/// The type of what a message brings for this parameter, if there is one.
+fn brought_type(scope: &Scope<'_>, parameter: Option<&MessageParameter>) -> ValueType
+    ensures { (p : Program) → IsScope p scope.now → result ≡ brought_type p (option_map (λ x. x.now) parameter.entry) }
 {
     match parameter {
-        Some(parameter) => scope.kind(parameter.ty),
-        None => ValueKind::Unknown,
+        Some(parameter) => scope.type_meant(parameter.ty),
+        None => ValueType::Unknown,
     }
 }
 
@@ -40,21 +40,21 @@ fn brings_heap(parameter: Option<&MessageParameter>) -> bool
     }
 }
 
-/// Adds what is wrong with a type that is bound where this kind is brought.
+/// Adds what is wrong with a type that is bound where this type is brought.
 fn judge_bound_type(
     scope: &Scope<'_>,
-    ty: Type,
-    brought: ValueKind,
+    written: Type,
+    brought: ValueType,
     name: Span,
     found: &mut Vec<Mistake>,
 ) -> Result<(), Memory>
     ensures { (p : Program) → IsScope p scope.now → OnOk result
-        (Adds found.old.items found.new.items (type_unknown p ty ++ unless (agree (type_kind p ty) brought) name.place
-        (Mismatch.Given (Demand.Kind brought) (type_kind p ty)))) }
+        (Adds found.old.items found.new.items (type_unknown p written ++ unless (agree (type_meant p written) brought) name.place
+        (Mismatch.Given (Demand.OfType brought) (type_meant p written)))) }
 {
-    judge_type(scope, ty, found)?;
-    let bound = scope.kind(ty);
-    let mismatch = Mismatch::Given(Demand::Kind(brought), bound);
+    judge_type(scope, written, found)?;
+    let bound = scope.type_meant(written);
+    let mismatch = Mismatch::Given(Demand::OfType(brought), bound);
     ask(bound.agrees(brought), name.place, mismatch, found)
 }
 
@@ -69,7 +69,7 @@ fn declare_in<'a>(
 ) -> Result<(), Memory>
     ensures { (p : Program) (f : Frame) → IsScope p scope.now → IsFrame p.text f variables.old
         → OnOk result (Turned p.text found.old.items found.new.items variables.new
-        (declared_variable p.text variable.name variable.kind heap f)) }
+        (declared_variable p.text variable.name variable.ty heap f)) }
 {
     variables.declare(alloc, scope.text, variable, heap, found)
 }
@@ -86,20 +86,20 @@ fn judge_bind<'a>(
     ensures { (p : Program) (f : Frame) → IsScope p scope.now → IsFrame p.text f variables.old → OnOk result
         (Turned p.text found.old.items found.new.items variables.new (bind_turn p (option_map (λ x. x.now) parameter.entry) bind f)) }
 {
-    let brought = brought_kind(scope, parameter);
+    let brought = brought_type(scope, parameter);
     match bind.ty {
-        Some(kind) => {
-            judge_bound_type(scope, kind, brought, bind.name, found)?;
+        Some(written) => {
+            judge_bound_type(scope, written, brought, bind.name, found)?;
             let variable = Variable {
                 name: bind.name,
-                kind: scope.kind(kind),
+                ty: scope.type_meant(written),
             };
-            declare_in(alloc, scope, variables, variable, is_heap(kind), found)
+            declare_in(alloc, scope, variables, variable, is_heap(written), found)
         }
         None => {
             let variable = Variable {
                 name: bind.name,
-                kind: brought,
+                ty: brought,
             };
             let heap = brings_heap(parameter);
             declare_in(alloc, scope, variables, variable, heap, found)

@@ -1,4 +1,4 @@
-//! What is wrong with the names and kinds in calls.
+//! What is wrong with the names and types in calls.
 
 ghost use Rattle.std.specs.Prelude.{◌≡◌, ◌++◌, ◌&&◌, ◌∷◌, ℕ, [], map, drop, take, codes, List};
 ghost use Rattle.std.specs.Prelude.{Option, Some, None, OnOk, IfOk, option_map, if◌then◌else◌};
@@ -13,7 +13,7 @@ ghost use Rattle.declarations.specs.Program.{Program, class_named};
 ghost use Rattle.declarations.specs.Scopes.{IsScope, IsCallee};
 ghost use Rattle.names.specs.Operands.{in_frame};
 ghost use Rattle.names.specs.Shapes.{shape};
-ghost use Rattle.names.specs.Values.{argument_mistakes, result_fits, result_kind, demand_of, start_mistakes, method_mistakes};
+ghost use Rattle.names.specs.Values.{argument_mistakes, result_fits, result_type, demand_of, start_mistakes, method_mistakes};
 ghost use Rattle.declarations.specs.Owning.{can_start};
 ghost use Rattle.names.specs.Values.{sends, is_alone, message_mistakes, contract_message, send_mismatch, send_mistakes};
 ghost use Rattle.names.specs.Values.{class_mistakes, class_meant, member_mistakes, call_mistakes};
@@ -27,7 +27,7 @@ use crate::operands::ask;
 use crate::surroundings::{NameContext, Surroundings};
 use crate::told::judge_count;
 use crate::variables::Variables;
-use declarations::{Callee, Demand, Mismatch, Mistake, NameSort, Scope, ValueKind, add_unknown};
+use declarations::{Callee, Demand, Mismatch, Mistake, NameSort, Scope, ValueType, add_unknown};
 use program::{Direction, Side};
 use source::{Memory, Span};
 use tree::{Call, Expression, Message, Type};
@@ -35,8 +35,8 @@ use tree::{Call, Expression, Message, Type};
 /// What is done with what a call gives.
 #[derive(Clone, Copy, PartialEq, Eq)]
 pub(crate) enum Role {
-    /// It is a value of which this kind is asked.
-    Asked(ValueKind),
+    /// It is a value of which this type is asked.
+    Asked(ValueType),
     /// It stands alone.
     Alone,
     /// It is started.
@@ -52,7 +52,7 @@ pub(crate) struct CallSite<'t> {
     arguments: &'t [Expression],
 }
 
-/// Whether the kind of what a method gives fits what is done with it.
+/// Whether the type of what a method gives fits what is done with it.
 fn result_fits(scope: &Scope<'_>, given: Option<Type>, role: Role) -> bool
     ensures { (p : Program) → IsScope p scope.now → result ≡ result_fits p given role }
 {
@@ -60,18 +60,18 @@ fn result_fits(scope: &Scope<'_>, given: Option<Type>, role: Role) -> bool
         (_, Role::Started) => true,
         (None, Role::Alone) => true,
         (None, Role::Asked(_)) => false,
-        (Some(written), Role::Alone) => !scope.kind(written).is_block(),
-        (Some(written), Role::Asked(asked)) => scope.kind(written).agrees(asked),
+        (Some(written), Role::Alone) => !scope.type_meant(written).is_block(),
+        (Some(written), Role::Asked(asked)) => scope.type_meant(written).agrees(asked),
     }
 }
 
-/// The kind of what a method gives, if it gives anything.
-fn kind_given(scope: &Scope<'_>, given: Option<Type>) -> ValueKind
-    ensures { (p : Program) → IsScope p scope.now → result ≡ result_kind p given }
+/// The type of what a method gives, if it gives anything.
+fn type_given(scope: &Scope<'_>, given: Option<Type>) -> ValueType
+    ensures { (p : Program) → IsScope p scope.now → result ≡ result_type p given }
 {
     match given {
-        Some(written) => scope.kind(written),
-        None => ValueKind::Missing,
+        Some(written) => scope.type_meant(written),
+        None => ValueType::Missing,
     }
 }
 
@@ -80,7 +80,7 @@ fn demand_of(role: Role) -> Demand
     ensures { result ≡ demand_of role }
 {
     match role {
-        Role::Asked(kind) => Demand::Kind(kind),
+        Role::Asked(ty) => Demand::OfType(ty),
         _ => Demand::NoBlock,
     }
 }
@@ -125,7 +125,7 @@ fn judge_known_method(
     judge_typed_arguments(alloc, scope, variables, &method.params, arguments, found)?;
     judge_start(context, callee.startable, site, found)?;
     let fits = result_fits(scope, method.result, site.role);
-    let given = kind_given(scope, method.result);
+    let given = type_given(scope, method.result);
     ask(
         fits,
         place,
@@ -234,7 +234,7 @@ fn send_mismatch(role: Role, end: Side, word: Span) -> Mismatch
     match role {
         Role::Alone => Mismatch::NotSent(end, word),
         Role::Started => Mismatch::SendStarted,
-        Role::Asked(kind) => Mismatch::Given(Demand::Kind(kind), ValueKind::Missing),
+        Role::Asked(ty) => Mismatch::Given(Demand::OfType(ty), ValueType::Missing),
     }
 }
 
@@ -263,16 +263,16 @@ fn judge_end(
     }
 }
 
-/// Adds what is wrong with a call on a variable of this kind, which is a send.
+/// Adds what is wrong with a call on a variable of this type, which is a send.
 fn judge_send(
     context: &NameContext<'_, '_>,
-    kind: ValueKind,
+    ty: ValueType,
     variable: Span,
     site: &CallSite<'_>,
     found: &mut Vec<Mistake>,
 ) -> Result<(), Memory>
     ensures { (p : Program) (f : Frame) → IsContext p f context.now
-        → OnOk result (Adds found.old.items found.new.items (send_mistakes (in_frame p f) kind site.now.role variable site.now.name
+        → OnOk result (Adds found.old.items found.new.items (send_mistakes (in_frame p f) ty site.now.role variable site.now.name
         (map shape (map expression_tree site.now.arguments.now)))) }
 {
     let NameContext {
@@ -280,11 +280,11 @@ fn judge_send(
         variables,
         ..
     } = *context;
-    match kind {
-        ValueKind::Endpoint(end, place) => judge_end(context, place, end, site, found),
+    match ty {
+        ValueType::Endpoint(end, place) => judge_end(context, place, end, site, found),
         _ => {
-            let mismatch = Mismatch::Given(Demand::Endpoint, kind);
-            ask(kind.is_silent(), variable.place, mismatch, found)?;
+            let mismatch = Mismatch::Given(Demand::Endpoint, ty);
+            ask(ty.is_silent(), variable.place, mismatch, found)?;
             judge_arguments(scope, variables, &[], site.arguments, found)
         }
     }
@@ -327,7 +327,7 @@ fn judge_member(
         (map shape (map expression_tree site.now.arguments.now)))) }
 {
     match context.variables.find(context.scope.text, front) {
-        Some(variable) => judge_send(context, variable.kind, front, site, found),
+        Some(variable) => judge_send(context, variable.ty, front, site, found),
         None => judge_class(context, front, site, found),
     }
 }

@@ -2,7 +2,7 @@
 
 ghost use Rattle.std.specs.Prelude.{◌≡◌, List, Some, [], take, if◌then◌else◌, OnOk, option_map, option_and_then, slice_get};
 ghost use Rattle.tree.specs.Trees.{message_tree};
-ghost use Rattle.names.specs.Cases.{Head, awaits_too, awaited_mistakes, endpoint_head_mistakes, kind_head_mistakes};
+ghost use Rattle.names.specs.Cases.{Head, awaits_too, awaited_mistakes, endpoint_head_mistakes, type_head_mistakes};
 ghost use Rattle.names.specs.Cases.{other_head_mistakes, head_mistakes, binds_turn, awaited_message};
 ghost use Rattle.declarations.specs.Declarations.{bound_params};
 ghost use Rattle.names.specs.Expressions.{meant, held};
@@ -10,7 +10,7 @@ ghost use Rattle.declarations.specs.Mistakes.{Adds};
 ghost use Rattle.names.specs.Frames.{IsContext, IsFrame, Turned};
 ghost use Rattle.names.specs.Operands.{in_frame};
 ghost use Rattle.names.specs.Heads.{IsHeads, case_head};
-ghost use Rattle.declarations.specs.Kinds.{is_silent};
+ghost use Rattle.declarations.specs.Types.{is_silent};
 ghost use Rattle.declarations.specs.Program.{Program, as_contract, item_at};
 ghost use Rattle.declarations.specs.Scopes.{IsScope};
 ghost use Rattle.declarations.specs.Named.{message_written};
@@ -22,10 +22,10 @@ use crate::awaits::{
 };
 use crate::binds::judge_bound;
 use crate::heads::{Heads, awaiting_at};
-use crate::simple_statements::{judge_use, kind_held};
+use crate::simple_statements::{held_type, judge_use};
 use crate::surroundings::NameContext;
 use crate::variables::Variables;
-use declarations::{Mistake, NameSort, Scope, ValueKind, add_unknown};
+use declarations::{Mistake, NameSort, Scope, ValueType, add_unknown};
 use program::Side;
 use source::{Memory, Span};
 use std::alloc::Global;
@@ -57,12 +57,12 @@ pub(crate) fn judge_head<'a>(
         ..
     } = *context;
     judge_use(scope, variables, case.endpoint, found)?;
-    match kind_held(scope, variables, case.endpoint) {
-        ValueKind::Endpoint(side, item) => {
+    match held_type(scope, variables, case.endpoint) {
+        ValueType::Endpoint(side, item) => {
             let end = ContractEnd { side, item };
             judge_endpoint_head(context, heads, index, end, case, found)
         }
-        kind => judge_no_endpoint(kind, case, found),
+        ty => judge_no_endpoint(ty, case, found),
     }
 }
 
@@ -76,8 +76,8 @@ fn judge_endpoint_head<'a>(
     found: &mut Vec<Mistake>,
 ) -> Result<(), Memory>
     ensures { (p : Program) (f : Frame) (all : List Head) → IsScope p context.now.scope.now → IsHeads p.text all heads.now
-        → OnOk result (Adds found.old.items found.new.items (kind_head_mistakes (in_frame p f) all
-        (take index all) (ValueKind.Endpoint end.side end.item) (case_head case.now))) }
+        → OnOk result (Adds found.old.items found.new.items (type_head_mistakes (in_frame p f) all
+        (take index all) (ValueType.Endpoint end.side end.item) (case_head case.now))) }
 {
     let text = context.scope.text;
     let twice = heads.is_twice(text, index, awaiting_at(case));
@@ -96,7 +96,7 @@ fn judge_awaited(
 ) -> Result<(), Memory>
     ensures { (p : Program) (f : Frame) (earlier : List Head) → IsScope p context.now.scope.now
         → twice ≡ awaits_too p.text (case_head case.now) earlier → OnOk result (Adds found.old.items found.new.items
-        (endpoint_head_mistakes (in_frame p f) earlier (ValueKind.Endpoint end.side end.item) end.side (case_head case.now))) }
+        (endpoint_head_mistakes (in_frame p f) earlier (ValueType.Endpoint end.side end.item) end.side (case_head case.now))) }
 {
     match case.message {
         Awaited::Closed(word) => {
@@ -119,7 +119,7 @@ fn judge_message(
     ensures { (p : Program) (f : Frame) (earlier : List Head) → IsScope p context.now.scope.now
         → case.now.message ≡ Awaited.Message word → twice ≡ awaits_too p.text (case_head case.now) earlier
         → OnOk result (Adds found.old.items found.new.items (awaited_mistakes (in_frame p f) earlier
-        (ValueKind.Endpoint end.side end.item) end.side (case_head case.now) (Awaited.Message word))) }
+        (ValueType.Endpoint end.side end.item) end.side (case_head case.now) (Awaited.Message word))) }
 {
     match context.scope.message(end.item, word) {
         Some(message) => {
@@ -130,15 +130,15 @@ fn judge_message(
     }
 }
 
-/// Adds what is wrong with a case on what is no endpoint, unless its kind is unknown.
-fn judge_no_endpoint(kind: ValueKind, case: &Case, found: &mut Vec<Mistake>) -> Result<(), Memory>
+/// Adds what is wrong with a case on what is no endpoint, unless its type is unknown.
+fn judge_no_endpoint(ty: ValueType, case: &Case, found: &mut Vec<Mistake>) -> Result<(), Memory>
     ensures { OnOk result (Adds found.old.items found.new.items
-        (if is_silent kind then [] else other_head_mistakes kind (case_head case.now))) }
+        (if is_silent ty then [] else other_head_mistakes ty (case_head case.now))) }
 {
-    if kind.is_silent() {
+    if ty.is_silent() {
         return Ok(());
     }
-    judge_other_head(kind, case.endpoint, case.message, &case.binds, found)
+    judge_other_head(ty, case.endpoint, case.message, &case.binds, found)
 }
 
 /// Adds what is wrong with what a case binds, and declares it.
@@ -154,8 +154,8 @@ pub(crate) fn judge_binds<'a>(
         (held (meant (in_frame p f) case.now.endpoint)) case.now.message)) case.now.binds.items f)) }
 {
     let binds = &case.binds;
-    match kind_held(scope, variables, case.endpoint) {
-        ValueKind::Endpoint(end, place) => {
+    match held_type(scope, variables, case.endpoint) {
+        ValueType::Endpoint(end, place) => {
             let message = awaited_message(scope, place, end, case.message);
             let parameters = parameters_of(message);
             judge_bound(alloc, scope, variables, parameters, binds, found)
@@ -172,7 +172,7 @@ fn awaited_message<'a>(
     awaited: Awaited,
 ) -> Option<&'a Message>
     ensures { (p : Program) (vs : List Variable) → IsScope p scope.now → option_map (λ m. message_tree m.now) result
-        ≡ awaited_message (record { program = p; variables = vs }) (ValueKind.Endpoint end index) awaited }
+        ≡ awaited_message (record { program = p; variables = vs }) (ValueType.Endpoint end index) awaited }
 {
     match awaited {
         Awaited::Message(word) => scope.message(index, word),

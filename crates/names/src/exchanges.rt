@@ -1,11 +1,11 @@
-//! What is wrong with the names and kinds in exchanges.
+//! What is wrong with the names and types in exchanges.
 
 ghost use Rattle.std.specs.Prelude.{◌++◌, ◌||◌, OnOk, IfOk};
-ghost use Rattle.names.specs.Bodies.{exchanged_kind, holder_mistakes, exchange_mistakes};
-ghost use Rattle.names.specs.Expressions.{field_kind, field_mistakes};
+ghost use Rattle.names.specs.Bodies.{exchanged_type, holder_mistakes, exchange_mistakes};
+ghost use Rattle.names.specs.Expressions.{field_type, field_mistakes};
 ghost use Rattle.declarations.specs.Mistakes.{Adds};
 ghost use Rattle.names.specs.Frames.{IsFrame};
-ghost use Rattle.declarations.specs.Kinds.{unless, is_silent, is_block};
+ghost use Rattle.declarations.specs.Types.{unless, is_silent, is_block};
 ghost use Rattle.names.specs.Mentions.{GivesIn};
 ghost use Rattle.declarations.specs.Program.{Program};
 ghost use Rattle.declarations.specs.Scopes.{IsScope};
@@ -14,7 +14,7 @@ ghost use Rattle.names.specs.Variables.{Frame};
 use crate::mentions::{judge_field, judge_variable};
 use crate::operands::ask;
 use crate::variables::Variables;
-use declarations::{Demand, Mismatch, Mistake, Scope, ValueKind};
+use declarations::{Demand, Mismatch, Mistake, Scope, ValueType};
 use source::{Memory, Span};
 use tree::Exchange;
 
@@ -31,51 +31,46 @@ pub(crate) fn judge_exchange(
     let held = judge_variable(scope, variables, exchange.holder, found)?;
     let asked = judge_holder(scope, held, exchange.holder, exchange.field, found)?;
     let given = judge_variable(scope, variables, exchange.given, found)?;
-    let mismatch = Mismatch::Given(Demand::Kind(asked), given);
+    let mismatch = Mismatch::Given(Demand::OfType(asked), given);
     ask(given.agrees(asked), exchange.given.place, mismatch, found)
 }
 
-/// The kind of the field with which something is exchanged; adds what is wrong with the field, or with what has it.
+/// The type of the field with which something is exchanged; adds what is wrong with the field, or with what has it.
 fn judge_holder(
     scope: &Scope<'_>,
-    held: ValueKind,
+    held: ValueType,
     holder: Span,
     field: Span,
     found: &mut Vec<Mistake>,
-) -> Result<ValueKind, Memory>
-    ensures { IfOk result (GivesIn scope.now (λ s. exchanged_kind s held field)
+) -> Result<ValueType, Memory>
+    ensures { IfOk result (GivesIn scope.now (λ s. exchanged_type s held field)
         (λ s. holder_mistakes s held holder field) found.old.items found.new.items) }
 {
     match held {
-        ValueKind::Pointer(_) => judge_owning(scope, held, holder, field, found),
+        ValueType::Pointer(_) => judge_owning(scope, held, holder, field, found),
         _ => {
             let mismatch = Mismatch::Given(Demand::Pointer, held);
             ask(held.is_silent(), holder.place, mismatch, found)?;
-            Ok(ValueKind::Unknown)
+            Ok(ValueType::Unknown)
         }
     }
 }
 
-/// The kind of a field of what a variable holds; adds what is wrong with it, and one that does not own.
+/// The type of a field of what a variable holds; adds what is wrong with it, and one that does not own.
 fn judge_owning(
     scope: &Scope<'_>,
-    held: ValueKind,
+    held: ValueType,
     holder: Span,
     field: Span,
     found: &mut Vec<Mistake>,
-) -> Result<ValueKind, Memory>
-    ensures { IfOk result (GivesIn scope.now (λ s. field_kind s held field) (λ s. field_mistakes s held holder field
-        ++ unless (is_silent (field_kind s held field) || is_block (field_kind s held field)) field.place
-        (Mismatch.Given Demand.Block (field_kind s held field)))
+) -> Result<ValueType, Memory>
+    ensures { IfOk result (GivesIn scope.now (λ s. field_type s held field) (λ s. field_mistakes s held holder field
+        ++ unless (is_silent (field_type s held field) || is_block (field_type s held field)) field.place
+        (Mismatch.Given Demand.Block (field_type s held field)))
         found.old.items found.new.items) }
 {
-    let kind = judge_field(scope, held, holder, field, found)?;
-    let well = kind.is_silent() || kind.is_block();
-    ask(
-        well,
-        field.place,
-        Mismatch::Given(Demand::Block, kind),
-        found,
-    )?;
-    Ok(kind)
+    let ty = judge_field(scope, held, holder, field, found)?;
+    let well = ty.is_silent() || ty.is_block();
+    ask(well, field.place, Mismatch::Given(Demand::Block, ty), found)?;
+    Ok(ty)
 }

@@ -1,10 +1,10 @@
-//! What is wrong with the names and kinds in expressions.
+//! What is wrong with the names and types in expressions.
 
 ghost use Rattle.std.specs.Prelude.{◌≡◌, ℕ, List, OnOk, IfOk};
 ghost use Rattle.declarations.specs.declared.mistake.Mistake.{Mistake as MistakeModel};
 ghost use Rattle.tree.specs.ExpressionTrees.{expression_tree, disjunction_tree, conjunction_tree, equality_tree, relation_tree};
 ghost use Rattle.tree.specs.ExpressionTrees.{sum_tree, factors_tree, factor_tree, unary_tree, prefixed_tree, atom_tree, target_tree};
-ghost use Rattle.names.specs.Expressions.{InScope, kind_of, expression_mistakes, whole_mistakes};
+ghost use Rattle.names.specs.Expressions.{InScope, type_of, expression_mistakes, whole_mistakes};
 ghost use Rattle.declarations.specs.Mistakes.{Adds};
 ghost use Rattle.names.specs.Frames.{IsFrame};
 ghost use Rattle.names.specs.Operands.{IsJudged, Judges};
@@ -19,14 +19,14 @@ use crate::operands::{Joint, Operand, join, sign};
 use crate::terms::{Terms, joined_terms};
 use crate::variables::Variables;
 use crate::wholes::judge_whole_operand;
-use declarations::{Mistake, Scope, ValueKind};
+use declarations::{Mistake, Scope, ValueType};
 use source::Memory;
 use tree::{
     Atom, Conjunction, Disjunction, Equality, Expression, Factor, FactorOperator, Factors, Prefix,
     Prefixed, Relation, Sum, Target, Unary,
 };
 
-/// The kind of an expression, and where it begins; adds what is wrong in it.
+/// The type of an expression, and where it begins; adds what is wrong in it.
 #[cycle(expressions)]
 pub(crate) fn judge_operand(
     scope: &Scope<'_>,
@@ -130,7 +130,7 @@ fn judge_sum(
     }
 }
 
-/// The same of a row of factors.
+/// The same of a sequence of factors.
 #[cycle(expressions)]
 fn judge_factors(
     scope: &Scope<'_>,
@@ -244,7 +244,7 @@ fn judge_atom(
         Atom::Parens { open, inner } => {
             let inner = judge_operand(scope, variables, inner, found)?;
             Ok(Operand {
-                kind: inner.kind,
+                ty: inner.ty,
                 place: open.place,
             })
         }
@@ -273,21 +273,21 @@ fn judge_mentioned(
     }
 }
 
-/// The kind of an expression; adds what is wrong in it.
+/// The type of an expression; adds what is wrong in it.
 pub(crate) fn judge_expression(
     scope: &Scope<'_>,
     variables: &Variables<'_>,
     expression: &Expression,
     found: &mut Vec<Mistake>,
-) -> Result<ValueKind, Memory>
-    ensures kind { IfOk result (λ kind. (p : Program) (f : Frame) → IsScope p scope.now → IsFrame p.text f variables.now
-        → kind ≡ kind_of (record { program = p; variables = f.variables }) (shape (expression_tree expression.now))) }
+) -> Result<ValueType, Memory>
+    ensures ty { IfOk result (λ ty. (p : Program) (f : Frame) → IsScope p scope.now → IsFrame p.text f variables.now
+        → ty ≡ type_of (record { program = p; variables = f.variables }) (shape (expression_tree expression.now))) }
     ensures found { (p : Program) (f : Frame) → IsScope p scope.now
         → IsFrame p.text f variables.now → OnOk result (Adds found.old.items found.new.items
         (expression_mistakes (record { program = p; variables = f.variables }) (shape (expression_tree expression.now)))) }
 {
     let operand = judge_operand(scope, variables, expression, found)?;
-    Ok(operand.kind)
+    Ok(operand.ty)
 }
 
 /// The same of an expression that is the whole of a value, an argument or what is returned: a variable of the exchange
@@ -297,12 +297,12 @@ pub(crate) fn judge_whole(
     variables: &Variables<'_>,
     expression: &Expression,
     found: &mut Vec<Mistake>,
-) -> Result<ValueKind, Memory>
-    ensures kind { IfOk result (λ kind. (p : Program) (f : Frame) → IsScope p scope.now → IsFrame p.text f variables.now
-        → kind ≡ kind_of (record { program = p; variables = f.variables }) (shape (expression_tree expression.now))) }
+) -> Result<ValueType, Memory>
+    ensures ty { IfOk result (λ ty. (p : Program) (f : Frame) → IsScope p scope.now → IsFrame p.text f variables.now
+        → ty ≡ type_of (record { program = p; variables = f.variables }) (shape (expression_tree expression.now))) }
     ensures found { (p : Program) (f : Frame) → IsScope p scope.now → IsFrame p.text f variables.now → OnOk result (Adds found.old.items
         found.new.items (whole_mistakes (record { program = p; variables = f.variables }) (shape (expression_tree expression.now)))) }
 {
     let operand = judge_whole_operand(scope, variables, expression, found)?;
-    Ok(operand.kind)
+    Ok(operand.ty)
 }

@@ -1,4 +1,4 @@
-//! What is wrong with the names and kinds of a program.
+//! What is wrong with the names and types of a program.
 
 ghost use Rattle.std.specs.Prelude.{◌≡◌, OnOk};
 ghost use Rattle.std.specs.List.{flat_map};
@@ -15,7 +15,7 @@ use declarations::{
 use source::Memory;
 use std::alloc::Global;
 
-/// Adds all that is wrong with the names and kinds of a program.
+/// Adds all that is wrong with the names and types of a program.
 pub(crate) fn judge_program(
     alloc: Global,
     scope: &Scope<'_>,

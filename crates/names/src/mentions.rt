@@ -4,8 +4,8 @@ ghost use Rattle.std.specs.Prelude.{◌≡◌, ℕ, List, [], ◌∷◌, OnOk, I
 ghost use Rattle.declarations.specs.declared.mistake.Mistake.{Mistake as MistakeModel};
 ghost use Rattle.source.specs.declared.token.Span.{Span};
 ghost use Rattle.tree.specs.Trees.{StructTree};
-ghost use Rattle.names.specs.Expressions.{InScope, meant, held, variable_mistakes, field_kind, field_mistakes};
-ghost use Rattle.names.specs.Expressions.{element_kind, element_mistakes, struct_field_kind, is_owning, owns};
+ghost use Rattle.names.specs.Expressions.{InScope, meant, held, variable_mistakes, field_type, field_mistakes};
+ghost use Rattle.names.specs.Expressions.{element_type, element_mistakes, struct_field_type, is_owning, owns};
 ghost use Rattle.declarations.specs.Named.{field_named};
 ghost use Rattle.declarations.specs.Mistakes.{Adds};
 ghost use Rattle.names.specs.Mentions.{Gives, GivesIn, IsGiven};
@@ -18,7 +18,7 @@ ghost use Rattle.tables.specs.Words.{word_at, same_word};
 use crate::operands::{Operand, ask, ask_number};
 use crate::variables::Variables;
 use declarations::{
-    Demand, Fields, Mismatch, Mistake, NameSort, Scope, ValueKind, add_unknown, is_heap,
+    Demand, Fields, Mismatch, Mistake, NameSort, Scope, ValueType, add_unknown, is_heap,
 };
 use program::Scalar;
 use source::{Memory, Span};
@@ -30,15 +30,15 @@ pub(crate) fn judge_variable(
     variables: &Variables<'_>,
     name: Span,
     found: &mut Vec<Mistake>,
-) -> Result<ValueKind, Memory>
+) -> Result<ValueType, Memory>
     ensures { IfOk result
         (Gives scope.now variables.now (λ s. held (meant s name)) (λ s. variable_mistakes s name) found.old.items found.new.items) }
 {
     match variables.find(scope.text, name) {
-        Some(variable) => Ok(variable.kind),
+        Some(variable) => Ok(variable.ty),
         None => {
             add_unknown(name, NameSort::Variable(variables.len()), found)?;
-            Ok(ValueKind::Unknown)
+            Ok(ValueType::Unknown)
         }
     }
 }
@@ -52,11 +52,11 @@ pub(crate) fn judge_mention(
 ) -> Result<Operand, Memory>
     ensures { IfOk result (Judges scope.now variables.now (shapes.Mention name) found.old.items found.new.items) }
 {
-    let kind = judge_variable(scope, variables, name, found)?;
-    let mismatch = Mismatch::Given(Demand::NoBlock, kind);
-    ask(!kind.is_block(), name.place, mismatch, found)?;
+    let ty = judge_variable(scope, variables, name, found)?;
+    let mismatch = Mismatch::Given(Demand::NoBlock, ty);
+    ask(!ty.is_block(), name.place, mismatch, found)?;
     Ok(Operand {
-        kind,
+        ty,
         place: name.place,
     })
 }
@@ -72,11 +72,11 @@ pub(crate) fn judge_field_of(
     ensures { IfOk result (Judges scope.now variables.now (shapes.Field variable field) found.old.items found.new.items) }
 {
     let held = judge_variable(scope, variables, variable, found)?;
-    let kind = judge_field(scope, held, variable, field, found)?;
-    let well = !owns(scope, held, field, kind);
+    let ty = judge_field(scope, held, variable, field, found)?;
+    let well = !owns(scope, held, field, ty);
     ask(well, variable.place, Mismatch::FieldOwns, found)?;
     Ok(Operand {
-        kind,
+        ty,
         place: variable.place,
     })
 }
@@ -93,21 +93,21 @@ pub(crate) fn judge_element_of(
     ensures { IfOk result (λ o. (e : Shape) (start : List MistakeModel) → Judges scope.now variables.now e start found.old.items index
         → Judges scope.now variables.now (shapes.Element variable e) start found.new.items o) }
 {
-    ask_number(index.kind, index.place, found)?;
+    ask_number(index.ty, index.place, found)?;
     let held = judge_variable(scope, variables, variable, found)?;
     judge_element(held, variable, found)?;
     Ok(Operand {
-        kind: kind_of_element(held, index.kind.is_unknown()),
+        ty: type_of_element(held, index.ty.is_unknown()),
         place: variable.place,
     })
 }
 
 /// Adds a variable that has no elements.
-fn judge_element(held: ValueKind, variable: Span, found: &mut Vec<Mistake>) -> Result<(), Memory>
+fn judge_element(held: ValueType, variable: Span, found: &mut Vec<Mistake>) -> Result<(), Memory>
     ensures { OnOk result (Adds found.old.items found.new.items (element_mistakes held variable)) }
 {
     match held {
-        ValueKind::Array(_) => Ok(()),
+        ValueType::Array(_) => Ok(()),
         _ => {
             let mismatch = Mismatch::Given(Demand::Array, held);
             ask(held.is_silent(), variable.place, mismatch, found)
@@ -115,59 +115,59 @@ fn judge_element(held: ValueKind, variable: Span, found: &mut Vec<Mistake>) -> R
     }
 }
 
-/// The kind of an element, where the index is built on an unknown name or not.
-fn kind_of_element(held: ValueKind, lost: bool) -> ValueKind
-    ensures { result ≡ element_kind held lost }
+/// The type of an element, where the index is built on an unknown name or not.
+fn type_of_element(held: ValueType, lost: bool) -> ValueType
+    ensures { result ≡ element_type held lost }
 {
     match held {
-        _ if lost => ValueKind::Unknown,
-        ValueKind::Unknown => ValueKind::Unknown,
-        ValueKind::Array(element) => ValueKind::Scalar(element),
-        _ => ValueKind::Missing,
+        _ if lost => ValueType::Unknown,
+        ValueType::Unknown => ValueType::Unknown,
+        ValueType::Array(element) => ValueType::Scalar(element),
+        _ => ValueType::Missing,
     }
 }
 
-/// The kind of a field of what a variable holds; adds what is wrong with it.
+/// The type of a field of what a variable holds; adds what is wrong with it.
 pub(crate) fn judge_field(
     scope: &Scope<'_>,
-    held: ValueKind,
+    held: ValueType,
     variable: Span,
     field: Span,
     found: &mut Vec<Mistake>,
-) -> Result<ValueKind, Memory>
+) -> Result<ValueType, Memory>
     ensures { IfOk result
-        (GivesIn scope.now (λ s. field_kind s held field) (λ s. field_mistakes s held variable field) found.old.items found.new.items) }
+        (GivesIn scope.now (λ s. field_type s held field) (λ s. field_mistakes s held variable field) found.old.items found.new.items) }
 {
     match held {
-        ValueKind::Array(_) => judge_length(scope.text, field, found),
-        ValueKind::Pointer(place) => judge_struct_field(scope, place, field, found),
-        ValueKind::Unknown => Ok(ValueKind::Unknown),
+        ValueType::Array(_) => judge_length(scope.text, field, found),
+        ValueType::Pointer(place) => judge_struct_field(scope, place, field, found),
+        ValueType::Unknown => Ok(ValueType::Unknown),
         _ => {
             let mismatch = Mismatch::Given(Demand::Fields, held);
             ask(held.is_silent(), variable.place, mismatch, found)?;
-            Ok(ValueKind::Missing)
+            Ok(ValueType::Missing)
         }
     }
 }
 
-/// Whether a field of this kind, of what a variable holds, owns.
+/// Whether a field of this type, of what a variable holds, owns.
 #[inline(always)]
-pub(crate) fn owns(scope: &Scope<'_>, held: ValueKind, field: Span, kind: ValueKind) -> bool
-    ensures { (s : InScope) → IsScope s.program scope.now → kind ≡ field_kind s held field → result ≡ owns s held field }
+pub(crate) fn owns(scope: &Scope<'_>, held: ValueType, field: Span, ty: ValueType) -> bool
+    ensures { (s : InScope) → IsScope s.program scope.now → ty ≡ field_type s held field → result ≡ owns s held field }
 {
-    match kind {
+    match ty {
         // Most fields are scalars, which own nothing, so these are not looked up a second time.
-        ValueKind::Scalar(_) => false,
+        ValueType::Scalar(_) => false,
         _ => is_owner(scope, held, field),
     }
 }
 
 /// Whether a field of what a variable holds owns.
-fn is_owner(scope: &Scope<'_>, held: ValueKind, field: Span) -> bool
+fn is_owner(scope: &Scope<'_>, held: ValueType, field: Span) -> bool
     ensures { (s : InScope) → IsScope s.program scope.now → result ≡ owns s held field }
 {
     match held {
-        ValueKind::Pointer(place) => is_owning(scope.field(place, field)),
+        ValueType::Pointer(place) => is_owning(scope.field(place, field)),
         _ => false,
     }
 }
@@ -181,17 +181,17 @@ fn is_owning(field: Option<Field>) -> bool
     }
 }
 
-/// The kind of a field of an array; adds any but its length.
-fn judge_length(text: &[u8], field: Span, found: &mut Vec<Mistake>) -> Result<ValueKind, Memory>
+/// The type of a field of an array; adds any but its length.
+fn judge_length(text: &[u8], field: Span, found: &mut Vec<Mistake>) -> Result<ValueType, Memory>
     ensures { IfOk result (let is_length = same_word (word_at text.now field) (codes "Length") in
-        IsGiven (if is_length then ValueKind.Scalar Scalar.Int else ValueKind.Unknown)
+        IsGiven (if is_length then ValueType.Scalar Scalar.Int else ValueType.Unknown)
         (if is_length then [] else Mistake.Unknown field NameSort.Length ∷ []) found.old.items found.new.items) }
 {
     if is_length(text, field) {
-        return Ok(ValueKind::Scalar(Scalar::Int));
+        return Ok(ValueType::Scalar(Scalar::Int));
     }
     add_unknown(field, NameSort::Length, found)?;
-    Ok(ValueKind::Unknown)
+    Ok(ValueType::Unknown)
 }
 
 /// Whether this name is `Length`.
@@ -201,41 +201,41 @@ pub(crate) fn is_length(text: &[u8], name: Span) -> bool
     name.slice(text) == b"Length".as_slice()
 }
 
-/// The kind of a field of what a pointer leads to; adds one that the struct lacks.
+/// The type of a field of what a pointer leads to; adds one that the struct lacks.
 // Nothing is said of the pointer's own name, so in the clause that of the field stands for it.
 fn judge_struct_field(
     scope: &Scope<'_>,
     index: usize,
     field: Span,
     found: &mut Vec<Mistake>,
-) -> Result<ValueKind, Memory>
-    ensures { IfOk result (GivesIn scope.now (λ s. field_kind s (ValueKind.Pointer index) field)
-        (λ s. field_mistakes s (ValueKind.Pointer index) field field) found.old.items found.new.items) }
+) -> Result<ValueType, Memory>
+    ensures { IfOk result (GivesIn scope.now (λ s. field_type s (ValueType.Pointer index) field)
+        (λ s. field_mistakes s (ValueType.Pointer index) field field) found.old.items found.new.items) }
 {
     match scope.structure_at(index) {
         Some(fields) => judge_field_in(scope, index, fields, field, found),
-        None => Ok(ValueKind::Unknown),
+        None => Ok(ValueType::Unknown),
     }
 }
 
-/// The kind of a field of a struct, which is the item at this index; adds one that it lacks.
+/// The type of a field of a struct, which is the item at this index; adds one that it lacks.
 fn judge_field_in(
     scope: &Scope<'_>,
     index: usize,
     fields: &Fields<'_>,
     field: Span,
     found: &mut Vec<Mistake>,
-) -> Result<ValueKind, Memory>
+) -> Result<ValueType, Memory>
     ensures { IfOk result (λ k. (s : InScope) (x : StructTree) → IsScope s.program scope.now → AreFields scope.now.text.now x fields.now
-        → IsGiven (struct_field_kind s (field_named scope.now.text.now x field))
+        → IsGiven (struct_field_type s (field_named scope.now.text.now x field))
         (if is_some (field_named scope.now.text.now x field) then [] else Mistake.Unknown field (NameSort.Field index) ∷ [])
         found.old.items found.new.items k) }
 {
     match fields.find(scope.text, field) {
-        Some(declared) => Ok(scope.kind(declared.ty)),
+        Some(declared) => Ok(scope.type_meant(declared.ty)),
         None => {
             add_unknown(field, NameSort::Field(index), found)?;
-            Ok(ValueKind::Unknown)
+            Ok(ValueType::Unknown)
         }
     }
 }

@@ -1,4 +1,4 @@
-//! What is wrong with the names and kinds in classes.
+//! What is wrong with the names and types in classes.
 
 ghost use Rattle.std.specs.Prelude.{OnOk};
 ghost use Rattle.std.specs.List.{flat_map};
@@ -18,7 +18,7 @@ use source::Memory;
 use std::alloc::Global;
 use tree::{Method, Parameter, Type};
 
-/// Adds what is wrong with the names and kinds in a class.
+/// Adds what is wrong with the names and types in a class.
 pub(crate) fn judge_class<'a>(
     alloc: Global,
     scope: &Scope<'a>,
@@ -32,7 +32,7 @@ pub(crate) fn judge_class<'a>(
     judge_methods(alloc, scope, methods, found)
 }
 
-/// Adds what is wrong with the names and kinds in each method of a class.
+/// Adds what is wrong with the names and types in each method of a class.
 fn judge_methods<'a>(
     alloc: Global,
     scope: &Scope<'a>,
@@ -48,7 +48,7 @@ fn judge_methods<'a>(
     Ok(())
 }
 
-/// Adds what is wrong with the names and kinds in a method.
+/// Adds what is wrong with the names and types in a method.
 fn judge_method<'a>(
     alloc: Global,
     scope: &Scope<'a>,
@@ -74,11 +74,15 @@ fn judge_method<'a>(
 }
 
 /// Adds the names in the type that a method gives, if it gives anything, that are not declared.
-fn judge_result(scope: &Scope<'_>, ty: Option<Type>, found: &mut Vec<Mistake>) -> Result<(), Memory>
-    ensures { (p : Program) → IsScope p scope.now → OnOk result (Adds found.old.items found.new.items (result_unknown p ty)) }
+fn judge_result(
+    scope: &Scope<'_>,
+    written: Option<Type>,
+    found: &mut Vec<Mistake>,
+) -> Result<(), Memory>
+    ensures { (p : Program) → IsScope p scope.now → OnOk result (Adds found.old.items found.new.items (result_unknown p written)) }
 {
-    match ty {
-        Some(ty) => judge_type(scope, ty, found),
+    match written {
+        Some(written) => judge_type(scope, written, found),
         None => Ok(()),
     }
 }
@@ -112,11 +116,11 @@ fn judge_parameter<'a>(
         → OnOk result (Turned p.text found.old.items found.new.items variables.new (parameter_turn p parameter f)) }
 {
     judge_type(scope, parameter.ty, found)?;
-    let kind = scope.kind(parameter.ty);
+    let ty = scope.type_meant(parameter.ty);
     let heap = is_heap(parameter.ty);
     let variable = Variable {
         name: parameter.name,
-        kind,
+        ty,
     };
     variables.declare(alloc, scope.text, variable, heap, found)
 }

@@ -2,13 +2,13 @@
 
 ghost use Rattle.std.specs.Prelude.{◌≡◌, ◌||◌, IfOk, OnOk, ◌∷◌, [], if◌then◌else◌};
 ghost use Rattle.declarations.specs.Mistakes.{Adds};
-ghost use Rattle.declarations.specs.Kinds.{unless, is_unknown};
+ghost use Rattle.declarations.specs.Types.{unless, is_unknown};
 ghost use Rattle.names.specs.Expressions.{asked_number, asked_truth, asked_either, asked_like};
-ghost use Rattle.names.specs.Expressions.{left_asked, right_asked, joined_kind, signed_kind, sign_asked};
+ghost use Rattle.names.specs.Expressions.{left_asked, right_asked, joined_type, signed_type, sign_asked};
 ghost use Rattle.names.specs.Operands.{IsJoined, IsSigned};
 ghost use Rattle.names.specs.Shapes.{sign_of};
 
-use declarations::{Demand, Mismatch, Mistake, ValueKind};
+use declarations::{Demand, Mismatch, Mistake, ValueType};
 use program::Scalar;
 use source::{Memory, Place};
 use tree::{Prefix, PrefixOperator};
@@ -16,27 +16,27 @@ use tree::{Prefix, PrefixOperator};
 /// What an expression gives, and where it begins.
 #[derive(Clone, Copy)]
 pub(crate) struct Operand {
-    pub(crate) kind: ValueKind,
+    pub(crate) ty: ValueType,
     pub(crate) place: Place,
 }
 
 impl Operand {
     /// A number.
     pub(crate) fn number(place: Place) -> Operand
-        ensures { result ≡ record { kind = ValueKind.Scalar Scalar.Int; place = place } }
+        ensures { result ≡ record { ty = ValueType.Scalar Scalar.Int; place = place } }
     {
         Operand {
-            kind: ValueKind::Scalar(Scalar::Int),
+            ty: ValueType::Scalar(Scalar::Int),
             place,
         }
     }
 
     /// A truth value.
     pub(crate) fn truth(place: Place) -> Operand
-        ensures { result ≡ record { kind = ValueKind.Scalar Scalar.Bool; place = place } }
+        ensures { result ≡ record { ty = ValueType.Scalar Scalar.Bool; place = place } }
     {
         Operand {
-            kind: ValueKind::Scalar(Scalar::Bool),
+            ty: ValueType::Scalar(Scalar::Bool),
             place,
         }
     }
@@ -83,99 +83,95 @@ pub(crate) fn ask(
 
 /// Asks for a number.
 pub(crate) fn ask_number(
-    kind: ValueKind,
+    ty: ValueType,
     place: Place,
     found: &mut Vec<Mistake>,
 ) -> Result<(), Memory>
-    ensures { OnOk result (Adds found.old.items found.new.items (asked_number kind place)) }
+    ensures { OnOk result (Adds found.old.items found.new.items (asked_number ty place)) }
 {
-    if kind.is_silent() || kind.is_number() {
+    if ty.is_silent() || ty.is_number() {
         return Ok(());
     }
-    add_wrong_type(place, Mismatch::Given(Demand::Number, kind), found)
+    add_wrong_type(place, Mismatch::Given(Demand::Number, ty), found)
 }
 
 /// Asks for a truth value.
-pub(crate) fn ask_truth(
-    kind: ValueKind,
-    place: Place,
-    found: &mut Vec<Mistake>,
-) -> Result<(), Memory>
-    ensures { OnOk result (Adds found.old.items found.new.items (asked_truth kind place)) }
+pub(crate) fn ask_truth(ty: ValueType, place: Place, found: &mut Vec<Mistake>) -> Result<(), Memory>
+    ensures { OnOk result (Adds found.old.items found.new.items (asked_truth ty place)) }
 {
-    if kind.is_silent() || kind.is_truth() {
+    if ty.is_silent() || ty.is_truth() {
         return Ok(());
     }
-    add_wrong_type(place, Mismatch::Given(Demand::Truth, kind), found)
+    add_wrong_type(place, Mismatch::Given(Demand::Truth, ty), found)
 }
 
 /// Asks for a number or a truth value.
-fn ask_either(kind: ValueKind, place: Place, found: &mut Vec<Mistake>) -> Result<(), Memory>
-    ensures { OnOk result (Adds found.old.items found.new.items (asked_either kind place)) }
+fn ask_either(ty: ValueType, place: Place, found: &mut Vec<Mistake>) -> Result<(), Memory>
+    ensures { OnOk result (Adds found.old.items found.new.items (asked_either ty place)) }
 {
-    if kind.is_silent() || kind.is_number() || kind.is_truth() {
+    if ty.is_silent() || ty.is_number() || ty.is_truth() {
         return Ok(());
     }
-    add_wrong_type(place, Mismatch::Given(Demand::Scalar, kind), found)
+    add_wrong_type(place, Mismatch::Given(Demand::Scalar, ty), found)
 }
 
 /// Asks for what can be compared with what stands on the left.
 fn ask_like(
-    left: ValueKind,
-    kind: ValueKind,
+    left: ValueType,
+    ty: ValueType,
     place: Place,
     found: &mut Vec<Mistake>,
 ) -> Result<(), Memory>
-    ensures { OnOk result (Adds found.old.items found.new.items (asked_like left kind place)) }
+    ensures { OnOk result (Adds found.old.items found.new.items (asked_like left ty place)) }
 {
     if left.is_number() {
-        return ask_number(kind, place, found);
+        return ask_number(ty, place, found);
     }
     if left.is_truth() {
-        return ask_truth(kind, place, found);
+        return ask_truth(ty, place, found);
     }
-    ask_either(kind, place, found)
+    ask_either(ty, place, found)
 }
 
 /// What is asked on the left of an operator.
 fn ask_left(joint: Joint, left: Operand, found: &mut Vec<Mistake>) -> Result<(), Memory>
-    ensures { OnOk result (Adds found.old.items found.new.items (left_asked joint left.kind left.place)) }
+    ensures { OnOk result (Adds found.old.items found.new.items (left_asked joint left.ty left.place)) }
 {
     match joint {
-        Joint::Logic => ask_truth(left.kind, left.place, found),
-        Joint::Likeness => ask_either(left.kind, left.place, found),
-        Joint::Order => ask_number(left.kind, left.place, found),
-        Joint::Sum => ask_number(left.kind, left.place, found),
+        Joint::Logic => ask_truth(left.ty, left.place, found),
+        Joint::Likeness => ask_either(left.ty, left.place, found),
+        Joint::Order => ask_number(left.ty, left.place, found),
+        Joint::Sum => ask_number(left.ty, left.place, found),
     }
 }
 
 /// What is asked on the right of an operator.
 fn ask_right(
     joint: Joint,
-    left: ValueKind,
+    left: ValueType,
     right: Operand,
     found: &mut Vec<Mistake>,
 ) -> Result<(), Memory>
-    ensures { OnOk result (Adds found.old.items found.new.items (right_asked joint left right.kind right.place)) }
+    ensures { OnOk result (Adds found.old.items found.new.items (right_asked joint left right.ty right.place)) }
 {
     match joint {
-        Joint::Logic => ask_truth(right.kind, right.place, found),
-        Joint::Likeness => ask_like(left, right.kind, right.place, found),
-        Joint::Order => ask_number(right.kind, right.place, found),
-        Joint::Sum => ask_number(right.kind, right.place, found),
+        Joint::Logic => ask_truth(right.ty, right.place, found),
+        Joint::Likeness => ask_like(left, right.ty, right.place, found),
+        Joint::Order => ask_number(right.ty, right.place, found),
+        Joint::Sum => ask_number(right.ty, right.place, found),
     }
 }
 
-/// The kind of two operands that are joined.
-fn kind_joined(joint: Joint, left: ValueKind, right: ValueKind) -> ValueKind
-    ensures { result ≡ (if is_unknown left || is_unknown right then ValueKind.Unknown else joined_kind joint) }
+/// The type of two operands that are joined.
+fn type_joined(joint: Joint, left: ValueType, right: ValueType) -> ValueType
+    ensures { result ≡ (if is_unknown left || is_unknown right then ValueType.Unknown else joined_type joint) }
 {
     if left.is_unknown() || right.is_unknown() {
-        return ValueKind::Unknown;
+        return ValueType::Unknown;
     }
     match joint {
-        Joint::Logic | Joint::Likeness | Joint::Order => ValueKind::Scalar(Scalar::Bool),
-        Joint::Sum => ValueKind::Scalar(Scalar::Int),
+        Joint::Logic | Joint::Likeness | Joint::Order => ValueType::Scalar(Scalar::Bool),
+        Joint::Sum => ValueType::Scalar(Scalar::Int),
     }
 }
 
@@ -190,9 +186,9 @@ pub(crate) fn join(
     ensures { IfOk result (IsJoined joint left right found.old.items found.new.items) }
 {
     ask_left(joint, left, found)?;
-    ask_right(joint, left.kind, right, found)?;
+    ask_right(joint, left.ty, right, found)?;
     Ok(Operand {
-        kind: kind_joined(joint, left.kind, right.kind),
+        ty: type_joined(joint, left.ty, right.ty),
         place: left.place,
     })
 }
@@ -203,24 +199,24 @@ fn ask_signed(
     inner: Operand,
     found: &mut Vec<Mistake>,
 ) -> Result<(), Memory>
-    ensures { OnOk result (Adds found.old.items found.new.items (sign_asked (sign_of operator) inner.kind inner.place)) }
+    ensures { OnOk result (Adds found.old.items found.new.items (sign_asked (sign_of operator) inner.ty inner.place)) }
 {
     match operator {
-        PrefixOperator::Not => ask_truth(inner.kind, inner.place, found),
-        PrefixOperator::Negate => ask_number(inner.kind, inner.place, found),
+        PrefixOperator::Not => ask_truth(inner.ty, inner.place, found),
+        PrefixOperator::Negate => ask_number(inner.ty, inner.place, found),
     }
 }
 
-/// The kind of an operand with a sign before it.
-fn kind_signed(operator: PrefixOperator, inner: ValueKind) -> ValueKind
-    ensures { result ≡ (if is_unknown inner then ValueKind.Unknown else signed_kind (sign_of operator)) }
+/// The type of an operand with a sign before it.
+fn type_signed(operator: PrefixOperator, inner: ValueType) -> ValueType
+    ensures { result ≡ (if is_unknown inner then ValueType.Unknown else signed_type (sign_of operator)) }
 {
     if inner.is_unknown() {
-        return ValueKind::Unknown;
+        return ValueType::Unknown;
     }
     match operator {
-        PrefixOperator::Not => ValueKind::Scalar(Scalar::Bool),
-        PrefixOperator::Negate => ValueKind::Scalar(Scalar::Int),
+        PrefixOperator::Not => ValueType::Scalar(Scalar::Bool),
+        PrefixOperator::Negate => ValueType::Scalar(Scalar::Int),
     }
 }
 
@@ -234,7 +230,7 @@ pub(crate) fn sign(
 {
     ask_signed(prefix.operator, inner, found)?;
     Ok(Operand {
-        kind: kind_signed(prefix.operator, inner.kind),
+        ty: type_signed(prefix.operator, inner.ty),
         place: prefix.span.place,
     })
 }

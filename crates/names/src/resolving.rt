@@ -22,7 +22,7 @@ use tree::Tree;
 /// through the whole program, each from 0, so no two of them share a number; a named state is counted at its name, and behind it the
 /// unnamed ones of its paths. A name in an edge means the first declaration of that name in its contract.
 ///
-/// `Found` has all that is wrong with the names and kinds of the program, and comes exactly where something is; `Memory`
+/// `Found` has all that is wrong with the names and types of the program, and comes exactly where something is; `Memory`
 /// is answered where a growth was refused.
 pub fn resolve(alloc: Global, tree: &Tree, text: &[u8]) -> Result<Resolved, NameFaults>
     requires { length (program (program_tree tree.now)) < 2 ^ 32 }

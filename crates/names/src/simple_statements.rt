@@ -1,4 +1,4 @@
-//! What is wrong with the names and kinds in statements that hold no other statement.
+//! What is wrong with the names and types in statements that hold no other statement.
 
 ghost use Rattle.std.specs.Prelude.{◌≡◌, ◌++◌, ℕ, Option, None, Some, OnOk, IfOk, option_map};
 ghost use Rattle.tree.specs.ExpressionTrees.{expression_tree};
@@ -11,12 +11,12 @@ ghost use Rattle.names.specs.Expressions.{variable_mistakes, meant, held};
 ghost use Rattle.declarations.specs.Mistakes.{Adds};
 ghost use Rattle.names.specs.Frames.{IsContext, IsFrame, Turned, AreSurroundings};
 ghost use Rattle.names.specs.Operands.{in_frame};
-ghost use Rattle.declarations.specs.Kinds.{unless, is_heap};
-ghost use Rattle.program.specs.Kinds.{same_side};
+ghost use Rattle.declarations.specs.Types.{unless, is_heap};
+ghost use Rattle.program.specs.Types.{same_side};
 ghost use Rattle.declarations.specs.Program.{Program, contract_named};
 ghost use Rattle.declarations.specs.Scopes.{IsScope};
 ghost use Rattle.names.specs.Shapes.{shape};
-ghost use Rattle.names.specs.Values.{target_kind, target_mistakes, value_mistakes};
+ghost use Rattle.names.specs.Values.{target_type, target_mistakes, value_mistakes};
 ghost use Rattle.names.specs.Variables.{Frame};
 
 use crate::expressions::judge_whole;
@@ -28,7 +28,7 @@ use crate::values::judge_value;
 use crate::variables::{Variable, Variables};
 use crate::wholes::judge_asked;
 use declarations::{
-    Demand, Mismatch, Mistake, NameSort, Scope, ValueKind, add_unknown, is_heap, judge_type,
+    Demand, Mismatch, Mistake, NameSort, Scope, ValueType, add_unknown, is_heap, judge_type,
 };
 use program::Side;
 use source::{Memory, Span};
@@ -38,7 +38,7 @@ use tree::{Assign, Declare, Expression, NewChannel, Type, Value};
 fn judge_given<'a>(
     around: &Surroundings<'_, 'a>,
     variables: &Variables<'a>,
-    asked: ValueKind,
+    asked: ValueType,
     value: &Option<Value>,
     found: &mut Vec<Mistake>,
 ) -> Result<(), Memory>
@@ -62,12 +62,12 @@ pub(crate) fn judge_declare<'a>(
         result (Turned m.program.text found.old.items found.new.items variables.new (declaration_turn m (declare_tree declare.now) f)) }
 {
     let (alloc, scope) = (around.alloc, around.scope);
-    let kind = scope.kind(declare.ty);
+    let ty = scope.type_meant(declare.ty);
     judge_type(scope, declare.ty, found)?;
-    judge_given(around, variables, kind, &declare.value, found)?;
+    judge_given(around, variables, ty, &declare.value, found)?;
     let variable = Variable {
         name: declare.name,
-        kind,
+        ty,
     };
     let heap = is_heap(declare.ty);
     variables.declare(alloc, scope.text, variable, heap, found)
@@ -83,20 +83,20 @@ pub(crate) fn judge_assign<'a>(
     ensures { (m : bodies.Surroundings) (f : Frame) → AreSurroundings m around.now
         → IsFrame m.program.text f variables.now → OnOk result
         (Adds found.old.items found.new.items (target_mistakes (bodies.scope_in m f) (assign_tree assign.now).target ++ value_mistakes
-        (bodies.inside_of m f) (target_kind (bodies.scope_in m f) (assign_tree assign.now).target) (assign_tree assign.now).value)) }
+        (bodies.inside_of m f) (target_type (bodies.scope_in m f) (assign_tree assign.now).target) (assign_tree assign.now).value)) }
 {
     let asked = judge_target(around.scope, variables, &assign.target, found)?;
     judge_value(around, variables, asked, &assign.value, found)
 }
 
-/// The kind of what this name means.
-pub(crate) fn kind_held(scope: &Scope<'_>, variables: &Variables<'_>, name: Span) -> ValueKind
+/// The type of what this name means.
+pub(crate) fn held_type(scope: &Scope<'_>, variables: &Variables<'_>, name: Span) -> ValueType
     ensures { (p : Program) (f : Frame) → IsScope p scope.now → IsFrame p.text f variables.now
         → result ≡ held (meant (record { program = p; variables = f.variables }) name) }
 {
     match variables.find(scope.text, name) {
-        Some(variable) => variable.kind,
-        None => ValueKind::Unknown,
+        Some(variable) => variable.ty,
+        None => ValueType::Unknown,
     }
 }
 
@@ -125,63 +125,58 @@ pub(crate) fn judge_delete(
         → OnOk result (Adds found.old.items found.new.items (delete_mistakes (record { program = p; variables = f.variables }) name)) }
 {
     judge_use(scope, variables, name, found)?;
-    let kind = kind_held(scope, variables, name);
-    let well = kind.is_silent() || kind.is_block();
-    ask(
-        well,
-        name.place,
-        Mismatch::Given(Demand::Block, kind),
-        found,
-    )
+    let ty = held_type(scope, variables, name);
+    let well = ty.is_silent() || ty.is_block();
+    ask(well, name.place, Mismatch::Given(Demand::Block, ty), found)
 }
 
 /// Whether it is an end of the contract that is the item at this index.
-fn is_end_of(index: usize, kind: ValueKind) -> bool
-    ensures { result ≡ is_end_of index kind }
+fn is_end_of(index: usize, ty: ValueType) -> bool
+    ensures { result ≡ is_end_of index ty }
 {
-    match kind {
-        ValueKind::Endpoint(_, contract) => index == contract,
+    match ty {
+        ValueType::Endpoint(_, contract) => index == contract,
         _ => false,
     }
 }
 
 /// Whether both are the same end of a channel.
-fn same_end(first: ValueKind, second: ValueKind) -> bool
+fn same_end(first: ValueType, second: ValueType) -> bool
     ensures { result ≡ same_end first second }
 {
     match (first, second) {
-        (ValueKind::Endpoint(first, _), ValueKind::Endpoint(second, _)) => first == second,
+        (ValueType::Endpoint(first, _), ValueType::Endpoint(second, _)) => first == second,
         _ => false,
     }
 }
 
 /// What is asked of the second end of a new channel of the contract that is the item at this index: the other end, where the first
 /// is one.
-fn demand_beside(index: usize, first: ValueKind) -> Demand
+fn demand_beside(index: usize, first: ValueType) -> Demand
     ensures { result ≡ demand_beside index first }
 {
     match first {
-        ValueKind::Endpoint(Side::Imp, contract) if index == contract => {
-            Demand::Kind(ValueKind::Endpoint(Side::Exp, index))
+        ValueType::Endpoint(Side::Imp, contract) if index == contract => {
+            Demand::OfType(ValueType::Endpoint(Side::Exp, index))
         }
-        ValueKind::Endpoint(Side::Exp, contract) if index == contract => {
-            Demand::Kind(ValueKind::Endpoint(Side::Imp, index))
+        ValueType::Endpoint(Side::Exp, contract) if index == contract => {
+            Demand::OfType(ValueType::Endpoint(Side::Imp, index))
         }
         _ => Demand::EndOf(index),
     }
 }
 
-/// Adds what is wrong with these kinds for the two ends of a new channel of a contract.
+/// Adds what is wrong with these types for the two ends of a new channel of a contract.
 fn judge_ends(
     index: usize,
-    kinds: (ValueKind, ValueKind),
+    types: (ValueType, ValueType),
     first: Span,
     second: Span,
     found: &mut Vec<Mistake>,
 ) -> Result<(), Memory>
-    ensures { OnOk result (Adds found.old.items found.new.items (ends_mistakes index kinds.0 kinds.1 first second)) }
+    ensures { OnOk result (Adds found.old.items found.new.items (ends_mistakes index types.0 types.1 first second)) }
 {
-    let (left, right) = kinds;
+    let (left, right) = types;
     let is_left = is_end_of(index, left);
     let first_mismatch = Mismatch::Given(Demand::EndOf(index), left);
     ask(
@@ -196,7 +191,7 @@ fn judge_ends(
     ask(well, second.place, second_mismatch, found)
 }
 
-/// Adds what is wrong with the contract and the kinds of the ends of a new channel.
+/// Adds what is wrong with the contract and the types of the ends of a new channel.
 fn judge_new_ends(
     scope: &Scope<'_>,
     variables: &Variables<'_>,
@@ -207,8 +202,8 @@ fn judge_new_ends(
         → OnOk result (Adds found.old.items found.new.items (new_ends_mistakes (record { program = p; variables = f.variables })
         (contract_named p channel.contract) channel.contract channel.first channel.second)) }
 {
-    let left = kind_held(scope, variables, channel.first);
-    let right = kind_held(scope, variables, channel.second);
+    let left = held_type(scope, variables, channel.first);
+    let right = held_type(scope, variables, channel.second);
     match scope.contract_index(channel.contract) {
         Some(place) => judge_ends(place, (left, right), channel.first, channel.second, found),
         None => add_unknown(channel.contract, NameSort::Contract, found),
@@ -266,10 +261,10 @@ fn judge_returned(
         variables,
         ..
     } = *context;
-    let kind = scope.kind(asked);
+    let ty = scope.type_meant(asked);
     match value {
-        Some(value) => judge_asked(scope, variables, kind, value, found),
-        None => add_wrong_type(word.place, Mismatch::NoValue(kind), found),
+        Some(value) => judge_asked(scope, variables, ty, value, found),
+        None => add_wrong_type(word.place, Mismatch::NoValue(ty), found),
     }
 }
 

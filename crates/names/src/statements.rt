@@ -1,4 +1,4 @@
-//! What is wrong with the names and kinds in statements.
+//! What is wrong with the names and types in statements.
 
 ghost use Rattle.std.specs.Prelude.{◌≡◌, List, Some, map, take, OnOk, slice_get, [], ◌∷◌};
 ghost use Rattle.tree.specs.StatementTrees.{statement_tree, statement_sequence, block_tree, test_tree};

@@ -1,30 +1,30 @@
-//! What is wrong with the names and kinds in targets.
+//! What is wrong with the names and types in targets.
 
 ghost use Rattle.std.specs.Prelude.{◌++◌, not, IfOk, OnOk};
 ghost use Rattle.tree.specs.ExpressionTrees.{target_tree};
-ghost use Rattle.names.specs.Expressions.{InScope, meant, held, variable_mistakes, field_kind, field_mistakes, owns};
+ghost use Rattle.names.specs.Expressions.{InScope, meant, held, variable_mistakes, field_type, field_mistakes, owns};
 ghost use Rattle.declarations.specs.Mistakes.{Adds};
-ghost use Rattle.declarations.specs.Kinds.{unless};
+ghost use Rattle.declarations.specs.Types.{unless};
 ghost use Rattle.names.specs.Mentions.{Gives};
 ghost use Rattle.declarations.specs.Scopes.{IsScope};
-ghost use Rattle.names.specs.Values.{target_kind, target_mistakes, length_mistakes};
+ghost use Rattle.names.specs.Values.{target_type, target_mistakes, length_mistakes};
 
 use crate::expressions::judge_operand;
 use crate::mentions::{is_length, judge_element_of, judge_field, judge_variable, owns};
 use crate::operands::ask;
 use crate::variables::Variables;
-use declarations::{Mismatch, Mistake, Scope, ValueKind};
+use declarations::{Mismatch, Mistake, Scope, ValueType};
 use source::{Memory, Span};
 use tree::Target;
 
-/// The kind that is asked of a value for this target; adds what is wrong with the target.
+/// The type that is asked of a value for this target; adds what is wrong with the target.
 pub(crate) fn judge_target(
     scope: &Scope<'_>,
     variables: &Variables<'_>,
     target: &Target,
     found: &mut Vec<Mistake>,
-) -> Result<ValueKind, Memory>
-    ensures { IfOk result (Gives scope.now variables.now (λ s. target_kind s (target_tree target.now))
+) -> Result<ValueType, Memory>
+    ensures { IfOk result (Gives scope.now variables.now (λ s. target_type s (target_tree target.now))
         (λ s. target_mistakes s (target_tree target.now)) found.old.items found.new.items) }
 {
     match target {
@@ -35,7 +35,7 @@ pub(crate) fn judge_target(
         Target::Element(part) => {
             let index = judge_operand(scope, variables, &part.index, found)?;
             let element = judge_element_of(scope, variables, part.variable, index, found)?;
-            Ok(element.kind)
+            Ok(element.ty)
         }
     }
 }
@@ -47,25 +47,25 @@ fn judge_field_target(
     variable: Span,
     field: Span,
     found: &mut Vec<Mistake>,
-) -> Result<ValueKind, Memory>
-    ensures { IfOk result (Gives scope.now variables.now (λ s. field_kind s (held (meant s variable)) field)
+) -> Result<ValueType, Memory>
+    ensures { IfOk result (Gives scope.now variables.now (λ s. field_type s (held (meant s variable)) field)
         (λ s. variable_mistakes s variable ++ (field_mistakes s (held (meant s variable)) variable field
         ++ (length_mistakes s (held (meant s variable)) field ++ unless (not (owns s (held (meant s variable)) field)) field.place
         Mismatch.FieldOwns)))
         found.old.items found.new.items) }
 {
     let held = judge_variable(scope, variables, variable, found)?;
-    let kind = judge_field(scope, held, variable, field, found)?;
+    let ty = judge_field(scope, held, variable, field, found)?;
     judge_written(scope, held, field, found)?;
-    let well = !owns(scope, held, field, kind);
+    let well = !owns(scope, held, field, ty);
     ask(well, field.place, Mismatch::FieldOwns, found)?;
-    Ok(kind)
+    Ok(ty)
 }
 
 /// Adds the length of an array.
 fn judge_written(
     scope: &Scope<'_>,
-    held: ValueKind,
+    held: ValueType,
     field: Span,
     found: &mut Vec<Mistake>,
 ) -> Result<(), Memory>
@@ -73,7 +73,7 @@ fn judge_written(
         → OnOk result (Adds found.old.items found.new.items (length_mistakes s held field)) }
 {
     match held {
-        ValueKind::Array(_) => {
+        ValueType::Array(_) => {
             let well = !is_length(scope.text, field);
             ask(well, field.place, Mismatch::LengthWritten, found)
         }

@@ -1,4 +1,4 @@
-//! What is wrong with the names and kinds in values.
+//! What is wrong with the names and types in values.
 
 ghost use Rattle.std.specs.Prelude.{◌≡◌, map, OnOk, IfOk};
 ghost use Rattle.tree.specs.ExpressionTrees.{expression_tree};
@@ -7,11 +7,11 @@ ghost use Rattle.names.specs.Bodies as bodies;
 ghost use Rattle.declarations.specs.Mistakes.{Adds};
 ghost use Rattle.names.specs.Frames.{AreSurroundings, IsContext, IsFrame};
 ghost use Rattle.names.specs.Operands.{in_frame};
-ghost use Rattle.declarations.specs.Kinds.{pointer_kind};
+ghost use Rattle.declarations.specs.Types.{pointer_type};
 ghost use Rattle.declarations.specs.Program.{Program, struct_named};
 ghost use Rattle.declarations.specs.Scopes.{IsScope};
 ghost use Rattle.names.specs.Shapes.{shape};
-ghost use Rattle.names.specs.Values.{made_kind, made_mistakes, struct_made_mistakes, new_mistakes, value_mistakes};
+ghost use Rattle.names.specs.Values.{made_type, made_mistakes, struct_made_mistakes, new_mistakes, value_mistakes};
 ghost use Rattle.names.specs.Variables.{Frame};
 
 use crate::arguments::judge_typed_arguments;
@@ -21,19 +21,19 @@ use crate::surroundings::{NameContext, Surroundings};
 use crate::told::judge_count;
 use crate::variables::Variables;
 use crate::wholes::{judge_asked, judge_number};
-use declarations::{Demand, Mismatch, Mistake, NameSort, Scope, ValueKind};
+use declarations::{Demand, Mismatch, Mistake, NameSort, Scope, ValueType};
 use source::{Memory, Span};
 use tree::{Expression, Made, New, Value};
 
-/// The kind of a pointer to the struct of this name; adds that there is none, and what is wrong with what is given for its
+/// The type of a pointer to the struct of this name; adds that there is none, and what is wrong with what is given for its
 /// fields that own.
 fn judge_structure(
     context: &NameContext<'_, '_>,
     name: Span,
     arguments: &[Expression],
     found: &mut Vec<Mistake>,
-) -> Result<ValueKind, Memory>
-    ensures kind { IfOk result (λ kind. (p : Program) → IsScope p context.now.scope.now → kind ≡ pointer_kind (struct_named p name)) }
+) -> Result<ValueType, Memory>
+    ensures ty { IfOk result (λ ty. (p : Program) → IsScope p context.now.scope.now → ty ≡ pointer_type (struct_named p name)) }
     ensures found { (p : Program) (f : Frame) → IsContext p f context.now
         → OnOk result (Adds found.old.items found.new.items (struct_made_mistakes (in_frame p f)
         (struct_named p name) name (map shape (map expression_tree arguments.now)))) }
@@ -47,23 +47,23 @@ fn judge_structure(
         Some((place, owning)) => {
             judge_count(owning.len(), arguments.len(), name.place, found)?;
             judge_typed_arguments(alloc, scope, variables, owning, arguments, found)?;
-            Ok(ValueKind::Pointer(place))
+            Ok(ValueType::Pointer(place))
         }
         None => {
             judge_unknown(context, name, NameSort::Struct, arguments, found)?;
-            Ok(ValueKind::Unknown)
+            Ok(ValueType::Unknown)
         }
     }
 }
 
-/// The kind of what `new` makes; adds what is wrong in it.
+/// The type of what `new` makes; adds what is wrong in it.
 fn judge_made(
     context: &NameContext<'_, '_>,
     made: &Made,
     found: &mut Vec<Mistake>,
-) -> Result<ValueKind, Memory>
-    ensures kind { IfOk result (λ kind. (p : Program) (f : Frame) → IsScope p context.now.scope.now
-        → kind ≡ made_kind (in_frame p f) (made_tree made.now)) }
+) -> Result<ValueType, Memory>
+    ensures ty { IfOk result (λ ty. (p : Program) (f : Frame) → IsScope p context.now.scope.now
+        → ty ≡ made_type (in_frame p f) (made_tree made.now)) }
     ensures found { (p : Program) (f : Frame) → IsContext p f context.now
         → OnOk result (Adds found.old.items found.new.items (made_mistakes (in_frame p f) (made_tree made.now))) }
 {
@@ -73,36 +73,36 @@ fn judge_made(
             arguments,
             ..
         } => {
-            let kind = judge_structure(context, *name, arguments, found)?;
-            Ok(kind)
+            let ty = judge_structure(context, *name, arguments, found)?;
+            Ok(ty)
         }
         Made::Array { element, length } => {
             judge_number(context.scope, context.variables, length, found)?;
-            Ok(ValueKind::Array(*element))
+            Ok(ValueType::Array(*element))
         }
     }
 }
 
-/// Adds what is wrong with what `new` makes where this kind is asked.
+/// Adds what is wrong with what `new` makes where this type is asked.
 fn judge_new(
     context: &NameContext<'_, '_>,
-    asked: ValueKind,
+    asked: ValueType,
     new: &New,
     found: &mut Vec<Mistake>,
 ) -> Result<(), Memory>
     ensures { (p : Program) (f : Frame) → IsContext p f context.now
         → OnOk result (Adds found.old.items found.new.items (new_mistakes (in_frame p f) asked (new_tree new.now))) }
 {
-    let kind = judge_made(context, &new.made, found)?;
-    let mismatch = Mismatch::Given(Demand::Kind(asked), kind);
-    ask(kind.agrees(asked), new.word.place, mismatch, found)
+    let ty = judge_made(context, &new.made, found)?;
+    let mismatch = Mismatch::Given(Demand::OfType(asked), ty);
+    ask(ty.agrees(asked), new.word.place, mismatch, found)
 }
 
-/// Adds what is wrong with a value of which this kind is asked.
+/// Adds what is wrong with a value of which this type is asked.
 pub(crate) fn judge_value<'a>(
     around: &Surroundings<'_, 'a>,
     variables: &Variables<'a>,
-    asked: ValueKind,
+    asked: ValueType,
     value: &Value,
     found: &mut Vec<Mistake>,
 ) -> Result<(), Memory>

@@ -5,7 +5,7 @@ ghost use Rattle.declarations.specs.Mistakes.{Adds};
 ghost use Rattle.names.specs.Frames.{IsFrame, Turned, variable_model};
 ghost use Rattle.names.specs.Variables.{Frame, variable_named, past_heap, entered_variable, declared_variable};
 
-use declarations::{Limit, Mistake, ValueKind, add_twice};
+use declarations::{Limit, Mistake, ValueType, add_twice};
 use program::MOST_VARIABLES;
 use source::{Memory, Span};
 use std::alloc::Global;
@@ -15,7 +15,7 @@ use tables::Table;
 #[derive(Clone, Copy, PartialEq, Eq)]
 pub(crate) struct Variable {
     pub(crate) name: Span,
-    pub(crate) kind: ValueKind,
+    pub(crate) ty: ValueType,
 }
 
 /// The variables in scope, in order of declaration, and how many of the exchange heap the method has declared so far,
@@ -65,7 +65,7 @@ impl<'a> Variables<'a> {
         found: &mut Vec<Mistake>,
     ) -> Result<(), Memory>
         ensures { (f : Frame) → IsFrame text.now f self.old → OnOk result (Turned text.now found.old.items
-            found.new.items self.new (declared_variable text.now variable.name variable.kind heap f)) }
+            found.new.items self.new (declared_variable text.now variable.name variable.ty heap f)) }
     {
         if !heap {
             return self.enter(alloc, text, variable, found);
@@ -106,7 +106,7 @@ impl<'a> Variables<'a> {
         found: &mut Vec<Mistake>,
     ) -> Result<(), Memory>
         ensures { (f : Frame) → IsFrame text.now f self.old → OnOk result (Turned text.now found.old.items
-            found.new.items self.new (entered_variable text.now variable.name variable.kind f)) }
+            found.new.items self.new (entered_variable text.now variable.name variable.ty f)) }
     {
         match self.find(text, variable.name) {
             Some(known) => add_twice(variable.name, Some(known.name), found),

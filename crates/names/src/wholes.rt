@@ -16,11 +16,11 @@ use crate::expressions::judge_operand;
 use crate::mentions::judge_variable;
 use crate::operands::{Operand, ask, ask_number, ask_truth};
 use crate::variables::Variables;
-use declarations::{Demand, Mismatch, Mistake, Scope, ValueKind};
+use declarations::{Demand, Mismatch, Mistake, Scope, ValueType};
 use source::Memory;
 use tree::{Expression, name_alone};
 
-/// The kind of an expression that is the whole of something, and where it begins; adds what is wrong in it.
+/// The type of an expression that is the whole of something, and where it begins; adds what is wrong in it.
 pub(crate) fn judge_whole_operand(
     scope: &Scope<'_>,
     variables: &Variables<'_>,
@@ -31,9 +31,9 @@ pub(crate) fn judge_whole_operand(
 {
     match name_alone(expression) {
         Some(name) => {
-            let kind = judge_variable(scope, variables, name, found)?;
+            let ty = judge_variable(scope, variables, name, found)?;
             Ok(Operand {
-                kind,
+                ty,
                 place: name.place,
             })
         }
@@ -41,11 +41,11 @@ pub(crate) fn judge_whole_operand(
     }
 }
 
-/// An expression of which this kind is asked.
+/// An expression of which this type is asked.
 pub(crate) fn judge_asked(
     scope: &Scope<'_>,
     variables: &Variables<'_>,
-    asked: ValueKind,
+    asked: ValueType,
     expression: &Expression,
     found: &mut Vec<Mistake>,
 ) -> Result<(), Memory>
@@ -53,8 +53,8 @@ pub(crate) fn judge_asked(
         (Adds found.old.items found.new.items (asked_mistakes (in_frame p f) asked (shape (expression_tree expression.now)))) }
 {
     let operand = judge_whole_operand(scope, variables, expression, found)?;
-    let mismatch = Mismatch::Given(Demand::Kind(asked), operand.kind);
-    ask(operand.kind.agrees(asked), operand.place, mismatch, found)
+    let mismatch = Mismatch::Given(Demand::OfType(asked), operand.ty);
+    ask(operand.ty.agrees(asked), operand.place, mismatch, found)
 }
 
 /// An expression of which a truth value is asked.
@@ -68,7 +68,7 @@ pub(crate) fn judge_truth(
         → OnOk result (Adds found.old.items found.new.items (truth_mistakes (in_frame p f) (shape (expression_tree expression.now)))) }
 {
     let operand = judge_operand(scope, variables, expression, found)?;
-    ask_truth(operand.kind, operand.place, found)
+    ask_truth(operand.ty, operand.place, found)
 }
 
 /// An expression of which a number is asked.
@@ -82,5 +82,5 @@ pub(crate) fn judge_number(
         → OnOk result (Adds found.old.items found.new.items (number_mistakes (in_frame p f) (shape (expression_tree expression.now)))) }
 {
     let operand = judge_operand(scope, variables, expression, found)?;
-    ask_number(operand.kind, operand.place, found)
+    ask_number(operand.ty, operand.place, found)
 }

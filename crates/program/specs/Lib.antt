@@ -1,4 +1,4 @@
-pub mod Kinds
+pub mod Types
 pub mod Parts
 pub mod Statements
 pub mod Methods

@@ -3,7 +3,7 @@ use Rattle.std.specs.Prelude.{◌≡◌, ◌≤◌, ◌<◌, ℕ, ◌==◌, Bool
 use Rattle.std.specs.Prelude.{slice_get, IfSome, IsSomeAnd}
 use Rattle.std.specs.List.{filter}
 use Rattle.std.specs.Option.{option_map_or}
-use Rattle.program.specs.Kinds.{same_scalar, same_side}
+use Rattle.program.specs.Types.{same_scalar, same_side}
 use Rattle.program.specs.Parts.{StateModel, MessageModel, ContractModel}
 use Rattle.program.specs.declared.number.MessageId.{MessageId}
 use Rattle.program.specs.declared.number.StateId.{StateId}
@@ -13,8 +13,8 @@ use Rattle.program.specs.Statements.{Block, If, While, Switch}
 use Rattle.program.specs.Statements.{StatementsModel, NoStatement, MoreStatements, BlockModel, Braces, TestModel, Test}
 use Rattle.program.specs.Statements.{OthersModel, NoOther, Else, ElseIf, CaseModel, Case, CasesModel, NoCase, MoreCases}
 use Rattle.program.specs.declared.call.Argument.{Argument}
-use Rattle.program.specs.declared.kind.HeapKind.{HeapKind}
-use Rattle.program.specs.declared.kind.HeapKind.TheVariants.{Struct, Array, Endpoint}
+use Rattle.program.specs.declared.types.HeapType.{HeapType}
+use Rattle.program.specs.declared.types.HeapType.TheVariants.{Struct, Array, Endpoint}
 use Rattle.program.specs.declared.method.Role.{Role}
 use Rattle.program.specs.declared.method.Role.TheVariants.{Lent, Claimed, Local}
 use Rattle.program.specs.declared.number.VarId.{VarId}
@@ -45,14 +45,14 @@ abbrev pub parameters : MethodModel → List VariableModel
 parameters m = filter (λ v. is_parameter v.role) m.variables
 
 -- blocks of one type; the state of an endpoint is no part of it
-abbrev pub same_type : HeapKind → HeapKind → Bool
+abbrev pub same_type : HeapType → HeapType → Bool
 same_type (Struct m) (Struct n) = m.0 == n.0
 same_type (Array s) (Array t) = same_scalar s t
 same_type (Endpoint m s p) (Endpoint n t q) = (m.0 == n.0) && same_side s t
 same_type _ _ = false
 
 -- the two ends of a channel of this contract
-abbrev pub are_ends : ℕ → HeapKind → HeapKind → Bool
+abbrev pub are_ends : ℕ → HeapType → HeapType → Bool
 are_ends contract (Endpoint m s p) (Endpoint n t q) = (m.0 == contract) && ((n.0 == contract) && not (same_side s t))
 are_ends contract _ _ = false
 
@@ -69,38 +69,38 @@ pub record IsMessageOf (c : ContractModel) (id : MessageId) : Type 0 where
   pub there : slice_get c.parts.messages index ≡ Some message
   pub is : message.id ≡ id
 
--- The numbers in a kind stand for something. Of a struct there is nothing but its number.
-abbrev pub IsKind : List ContractModel → HeapKind → Type 0
-IsKind contracts (Struct n) = Unit {0}
-IsKind contracts (Array element) = Unit {0}
-IsKind contracts (Endpoint contract side state) = IsSomeAnd (slice_get contracts contract.0) (λ c. IsStateOf c state)
+-- The numbers in a type stand for something. Of a struct there is nothing but its number.
+abbrev pub IsType : List ContractModel → HeapType → Type 0
+IsType contracts (Struct n) = Unit {0}
+IsType contracts (Array element) = Unit {0}
+IsType contracts (Endpoint contract side state) = IsSomeAnd (slice_get contracts contract.0) (λ c. IsStateOf c state)
 
 -- the contract of an endpoint
-abbrev pub contract_held : List ContractModel → HeapKind → Option ContractModel
+abbrev pub contract_held : List ContractModel → HeapType → Option ContractModel
 contract_held contracts (Endpoint contract side state) = slice_get contracts contract.0
 contract_held contracts _ = None
 
 -- an end of a channel
-abbrev pub is_end : HeapKind → Bool
+abbrev pub is_end : HeapType → Bool
 is_end (Endpoint contract side state) = true
 is_end _ = false
 
--- what a block of this kind has in its fields that own: of a struct the kind of each, in order; of an array nothing
-abbrev pub field_kinds : (structs : List (List HeapKind)) → HeapKind → List HeapKind
-field_kinds structs (Struct n) = option_map_or (λ kinds. kinds) (slice_get structs n.0) []
-field_kinds structs (Array element) = []
-field_kinds structs (Endpoint contract side state) = []
+-- what a block of this type has in its fields that own: of a struct the type of each, in order; of an array nothing
+abbrev pub field_types : (structs : List (List HeapType)) → HeapType → List HeapType
+field_types structs (Struct n) = option_map_or (λ types. types) (slice_get structs n.0) []
+field_types structs (Array element) = []
+field_types structs (Endpoint contract side state) = []
 
 -- Where a statement stands: the contracts of the program, what its messages bring, what its structs have in fields that own, and its
 -- methods; the variables of its own method, and what that gives; the last variable in scope, and the last that stays at a `break` and at
 -- a `continue`.
 pub record Setting : Type 0 where
   pub contracts : List ContractModel
-  pub messages : List (List HeapKind)
-  pub structs : List (List HeapKind)
+  pub messages : List (List HeapType)
+  pub structs : List (List HeapType)
   pub methods : List MethodModel
   pub variables : List VariableModel
-  pub result : Option HeapKind
+  pub result : Option HeapType
   pub scope : Option VarId
   pub at_break : Option VarId
   pub at_continue : Option VarId
@@ -169,36 +169,36 @@ module _ (s : Setting) where
   IsIn v = IsInScope s.variables s.scope v
 
   -- a variable of this type
-  abbrev pub Holds : HeapKind → VarId → Type 0
-  Holds k v = IsSomeAnd (slice_get s.variables v.0) (λ x. same_type x.kind k ≡ true)
+  abbrev pub Holds : HeapType → VarId → Type 0
+  Holds k v = IsSomeAnd (slice_get s.variables v.0) (λ x. same_type x.ty k ≡ true)
 
   -- a variable for each of these, of its type
-  abbrev pub HoldAll : List HeapKind → List VarId → Type 0
+  abbrev pub HoldAll : List HeapType → List VarId → Type 0
   HoldAll [] [] = Unit {0}
   HoldAll [] (v ∷ vs) = ⊥
-  HoldAll (k ∷ kinds) [] = ⊥
-  HoldAll (k ∷ kinds) (v ∷ vs) = Holds k v × HoldAll kinds vs
+  HoldAll (k ∷ types) [] = ⊥
+  HoldAll (k ∷ types) (v ∷ vs) = Holds k v × HoldAll types vs
 
   -- an endpoint whose contract is so
   abbrev pub IsEnd : (ContractModel → Type 0) → Mention → Type 0
-  IsEnd P m = IsSomeAnd (slice_get s.variables m.variable.0) (λ v. IsSomeAnd (contract_held s.contracts v.kind) P)
+  IsEnd P m = IsSomeAnd (slice_get s.variables m.variable.0) (λ v. IsSomeAnd (contract_held s.contracts v.ty) P)
 
   -- an argument for each parameter, of its type, and claimed where the parameter is
   abbrev pub AreGiven : List VariableModel → List Argument → Type 0
   AreGiven [] [] = Unit {0}
   AreGiven [] (a ∷ given) = ⊥
   AreGiven (p ∷ params) [] = ⊥
-  AreGiven (p ∷ params) (a ∷ given) = (Holds p.kind a.mention.variable × (a.claimed ≡ is_claimed p.role)) × AreGiven params given
+  AreGiven (p ∷ params) (a ∷ given) = (Holds p.ty a.mention.variable × (a.claimed ≡ is_claimed p.role)) × AreGiven params given
 
   -- a variable exactly where a block is given, of its type
-  abbrev pub IsTaken : Option HeapKind → Option Mention → Type 0
+  abbrev pub IsTaken : Option HeapType → Option Mention → Type 0
   IsTaken None None = Unit {0}
   IsTaken None (Some m) = ⊥
   IsTaken (Some k) None = ⊥
   IsTaken (Some k) (Some m) = Holds k m.variable
 
   -- it is in scope there
-  abbrev pub IsTarget : Option HeapKind → Option Mention → Type 0
+  abbrev pub IsTarget : Option HeapType → Option Mention → Type 0
   IsTarget result target = IsTaken result target × IfSome target (λ m. IsIn m.variable)
 
   -- a call of this method
@@ -217,30 +217,30 @@ module _ (s : Setting) where
   pub record IsSend (x : SendModel) : Type 0 where
     pub reads : Each IsMention x.reads
     pub endpoint : IsEnd (λ c. IsMessageOf c x.message) x.endpoint
-    pub payloads : IsSomeAnd (slice_get s.messages x.message.0) (λ kinds. HoldAll kinds (map (λ m. m.variable) x.payloads))
+    pub payloads : IsSomeAnd (slice_get s.messages x.message.0) (λ types. HoldAll types (map (λ m. m.variable) x.payloads))
 
   abbrev pub IsChannel : Channel → Type 0
   IsChannel c = IsSomeAnd (slice_get s.variables c.first.variable.0) (λ v. IsSomeAnd (slice_get s.variables c.second.variable.0)
-      (λ w. are_ends c.contract.0 v.kind w.kind ≡ true))
+      (λ w. are_ends c.contract.0 v.ty w.ty ≡ true))
 
   -- A new block: what takes it is in scope and no endpoint, and for each field that owns a variable of its type is given.
   pub record IsNew (n : NewModel) : Type 0 where
     pub reads : Each IsMention n.reads
     pub in_scope : IsIn n.target.variable
-    pub taken : IsSomeAnd (slice_get s.variables n.target.variable.0) (λ x. (is_end x.kind ≡ false)
-        × HoldAll (field_kinds s.structs x.kind) (map (λ m. m.variable) n.arguments))
+    pub taken : IsSomeAnd (slice_get s.variables n.target.variable.0) (λ x. (is_end x.ty ≡ false)
+        × HoldAll (field_types s.structs x.ty) (map (λ m. m.variable) n.arguments))
 
   -- a variable, and a field that owns, of its type and of the block that another variable has
   abbrev pub IsExchange : Exchange → Type 0
   IsExchange e = IsIn e.given.variable × IsSomeAnd (slice_get s.variables e.holder.variable.0)
-      (λ v. IsSomeAnd (slice_get (field_kinds s.structs v.kind) e.field) (λ k. Holds k e.given.variable))
+      (λ v. IsSomeAnd (slice_get (field_types s.structs v.ty) e.field) (λ k. Holds k e.given.variable))
 
   -- What is assigned is in scope. What a `break` and a `continue` leave goes out of scope, and a `return` knows what is in scope.
   abbrev pub IsAction : Action → Type 0
   IsAction does.Nothing = Unit {0}
   IsAction (does.Use m) = IsMention m
   IsAction (does.Move target source) = IsIn target.variable
-      × IsSomeAnd (slice_get s.variables target.variable.0) (λ v. Holds v.kind source.variable)
+      × IsSomeAnd (slice_get s.variables target.variable.0) (λ v. Holds v.ty source.variable)
   IsAction (does.Delete m) = IsMention m
   IsAction (does.Exchange e) = IsExchange e
   IsAction (does.NewChannel c) = (IsIn c.first.variable × IsIn c.second.variable) × IsChannel c
@@ -254,7 +254,7 @@ module _ (s : Setting) where
 
   -- what a case binds, for what its message brings; a close brings nothing
   abbrev pub IsBrought : Awaited → List VarId → Type 0
-  IsBrought (Message id) targets = IsSomeAnd (slice_get s.messages id.0) (λ kinds. HoldAll kinds targets)
+  IsBrought (Message id) targets = IsSomeAnd (slice_get s.messages id.0) (λ types. HoldAll types targets)
   IsBrought Closed targets = targets ≡ []
 
 abbrev mutual
@@ -301,7 +301,7 @@ abbrev mutual
   AreCases s (MoreCases c cases) = IsCase s c × AreCases s cases
 
 -- where the statements of a method begin, if these parameters are in scope there; a `break` and a `continue` leave them in scope
-abbrev pub setting : List ContractModel → (messages structs : List (List HeapKind)) → List MethodModel → MethodModel
+abbrev pub setting : List ContractModel → (messages structs : List (List HeapType)) → List MethodModel → MethodModel
     → (begins : Option VarId) → Setting
 setting contracts messages structs methods m begins = record {
   contracts = contracts;
@@ -316,11 +316,11 @@ setting contracts messages structs methods m begins = record {
 }
 
 -- a method among those of a program of these contracts, whose messages bring this, and whose structs have this
-pub record IsWellFormed (contracts : List ContractModel) (messages structs : List (List HeapKind)) (methods : List MethodModel)
+pub record IsWellFormed (contracts : List ContractModel) (messages structs : List (List HeapType)) (methods : List MethodModel)
     (m : MethodModel) : Type 0 where
-  pub result : IfSome m.result (IsKind contracts)
+  pub result : IfSome m.result (IsType contracts)
   pub void : m.gives ≡ false → m.result ≡ None
-  pub kinds : Each (λ v. IsKind contracts v.kind) m.variables
+  pub types : Each (λ v. IsType contracts v.ty) m.variables
   pub few : length m.variables ≤ MOST_VARIABLES
   pub nested : AreNested m.variables
   -- the last variable in scope where the method begins: all parameters are in scope there
@@ -330,14 +330,14 @@ pub record IsWellFormed (contracts : List ContractModel) (messages structs : Lis
       → IsInScope m.variables begins n
   pub statements : AreStatements (setting contracts messages structs methods m begins) m.statements m.scope
 
--- what a struct has in its fields that own, in order: kinds as they are declared, no more than may be
-pub record AreFields (contracts : List ContractModel) (kinds : List HeapKind) : Type 0 where
-  pub few : length kinds ≤ MOST_FIELDS
-  pub kinds_are : Each (IsKind contracts) kinds
+-- what a struct has in its fields that own, in order: types as they are declared, no more than may be
+pub record AreFields (contracts : List ContractModel) (types : List HeapType) : Type 0 where
+  pub few : length types ≤ MOST_FIELDS
+  pub types_are : Each (IsType contracts) types
 
 -- a program: what its messages bring, what its structs have in fields that own, and its methods
-pub record AreWellFormed (contracts : List ContractModel) (messages structs : List (List HeapKind)) (methods : List MethodModel)
+pub record AreWellFormed (contracts : List ContractModel) (messages structs : List (List HeapType)) (methods : List MethodModel)
     : Type 0 where
-  pub messages_are : Each (Each (IsKind contracts)) messages
+  pub messages_are : Each (Each (IsType contracts)) messages
   pub structs_are : Each (AreFields contracts) structs
   pub methods_are : Each (IsWellFormed contracts messages structs methods) methods

@@ -2,7 +2,7 @@
 
 ghost use Rattle.std.specs.Prelude.{◌≡◌};
 ghost use Rattle.std.specs.Thread.{IsSync};
-ghost use Rattle.program.specs.contracts.kind.HeapKind as kind;
+ghost use Rattle.program.specs.contracts.types.HeapType as ty;
 ghost use Rattle.program.specs.contracts.methods.Methods as methods;
 ghost use Rattle.program.specs.contracts.statement.Statement as statement;
 ghost use Rattle.program.specs.declared.limits.TheConstants.{MOST_CONTRACTS, MOST_FIELDS, MOST_METHODS};
@@ -27,10 +27,10 @@ pub fn threads_share_statements()
     shared::<Statement>();
 }
 
-/// Threads may share methods and kinds by reference.
+/// Threads may share methods and types by reference.
 pub fn threads_share_methods()
     ensures methods { IsSync methods.the_row }
-    ensures kinds { IsSync kind.the_row }
+    ensures types { IsSync ty.the_row }
 {
     threads_share_statements();
 }

@@ -3,17 +3,16 @@
 
 mod call;
 mod contract;
-mod kind;
 pub mod laws;
 mod limits;
 mod method;
 mod methods;
 mod number;
 mod statement;
+mod types;
 
 pub use call::{Argument, Call, Send};
 pub use contract::{Contract, Direction, Edge, Message, Part, Resolved, Sign, State};
-pub use kind::{HeapKind, Scalar, Side};
 pub use limits::{
     MOST_CONTRACTS, MOST_FIELDS, MOST_METHODS, MOST_PARAMETERS, MOST_STATES, MOST_VARIABLES,
 };
@@ -24,3 +23,4 @@ pub use statement::{
     Action, Awaited, Block, Case, Channel, Exchange, Forget, If, Mention, New, Simple, Statement,
     Test, Ways,
 };
+pub use types::{HeapType, Scalar, Side};

@@ -1,8 +1,8 @@
 //! A method with a number for each of its variables.
 
-use crate::kind::HeapKind;
 use crate::number::VarId;
 use crate::statement::Statement;
+use crate::types::HeapType;
 use source::Place;
 
 /// How a method came to a variable of the exchange heap.
@@ -21,7 +21,7 @@ pub enum Role {
 #[derive(Drop)]
 pub struct Variable {
     pub name: Vec<u8>,
-    pub kind: HeapKind,
+    pub ty: HeapType,
     pub role: Role,
     pub outer: Option<VarId>,
 }
@@ -34,7 +34,7 @@ pub struct Method {
     pub name: Place,
     pub takes: bool,
     pub gives: bool,
-    pub result: Option<HeapKind>,
+    pub result: Option<HeapType>,
     pub variables: Vec<Variable>,
     pub statements: Vec<Statement>,
     pub scope: Option<VarId>,

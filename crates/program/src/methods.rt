@@ -3,14 +3,14 @@
 ghost use Rattle.std.specs.Prelude.{◌≡◌, ◌<◌, Some, length, map, slice_get};
 ghost use Rattle.program.specs.Parts.{contract_model};
 ghost use Rattle.program.specs.Methods.{method_model};
-ghost use Rattle.program.specs.Programs.{contracts_model, messages_model, methods_model, kind_lists, structs_model};
+ghost use Rattle.program.specs.Programs.{contracts_model, messages_model, methods_model, type_lists, structs_model};
 ghost use Rattle.program.specs.Lists.{Each};
-ghost use Rattle.program.specs.WellFormed.{AreFields, AreWellFormed, IsKind, IsWellFormed};
+ghost use Rattle.program.specs.WellFormed.{AreFields, AreWellFormed, IsType, IsWellFormed};
 
 use crate::contract::Resolved;
-use crate::kind::HeapKind;
 use crate::method::Method;
 use crate::number::MethodId;
+use crate::types::HeapType;
 use std::marker::Model;
 
 /// The methods of a program in order of the text, with its contracts, what its messages bring and what its structs have in fields that
@@ -22,8 +22,8 @@ use std::marker::Model;
 #[derive(Drop)]
 pub struct Methods {
     contracts: Resolved,
-    messages: Vec<Vec<HeapKind>>,
-    structs: Vec<Vec<HeapKind>>,
+    messages: Vec<Vec<HeapType>>,
+    structs: Vec<Vec<HeapType>>,
     list: Vec<Method>,
 }
 
@@ -32,36 +32,36 @@ impl Model for Methods {
     ghost use Rattle.std.specs.Prelude.{List, map};
     ghost use Rattle.program.specs.Parts.{contract_model};
     ghost use Rattle.program.specs.Methods.{method_model};
-    ghost use Rattle.program.specs.Programs.{kind_lists};
+    ghost use Rattle.program.specs.Programs.{type_lists};
     ghost use Rattle.program.specs.WellFormed.{AreWellFormed};
     ghost use Rattle.program.specs.contracts.statement.Statement as statement;
     ghost use Rattle.program.specs.declared.contract.Contract.{Contract};
-    ghost use Rattle.program.specs.declared.kind.HeapKind.{HeapKind};
+    ghost use Rattle.program.specs.declared.types.HeapType.{HeapType};
     ghost use Rattle.program.specs.declared.method.Method.{Method};
 
-    ghost Value = { List Contract × List (List HeapKind) × List (List HeapKind) × List Method };
+    ghost Value = { List Contract × List (List HeapType) × List (List HeapType) × List Method };
 
     ghost coded = { Prim.hlevel (codes, statement.the_row.coded) };
 
-    ghost view = { λ m. (m.contracts.contracts.items, kind_lists m.messages.items, kind_lists m.structs.items, m.list.items) };
+    ghost view = { λ m. (m.contracts.contracts.items, type_lists m.messages.items, type_lists m.structs.items, m.list.items) };
 
-    ghost invariant = { λ m. AreWellFormed (map contract_model m.contracts.contracts.items) (kind_lists m.messages.items)
-        (kind_lists m.structs.items) (map method_model m.list.items) };
+    ghost invariant = { λ m. AreWellFormed (map contract_model m.contracts.contracts.items) (type_lists m.messages.items)
+        (type_lists m.structs.items) (map method_model m.list.items) };
 }
 
 impl Methods {
     /// The methods of a program with these contracts, whose messages bring this for their parameters of the exchange heap.
     pub fn new(
         contracts: Resolved,
-        messages: Vec<Vec<HeapKind>>,
-        structs: Vec<Vec<HeapKind>>,
+        messages: Vec<Vec<HeapType>>,
+        structs: Vec<Vec<HeapType>>,
         list: Vec<Method>,
     ) -> Methods
-        requires well_formed { AreWellFormed (map contract_model contracts.contracts.items) (kind_lists messages.items)
-            (kind_lists structs.items) (map method_model list.items) }
+        requires well_formed { AreWellFormed (map contract_model contracts.contracts.items) (type_lists messages.items)
+            (type_lists structs.items) (map method_model list.items) }
         ensures contracts { contracts_model result ≡ map contract_model contracts.contracts.items }
-        ensures messages { messages_model result ≡ kind_lists messages.items }
-        ensures structs { structs_model result ≡ kind_lists structs.items }
+        ensures messages { messages_model result ≡ type_lists messages.items }
+        ensures structs { structs_model result ≡ type_lists structs.items }
         ensures methods { methods_model result ≡ map method_model list.items }
     {
         Methods {
@@ -80,17 +80,17 @@ impl Methods {
     }
 
     /// What each message brings for its parameters of the exchange heap, in order; a message has its place here as its number.
-    pub fn messages(&self) -> &[Vec<HeapKind>]
-        ensures messages { kind_lists result.now ≡ messages_model self.now }
-        ensures kinds { Each (Each (IsKind (contracts_model self.now))) (messages_model self.now) }
+    pub fn messages(&self) -> &[Vec<HeapType>]
+        ensures messages { type_lists result.now ≡ messages_model self.now }
+        ensures types { Each (Each (IsType (contracts_model self.now))) (messages_model self.now) }
     {
         &self.messages
     }
 
     /// What each struct has in its fields that own, in order; a struct has its place here as its number.
-    pub fn structs(&self) -> &[Vec<HeapKind>]
-        ensures structs { kind_lists result.now ≡ structs_model self.now }
-        ensures kinds { Each (AreFields (contracts_model self.now)) (structs_model self.now) }
+    pub fn structs(&self) -> &[Vec<HeapType>]
+        ensures structs { type_lists result.now ≡ structs_model self.now }
+        ensures types { Each (AreFields (contracts_model self.now)) (structs_model self.now) }
     {
         &self.structs
     }

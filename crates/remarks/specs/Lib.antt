@@ -1,4 +1,4 @@
-pub mod KindWords
+pub mod TypeWords
 pub mod Candidates
 pub mod Listings
 pub mod Remarks

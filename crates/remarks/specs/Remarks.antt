@@ -1,8 +1,8 @@
 -- What more is said of a mistake in names or types.
 use Rattle.std.specs.Prelude.{ℕ, List, [], ◌++◌, codes, drop, Option, Some, option_and_then}
 use Rattle.std.specs.Fmt.{decimal}
-use Rattle.program.specs.declared.kind.Side.{Side}
-use Rattle.program.specs.declared.kind.Side.TheVariants.{Imp, Exp}
+use Rattle.program.specs.declared.types.Side.{Side}
+use Rattle.program.specs.declared.types.Side.TheVariants.{Imp, Exp}
 use Rattle.source.specs.declared.place.Place.{Place}
 use Rattle.declarations.specs.Mistakes.{most_of}
 use Rattle.declarations.specs.Program.{Program}
@@ -18,7 +18,7 @@ use Rattle.nearest.specs.Nearest.{nearest_name}
 use Rattle.remarks.specs.Candidates.{candidates}
 use Rattle.source.specs.declared.token.Span.{Span}
 use Rattle.declarations.specs.declared.mistake.Mistake.TheVariants as mistake
-use Rattle.remarks.specs.KindWords.{cut_name, demand_words, kind_words}
+use Rattle.remarks.specs.TypeWords.{cut_name, demand_words, type_words}
 use Rattle.remarks.specs.declared.line.Remark.{Remark}
 use Rattle.std.specs.Str.Lossy.{utf8_lossy}
 use Rattle.tables.specs.Words.{word_at}
@@ -40,8 +40,8 @@ side_words Exp = codes "the exporter"
 
 -- why a type is wrong
 abbrev pub mismatch_words : Program → Mismatch → List ℕ
-mismatch_words p (mismatch.Given asked given) = codes "asked for " ++ (demand_words p asked ++ (codes ", given " ++ kind_words p given))
-mismatch_words p (mismatch.NoValue k) = codes "a value is asked after return: " ++ kind_words p k
+mismatch_words p (mismatch.Given asked given) = codes "asked for " ++ (demand_words p asked ++ (codes ", given " ++ type_words p given))
+mismatch_words p (mismatch.NoValue k) = codes "a value is asked after return: " ++ type_words p k
 mismatch_words p mismatch.ValueReturned = codes "no value is asked after return"
 mismatch_words p (mismatch.NotSent side word) = side_words side ++ (codes " does not send " ++ utf8_lossy (drop 4 (word_at p.text word)))
 mismatch_words p (mismatch.NotReceived side word) = side_words side ++ (codes " does not receive " ++ printed p.text word)

@@ -4,11 +4,11 @@
 mod around;
 mod candidates;
 mod faults;
-mod kinds;
 mod line;
 mod listing;
 mod mismatches;
 mod mistakes;
+mod types;
 mod unknown;
 mod words;
 

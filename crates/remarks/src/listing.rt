@@ -2,7 +2,7 @@
 
 ghost use Rattle.std.specs.Prelude.{◌≡◌, ◌++◌, OnOk, string_bytes};
 ghost use Rattle.declarations.specs.Resolution.{printed};
-ghost use Rattle.remarks.specs.KindWords.{cut_name, item_name};
+ghost use Rattle.remarks.specs.TypeWords.{cut_name, item_name};
 ghost use Rattle.remarks.specs.Listings.{program_model};
 
 use source::{Memory, Span, texts};

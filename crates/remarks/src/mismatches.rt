@@ -3,16 +3,16 @@
 ghost use Rattle.std.specs.Prelude.{◌≡◌, ◌++◌, OnOk, codes, drop, string_bytes};
 ghost use Rattle.std.specs.Str.Lossy.{utf8_lossy};
 ghost use Rattle.declarations.specs.Resolution.{printed};
-ghost use Rattle.remarks.specs.KindWords.{demand_words, kind_words};
+ghost use Rattle.remarks.specs.TypeWords.{demand_words, type_words};
 ghost use Rattle.remarks.specs.Listings.{program_model};
 ghost use Rattle.remarks.specs.Remarks.{mismatch_words, side_words};
 ghost use Rattle.tables.specs.Words.{word_at};
 
-use crate::kinds::{add_demand, add_kind};
 use crate::line::add;
 use crate::listing::Listing;
+use crate::types::{add_demand, add_type};
 use crate::words::side_words;
-use declarations::{Demand, Mismatch, ValueKind};
+use declarations::{Demand, Mismatch, ValueType};
 use program::Side;
 use source::{Memory, Span, texts};
 use std::alloc::Global;
@@ -32,9 +32,9 @@ pub(crate) fn add_mismatch(
 {
     match mismatch {
         Mismatch::Given(asked, given) => add_given(alloc, text, listing, asked, given),
-        Mismatch::NoValue(kind) => {
+        Mismatch::NoValue(ty) => {
             add(text, "a value is asked after return: ")?;
-            add_kind(alloc, text, listing, kind)
+            add_type(alloc, text, listing, ty)
         }
         Mismatch::ValueReturned => add(text, "no value is asked after return"),
         Mismatch::NotSent(side, word) => add_not_sent(alloc, text, listing, side, word),
@@ -45,22 +45,22 @@ pub(crate) fn add_mismatch(
     }
 }
 
-/// Adds what is asked, and the kind that is given. Returns `Memory` if a growth is refused.
+/// Adds what is asked, and the type that is given. Returns `Memory` if a growth is refused.
 fn add_given(
     alloc: Global,
     text: &mut String,
     listing: &Listing<'_>,
     asked: Demand,
-    given: ValueKind,
+    given: ValueType,
 ) -> Result<(), Memory>
     ensures { OnOk result (string_bytes text.new ≡ string_bytes text.old
         ++ (codes "asked for " ++ (demand_words (program_model listing.now) asked
-        ++ (codes ", given " ++ kind_words (program_model listing.now) given)))) }
+        ++ (codes ", given " ++ type_words (program_model listing.now) given)))) }
 {
     add(text, "asked for ")?;
     add_demand(alloc, text, listing, asked)?;
     add(text, ", given ")?;
-    add_kind(alloc, text, listing, given)
+    add_type(alloc, text, listing, given)
 }
 
 /// Adds which end does not send which message: the one whose name is after `Send` in this word. Returns `Memory` if a growth is refused.

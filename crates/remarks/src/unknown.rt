@@ -1,7 +1,7 @@
 //! What more is said of a name that nothing declares.
 
 ghost use Rattle.std.specs.Prelude.{◌≡◌, ◌++◌, IfOk, codes, option_map, string_bytes};
-ghost use Rattle.remarks.specs.KindWords.{cut_name};
+ghost use Rattle.remarks.specs.TypeWords.{cut_name};
 ghost use Rattle.remarks.specs.Listings.{program_model};
 ghost use Rattle.remarks.specs.Remarks.{front_words, near_remark, remark_model, unknown_remark};
 ghost use Rattle.remarks.specs.Remarks.{word_sought};

@@ -1,7 +1,7 @@
 //! Words that need no name of the text.
 
 ghost use Rattle.std.specs.Prelude.{◌≡◌};
-ghost use Rattle.remarks.specs.KindWords.{scalar_words};
+ghost use Rattle.remarks.specs.TypeWords.{scalar_words};
 ghost use Rattle.remarks.specs.Remarks.{front_words, limit_back, limit_front, side_words};
 
 use declarations::{Limit, NameSort};

@@ -14,9 +14,9 @@ use Rattle.program.specs.declared.contract.Direction.TheVariants.{In, Out}
 use Rattle.program.specs.declared.contract.Edge.{Edge}
 use Rattle.program.specs.declared.contract.Sign.{Sign}
 use Rattle.program.specs.declared.contract.Sign.TheVariants as sign
-use Rattle.program.specs.declared.kind.HeapKind.{HeapKind}
-use Rattle.program.specs.declared.kind.HeapKind.TheVariants.{Struct, Endpoint}
-use Rattle.program.specs.declared.kind.Side.TheVariants.{Imp, Exp}
+use Rattle.program.specs.declared.types.HeapType.{HeapType}
+use Rattle.program.specs.declared.types.HeapType.TheVariants.{Struct, Endpoint}
+use Rattle.program.specs.declared.types.Side.TheVariants.{Imp, Exp}
 use Rattle.program.specs.declared.method.Role.{Role}
 use Rattle.program.specs.declared.method.Role.TheVariants.{Local, Claimed}
 use Rattle.program.specs.declared.statement.Action.{Action}
@@ -59,13 +59,13 @@ message n name direction = record { id = record { 0 = n }; name = name; directio
 abbrev edge : ℕ → ℕ → Sign → ℕ → Edge
 edge from m s to = record { from = record { 0 = from }; message = record { 0 = m }; sign = s; to = record { 0 = to }; place = at 1 1 }
 
-abbrev variable : HeapKind → Role → VariableModel
-variable k role = record { name = []; kind = k; role = role; outer = None }
+abbrev variable : HeapType → Role → VariableModel
+variable k role = record { name = []; ty = k; role = role; outer = None }
 
-abbrev importing : HeapKind
+abbrev importing : HeapType
 importing = Endpoint record { 0 = 0 } Imp record { 0 = 0 }
 
-abbrev exporting : HeapKind
+abbrev exporting : HeapType
 exporting = Endpoint record { 0 = 0 } Exp record { 0 = 0 }
 
 -- a method without result at these places, whose variables are the two ends of a channel and a struct
@@ -139,7 +139,7 @@ ran p (e ∷ events) n w = behind p w e n (event_outcome p bound w e) (ran p eve
 abbrev printed : ProgramModel → List Event → List ℕ
 printed p events = let r = ran p events 0 (start_of p 0) in replay_lines (record { program = p; structs = codes "D" ∷ [] }) events r.steps r.why r.world
 
-abbrev program : ContractModel → List (List HeapKind) → List MethodModel → ProgramModel
+abbrev program : ContractModel → List (List HeapType) → List MethodModel → ProgramModel
 program c messages methods = record { contracts = c ∷ []; messages = messages; structs = []; methods = methods }
 
 -- a block is read that was sent
@@ -244,14 +244,14 @@ other_end_goes = simp (digit 0 (omega arith), digit 1 (omega arith), digit 2 (om
 
 -- blocks inside blocks, and an end among them
 abbrev struct_of : ℕ → Owner → List ℕ → Block
-struct_of n owner fields = record { kind = Struct record { 0 = n }; owner = owner; peer = 0; state = 0; queue = []; fields = fields }
+struct_of n owner fields = record { ty = Struct record { 0 = n }; owner = owner; peer = 0; state = 0; queue = []; fields = fields }
 
 abbrev nested : World
 nested = record {
   processes = [] ∷ [];
   blocks =
       struct_of 0 (Process 0) (2 ∷ 1 ∷ [])
-      ∷ record { kind = importing; owner = Inside 0; peer = 3; state = 0; queue = []; fields = [] }
+      ∷ record { ty = importing; owner = Inside 0; peer = 3; state = 0; queue = []; fields = [] }
       ∷ struct_of 0 (Inside 0) []
       ∷ struct_of 0 Freed []
       ∷ [];

@@ -3,12 +3,12 @@ use Rattle.std.specs.Prelude.{ℕ, ◌==◌, List, [], ◌++◌, Option, find, o
 use Rattle.std.specs.Option.{option_map_or}
 use Rattle.program.specs.Parts.{ContractModel, StateModel}
 use Rattle.program.specs.Programs.{ProgramModel}
-use Rattle.program.specs.declared.kind.HeapKind.{HeapKind}
-use Rattle.program.specs.declared.kind.HeapKind.TheVariants.{Struct, Array, Endpoint}
-use Rattle.program.specs.declared.kind.Scalar.{Scalar}
-use Rattle.program.specs.declared.kind.Scalar.TheVariants.{Int, Bool, Byte}
-use Rattle.program.specs.declared.kind.Side.{Side}
-use Rattle.program.specs.declared.kind.Side.TheVariants.{Imp, Exp}
+use Rattle.program.specs.declared.types.HeapType.{HeapType}
+use Rattle.program.specs.declared.types.HeapType.TheVariants.{Struct, Array, Endpoint}
+use Rattle.program.specs.declared.types.Scalar.{Scalar}
+use Rattle.program.specs.declared.types.Scalar.TheVariants.{Int, Bool, Byte}
+use Rattle.program.specs.declared.types.Side.{Side}
+use Rattle.program.specs.declared.types.Side.TheVariants.{Imp, Exp}
 use Rattle.contracts.specs.Leaving.{name_among}
 
 -- What names come from. The names of contracts, states and messages are those of the program. It has structs as numbers alone, so
@@ -46,7 +46,7 @@ module _ (w : Words) where
   message_name contract message = option_map_or (λ c. name_among c.parts.messages message) (slice_get w.program.contracts contract) []
 
   -- a type: the name of a struct, `byte[]`, `C.Imp`
-  abbrev pub kind_name : HeapKind → List ℕ
-  kind_name (Struct n) = struct_name n.0
-  kind_name (Array element) = scalar_name element ++ codes "[]"
-  kind_name (Endpoint contract side state) = contract_name contract.0 ++ (codes "." ++ side_name side)
+  abbrev pub type_name : HeapType → List ℕ
+  type_name (Struct n) = struct_name n.0
+  type_name (Array element) = scalar_name element ++ codes "[]"
+  type_name (Endpoint contract side state) = contract_name contract.0 ++ (codes "." ++ side_name side)

@@ -4,8 +4,8 @@ use Rattle.std.specs.Fmt.{decimal}
 use Rattle.std.specs.List.{enumerate_from, flat_map, join_with_byte}
 use Rattle.source.specs.declared.place.Place.{Place}
 use Rattle.program.specs.Programs.{ProgramModel}
-use Rattle.program.specs.declared.kind.HeapKind.{HeapKind}
-use Rattle.program.specs.declared.kind.HeapKind.TheVariants.{Endpoint}
+use Rattle.program.specs.declared.types.HeapType.{HeapType}
+use Rattle.program.specs.declared.types.HeapType.TheVariants.{Endpoint}
 use Rattle.machine.specs.Places.{stack_place}
 use Rattle.machine.specs.World.{Block, Frame, MessageHeld, World}
 use Rattle.machine.specs.declared.halts.Event.{Event}
@@ -15,7 +15,7 @@ use Rattle.machine.specs.declared.halts.Halt.{Halt}
 use Rattle.machine.specs.declared.halts.Halt.TheVariants as halts
 use Rattle.machine.specs.declared.worlds.Owner.{Owner}
 use Rattle.machine.specs.declared.worlds.Owner.TheVariants.{Process, Queue, Inside, Channel, Freed}
-use Rattle.replays.specs.Names.{Words, kind_name, message_name, state_name}
+use Rattle.replays.specs.Names.{Words, type_name, message_name, state_name}
 
 -- `steps N`
 abbrev pub steps_line : ℕ → List ℕ
@@ -79,12 +79,12 @@ module _ (w : Words) where
   message_text contract m = message_name w contract m.message ++ (codes "(" ++ (join_with_byte 44 (map decimal m.payload) ++ codes ")"))
 
   -- the state of an endpoint
-  abbrev pub state_text : HeapKind → ℕ → List ℕ
+  abbrev pub state_text : HeapType → ℕ → List ℕ
   state_text (Endpoint contract side declared) state = codes " " ++ state_name w contract.0 state
   state_text _ state = []
 
   -- its queue, front first
-  abbrev pub queue_text : HeapKind → List MessageHeld → List ℕ
+  abbrev pub queue_text : HeapType → List MessageHeld → List ℕ
   queue_text (Endpoint contract side declared) queue =
       codes " queue [" ++ (join_with_byte 32 (map (message_text contract.0) queue) ++ codes "]")
   queue_text _ queue = []
@@ -93,11 +93,11 @@ module _ (w : Words) where
   abbrev pub block_text : Block → Owner → List ℕ
   block_text b Freed = codes " freed"
   block_text b owner =
-      state_text b.kind b.state ++ (codes " owner " ++ (owner_text owner ++ (holds_text b.fields ++ queue_text b.kind b.queue)))
+      state_text b.ty b.state ++ (codes " owner " ++ (owner_text owner ++ (holds_text b.fields ++ queue_text b.ty b.queue)))
 
   -- `block A TYPE freed`, `block A TYPE owner OWNER`, perhaps with ` holds [..]`, or `block A C.Imp STATE owner OWNER queue [..]`
   abbrev pub block_line : ℕ → Block → List ℕ
-  block_line address b = codes "block " ++ (decimal address ++ (codes " " ++ (kind_name w b.kind ++ (block_text b b.owner ++ codes "\n"))))
+  block_line address b = codes "block " ++ (decimal address ++ (codes " " ++ (type_name w b.ty ++ (block_text b b.owner ++ codes "\n"))))
 
   -- a line for each process, and one for each block, by their numbers
   abbrev pub world_lines : World → List ℕ

@@ -10,7 +10,7 @@ ghost use Rattle.replays.specs.WorldLines.{block_line, block_text, holds_text, m
 use crate::naming::Naming;
 use crate::texts::{add, add_number, separate};
 use machine::{Block, Held, Owner};
-use program::{ContractId, HeapKind, StateId};
+use program::{ContractId, HeapType, StateId};
 use source::Memory;
 use std::collections::VecDeque;
 
@@ -95,39 +95,39 @@ fn add_messages(
 fn add_state(
     answer: &mut Vec<u8>,
     naming: &Naming<'_>,
-    kind: HeapKind,
+    ty: HeapType,
     state: StateId,
 ) -> Result<(), Memory>
-    ensures { OnOk result (answer.new.items ≡ answer.old.items ++ state_text (words_of naming.now) kind state.0) }
+    ensures { OnOk result (answer.new.items ≡ answer.old.items ++ state_text (words_of naming.now) ty state.0) }
 {
-    match kind {
-        HeapKind::Endpoint { contract, .. } => {
+    match ty {
+        HeapType::Endpoint { contract, .. } => {
             add(answer, b" ")?;
             add(answer, naming.state_name(contract, state))
         }
-        HeapKind::Struct(_) | HeapKind::Array(_) => Ok(()),
+        HeapType::Struct(_) | HeapType::Array(_) => Ok(()),
     }
 }
 
 /// Adds the queue of an endpoint.
 fn add_queue(answer: &mut Vec<u8>, naming: &Naming<'_>, block: &Block) -> Result<(), Memory>
     ensures { OnOk result (answer.new.items ≡ answer.old.items
-        ++ queue_text (words_of naming.now) block.now.kind (map held_model block.now.queue.items)) }
+        ++ queue_text (words_of naming.now) block.now.ty (map held_model block.now.queue.items)) }
 {
-    match block.kind {
-        HeapKind::Endpoint { contract, .. } => {
+    match block.ty {
+        HeapType::Endpoint { contract, .. } => {
             add(answer, b" queue [")?;
             add_messages(answer, naming, contract, &block.queue)?;
             add(answer, b"]")
         }
-        HeapKind::Struct(_) | HeapKind::Array(_) => Ok(()),
+        HeapType::Struct(_) | HeapType::Array(_) => Ok(()),
     }
 }
 
 /// Adds what the fields of a block hold, and the queue of an endpoint.
 fn add_held(answer: &mut Vec<u8>, naming: &Naming<'_>, block: &Block) -> Result<(), Memory>
     ensures { OnOk result (answer.new.items ≡ answer.old.items ++ (holds_text block.now.fields.items
-        ++ queue_text (words_of naming.now) block.now.kind (map held_model block.now.queue.items))) }
+        ++ queue_text (words_of naming.now) block.now.ty (map held_model block.now.queue.items))) }
 {
     add_fields(answer, &block.fields)?;
     add_queue(answer, naming, block)
@@ -141,7 +141,7 @@ fn add_told(answer: &mut Vec<u8>, naming: &Naming<'_>, block: &Block) -> Result<
     match block.owner {
         Owner::Freed => add(answer, b" freed"),
         owner => {
-            add_state(answer, naming, block.kind, block.state)?;
+            add_state(answer, naming, block.ty, block.state)?;
             add(answer, b" owner ")?;
             add_owner(answer, owner)?;
             add_held(answer, naming, block)
@@ -161,7 +161,7 @@ fn add_block(
     add(answer, b"block ")?;
     add_number(answer, address as u64)?;
     add(answer, b" ")?;
-    naming.add_kind(answer, block.kind)?;
+    naming.add_type(answer, block.ty)?;
     add_told(answer, naming, block)?;
     add(answer, b"\n")
 }

@@ -4,12 +4,12 @@ ghost use Rattle.std.specs.Prelude.{◌≡◌, ◌++◌, IfOk, OnOk, map, option
 ghost use Rattle.rules.specs.Programs.{model_of};
 ghost use Rattle.replays.specs.Naming.{words_of};
 ghost use Rattle.replays.specs.Names as told;
-ghost use Rattle.replays.specs.Names.{Words, kind_name, scalar_name, side_name, state_of};
+ghost use Rattle.replays.specs.Names.{Words, type_name, scalar_name, side_name, state_of};
 ghost use Rattle.replays.specs.Placed.{index_in};
 
 use crate::naming::{Naming, indices_in};
 use crate::texts::add;
-use program::{ContractId, HeapKind, MessageId, Scalar, Side, StateId, StructId};
+use program::{ContractId, HeapType, MessageId, Scalar, Side, StateId, StructId};
 use rules::Program;
 use source::Memory;
 use std::alloc::{AllocError, Global};
@@ -95,16 +95,16 @@ impl<'a> Naming<'a> {
     }
 
     /// Adds a type: the name of a struct, `byte[]`, `C.Imp`.
-    pub(crate) fn add_kind(&self, answer: &mut Vec<u8>, kind: HeapKind) -> Result<(), Memory>
-        ensures { OnOk result (answer.new.items ≡ answer.old.items ++ kind_name (words_of self.now) kind) }
+    pub(crate) fn add_type(&self, answer: &mut Vec<u8>, ty: HeapType) -> Result<(), Memory>
+        ensures { OnOk result (answer.new.items ≡ answer.old.items ++ type_name (words_of self.now) ty) }
     {
-        match kind {
-            HeapKind::Struct(id) => add(answer, self.struct_name(id)),
-            HeapKind::Array(element) => {
+        match ty {
+            HeapType::Struct(id) => add(answer, self.struct_name(id)),
+            HeapType::Array(element) => {
                 add(answer, scalar_name(element))?;
                 add(answer, b"[]")
             }
-            HeapKind::Endpoint { contract, side, .. } => {
+            HeapType::Endpoint { contract, side, .. } => {
                 add(answer, self.contract_name(contract))?;
                 add(answer, b".")?;
                 add(answer, side_name(side))

@@ -38,13 +38,13 @@ pub walks_all : {S T X : Type 0} (text : List ℕ) (go : T → Frame → Told X)
     → IsTold text (walked (λ s. go (tree s)) (take i ss) f) done l → IsTold text (walked go (map tree ss) f) done l
 walks_all text go tree ss i f done l le h = subst (λ t. IsTold text t done l) (ap (λ ys. walked (λ s. go (tree s)) ys f) (take_all i ss le) ∙ walked_map go tree ss f) h
 
-row_walked : (p : Program) (class : ℕ) (stays : Staying) (xs : List StatementTree) (f : Frame) → remade seen.statement_sequence (walked (statement_told p class stays) xs f) ≡ statements_told p class stays (trees.statement_sequence xs) f
-row_walked p class stays [] f = refl
-row_walked p class stays (x ∷ xs) f = ap (remade (seen.MoreStatements (statement_told p class stays x f).what)) (row_walked p class stays xs (statement_told p class stays x f).frame)
+sequence_walked : (p : Program) (class : ℕ) (stays : Staying) (xs : List StatementTree) (f : Frame) → remade seen.statement_sequence (walked (statement_told p class stays) xs f) ≡ statements_told p class stays (trees.statement_sequence xs) f
+sequence_walked p class stays [] f = refl
+sequence_walked p class stays (x ∷ xs) f = ap (remade (seen.MoreStatements (statement_told p class stays x f).what)) (sequence_walked p class stays xs (statement_told p class stays x f).frame)
 
--- statements as a row
-pub row_told : (p : Program) (class : ℕ) (stays : Staying) (xs : List StatementTree) (f : Frame) (done : List StatementModel) (l : Locals) → IsTold p.text (walked (statement_told p class stays) xs f) done l → IsTold p.text (statements_told p class stays (trees.statement_sequence xs) f) (seen.statement_sequence done) l
-row_told p class stays xs f done l h = subst (λ t. IsTold p.text t (seen.statement_sequence done) l) (row_walked p class stays xs f) (record { is = ap seen.statement_sequence h.is; frame = h.frame })
+-- statements as a sequence
+pub sequence_told : (p : Program) (class : ℕ) (stays : Staying) (xs : List StatementTree) (f : Frame) (done : List StatementModel) (l : Locals) → IsTold p.text (walked (statement_told p class stays) xs f) done l → IsTold p.text (statements_told p class stays (trees.statement_sequence xs) f) (seen.statement_sequence done) l
+sequence_told p class stays xs f done l h = subst (λ t. IsTold p.text t (seen.statement_sequence done) l) (sequence_walked p class stays xs f) (record { is = ap seen.statement_sequence h.is; frame = h.frame })
 
 parameters_push : (p : Program) (params : List made.Parameter.Parameter) (x : made.Parameter.Parameter) (f : Frame) → parameters_frame p (params ++ x ∷ []) f ≡ declared p.text (parameter_declaration p x) (parameters_frame p params f)
 parameters_push p [] x f = refl

@@ -10,42 +10,42 @@ use Rattle.tree.specs.declared.item.Item.{Item}
 use Rattle.tree.specs.declared.contract.Member.{Member}
 use Rattle.declarations.specs.Declarations.{message_among, messages_of}
 use Rattle.declarations.specs.Program.{Program}
-use Rattle.program.specs.declared.kind.HeapKind.{HeapKind}
+use Rattle.program.specs.declared.types.HeapType.{HeapType}
 use Rattle.resolving.specs.Brought.{brought, held_listed}
-use Rattle.program.specs.Programs.{kind_lists}
+use Rattle.program.specs.Programs.{type_lists}
 
 -- what these hold, one after another
-abbrev pub all_held : {X : Type 0} → (X → Option HeapKind) → List X → List HeapKind
+abbrev pub all_held : {X : Type 0} → (X → Option HeapType) → List X → List HeapType
 all_held holds xs = flat_map (λ x. held_listed (holds x)) xs
 
-held_more : {X : Type 0} (holds : X → Option HeapKind) (xs : List X) (i : ℕ) (d : X) → i < length xs
+held_more : {X : Type 0} (holds : X → Option HeapType) (xs : List X) (i : ℕ) (d : X) → i < length xs
     → all_held holds (take (i + 1) xs) ≡ all_held holds (take i xs) ++ held_listed (holds (get_or xs i d))
 held_more holds xs i d lt =
     ap (all_held holds) (take_more xs i d lt) ∙ sym (flat_map_more (λ x. held_listed (holds x)) [] (take i xs) (get_or xs i d))
 
 -- one more that is of the exchange heap
-pub held_some : {X : Type 0} (holds : X → Option HeapKind) (xs : List X) (i : ℕ) (d : X) (held : HeapKind) (done : List HeapKind) → i < length xs
+pub held_some : {X : Type 0} (holds : X → Option HeapType) (xs : List X) (i : ℕ) (d : X) (held : HeapType) (done : List HeapType) → i < length xs
     → done ≡ all_held holds (take i xs) → Some held ≡ holds (get_or xs i d) → done ++ held ∷ [] ≡ all_held holds (take (i + 1) xs)
 held_some holds xs i d held done lt before is =
     ap (λ l. l ++ held ∷ []) before ∙ ap (λ o. all_held holds (take i xs) ++ held_listed o) is ∙ sym (held_more holds xs i d lt)
 
 -- one more that is not
-pub held_none : {X : Type 0} (holds : X → Option HeapKind) (xs : List X) (i : ℕ) (d : X) (done : List HeapKind) → i < length xs
+pub held_none : {X : Type 0} (holds : X → Option HeapType) (xs : List X) (i : ℕ) (d : X) (done : List HeapType) → i < length xs
     → done ≡ all_held holds (take i xs) → None ≡ holds (get_or xs i d) → done ≡ all_held holds (take (i + 1) xs)
 held_none holds xs i d done lt before is =
     let front = all_held holds (take i xs) in
-    before ∙ sym (append-nil front) ∙ ap (λ (o : Option HeapKind). front ++ held_listed o) is ∙ sym (held_more holds xs i d lt)
+    before ∙ sym (append-nil front) ∙ ap (λ (o : Option HeapType). front ++ held_listed o) is ∙ sym (held_more holds xs i d lt)
 
--- one more row
-pub rows_more : (done more : List (Vec HeapKind)) (kinds : Vec HeapKind) (bs : List HeapKind) → more ≡ done ++ kinds ∷ [] → kinds.items ≡ bs → kind_lists more ≡ kind_lists done ++ bs ∷ []
-rows_more done more kinds bs new is = ap kind_lists new ∙ map-append (λ (k : Vec HeapKind). k.items) done (kinds ∷ []) ∙ ap (λ b. kind_lists done ++ b ∷ []) is
+-- one more sequence
+pub lists_more : (done more : List (Vec HeapType)) (types : Vec HeapType) (bs : List HeapType) → more ≡ done ++ types ∷ [] → types.items ≡ bs → type_lists more ≡ type_lists done ++ bs ∷ []
+lists_more done more types bs new is = ap type_lists new ∙ map-append (λ (k : Vec HeapType). k.items) done (types ∷ []) ∙ ap (λ b. type_lists done ++ b ∷ []) is
 
 -- what the messages among the first so many members bring
-abbrev pub first_members : Program → List Member → ℕ → List (List HeapKind)
+abbrev pub first_members : Program → List Member → ℕ → List (List HeapType)
 first_members p xs i = map (brought p) (flat_map message_among (map member_tree (take i xs)))
 
 -- one more member, which adds what it brings if it is a message
-pub members_more : (p : Program) (xs : List Member) (i : ℕ) (x : Member) (old done more : List (List HeapKind)) → i < length xs → x ≡ get_or xs i x
+pub members_more : (p : Program) (xs : List Member) (i : ℕ) (x : Member) (old done more : List (List HeapType)) → i < length xs → x ≡ get_or xs i x
     → done ≡ old ++ first_members p xs i → more ≡ done ++ map (brought p) (message_among (member_tree x)) → more ≡ old ++ first_members p xs (i + 1)
 members_more p xs i x old done more lt is before new =
     let front = flat_map message_among (map member_tree (take i xs)) in
@@ -58,7 +58,7 @@ pub members_all : (p : Program) (xs : List Member) (i : ℕ) → length xs ≤ i
 members_all p xs i le = ap (λ l. map (brought p) (flat_map message_among (map member_tree l))) (take_all i xs le)
 
 -- what a contract brings: its messages before the first state, and those among its members
-pub contract_brings : (p : Program) (c : ContractTree) (old mid new : List (List HeapKind)) → mid ≡ old ++ map (brought p) c.messages → new ≡ mid ++ map (brought p) (flat_map message_among c.members)
+pub contract_brings : (p : Program) (c : ContractTree) (old mid new : List (List HeapType)) → mid ≡ old ++ map (brought p) c.messages → new ≡ mid ++ map (brought p) (flat_map message_among c.members)
     → new ≡ old ++ map (brought p) (flat_map messages_of (c ∷ []))
 contract_brings p c old mid new first second =
     let among = flat_map message_among c.members in
@@ -66,7 +66,7 @@ contract_brings p c old mid new first second =
     ∙ ap (λ l. old ++ l) (sym (map-append (brought p) c.messages among)) ∙ ap (λ (l : List MessageTree). old ++ map (brought p) l) (sym (append-nil (messages_of c)))
 
 -- what the messages of the contracts among the first so many items bring
-abbrev pub first_brought : Program → List Item → ℕ → List (List HeapKind)
+abbrev pub first_brought : Program → List Item → ℕ → List (List HeapType)
 first_brought p xs i = map (brought p) (flat_map messages_of (contracts_of (map item_tree (take i xs))))
 
 -- those of one more item

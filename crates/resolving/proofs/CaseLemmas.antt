@@ -93,10 +93,10 @@ pub cases_more : (p : Program) (class : ℕ) (stays : Staying) (close : Place) (
 cases_more p class stays close f all done next others i after l m x lt is go tell =
     let seen_so : List CaseModel = map case_model done in
     let rest : CaseTrees = case_sequence (map case_tree (drop (i + 1) others)) in
-    let row : case_sequence (map case_tree (drop i others)) ≡ trees.MoreCases (case_tree after) rest
+    let sequence : case_sequence (map case_tree (drop i others)) ≡ trees.MoreCases (case_tree after) rest
     = ap (λ cs. case_sequence (map case_tree cs)) (drop-cons others i after lt ∙ ap (λ k. k ∷ drop (suc i) others) (sym is) ∙ ap (λ k. after ∷ drop k others) (sym (add-one i))) in
     subst (λ cs. CasesGo p class stays close f all cs (case_tree after) rest m) (sym (map-append case_model done (x ∷ [])))
-    (case_then p class stays close f all seen_so next (case_tree after) rest l m (case_model x) (subst (λ cs. CasesGo p class stays close f all seen_so next cs l) row go)
+    (case_then p class stays close f all seen_so next (case_tree after) rest l m (case_model x) (subst (λ cs. CasesGo p class stays close f all seen_so next cs l) sequence go)
     (λ g here. subst (λ k. IsTold p.text (case_told p class stays k next g) (case_model x) m) (sym (token_behind after rest close)) (tell g here)))
 
 -- the last case is told, behind which the switch ends

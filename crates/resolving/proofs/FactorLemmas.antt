@@ -1,4 +1,4 @@
--- What a row of factors reads.
+-- What a sequence of factors reads.
 use Rattle.std.proofs.Common.{◌≡◌, ℕ, ◌+◌, ◌<◌, ◌≤◌, List, [], ◌∷◌, ◌++◌, length, map, take, get_or, sym, ap, ◌∙◌, append_assoc, append-nil}
 use Rattle.std.specs.List.{flat_map}
 use Rattle.std.proofs.lemmas.Grind.{flat_map-append}
@@ -29,9 +29,9 @@ gathered_reads : (text : List ℕ) (ls : List Local) (u : LevelTree Single) (fs 
 gathered_reads text ls u [] = append-nil (reads text ls u ++ [])
 gathered_reads text ls u (f ∷ fs) = before_reads text ls u f.0 (gathered f.1 fs) ∙ ap (λ m. reads text ls u ++ m) (gathered_reads text ls f.1 fs)
 
--- what a row reads as far as it was walked
-abbrev pub row_reads : List ℕ → LevelTree Single → FactorTree → List Factor → ℕ → Frame → List Mention
-row_reads text first second xs i g = reads text g.locals first ++ factor_reads text g.locals (second ∷ map factor_tree (take i xs))
+-- what a sequence reads as far as it was walked
+abbrev pub sequence_reads : List ℕ → LevelTree Single → FactorTree → List Factor → ℕ → Frame → List Mention
+sequence_reads text first second xs i g = reads text g.locals first ++ factor_reads text g.locals (second ∷ map factor_tree (take i xs))
 
 -- one more factor
 factors_more : (text : List ℕ) (ls : List Local) (f : FactorTree) (xs : List Factor) (i : ℕ) (x : Factor) → i < length xs → x ≡ get_or xs i x
@@ -43,10 +43,10 @@ factors_more text ls f xs i x lt is =
     ∙ flat_map-append (λ (g : FactorTree). reads text ls g.1) done (factor_tree x ∷ [])
     ∙ ap (λ m. factor_reads text ls done ++ m) (append-nil (reads text ls (factor_tree x).1))
 
--- before the loop a row has read its first two parts
-pub row_first : (text : List ℕ) (first second : LevelTree Single) (f : FactorTree) (xs : List Factor) {locals : Locals} {old mid new : List Mention}
-    → f.1 ≡ second → AddsReads text locals (λ g. reads text g.locals first) old mid → AddsReads text locals (λ g. reads text g.locals second) mid new → AddsReads text locals (row_reads text first f xs 0) old new
-row_first text first second f xs {old = old} seen before more = record {
+-- before the loop a sequence has read its first two parts
+pub sequence_first : (text : List ℕ) (first second : LevelTree Single) (f : FactorTree) (xs : List Factor) {locals : Locals} {old mid new : List Mention}
+    → f.1 ≡ second → AddsReads text locals (λ g. reads text g.locals first) old mid → AddsReads text locals (λ g. reads text g.locals second) mid new → AddsReads text locals (sequence_reads text first f xs 0) old new
+sequence_first text first second f xs {old = old} seen before more = record {
   all = λ g here.
       let ls = g.locals in
       more.all g here
@@ -56,10 +56,10 @@ row_first text first second f xs {old = old} seen before more = record {
       ∙ ap (λ m. old ++ (reads text ls first ++ m)) (sym (append-nil (reads text ls f.1)));
 }
 
-pub row_more : (text : List ℕ) (first part : LevelTree Single) (f : FactorTree) (xs : List Factor) (i : ℕ) (x : Factor) {locals : Locals} {old mid new : List Mention}
-    → i < length xs → x ≡ get_or xs i x → (factor_tree x).1 ≡ part → AddsReads text locals (row_reads text first f xs i) old mid → AddsReads text locals (λ g. reads text g.locals part) mid new
-    → AddsReads text locals (row_reads text first f xs (i + 1)) old new
-row_more text first part f xs i x {old = old} lt is seen before more = record {
+pub sequence_more : (text : List ℕ) (first part : LevelTree Single) (f : FactorTree) (xs : List Factor) (i : ℕ) (x : Factor) {locals : Locals} {old mid new : List Mention}
+    → i < length xs → x ≡ get_or xs i x → (factor_tree x).1 ≡ part → AddsReads text locals (sequence_reads text first f xs i) old mid → AddsReads text locals (λ g. reads text g.locals part) mid new
+    → AddsReads text locals (sequence_reads text first f xs (i + 1)) old new
+sequence_more text first part f xs i x {old = old} lt is seen before more = record {
   all = λ g here.
       let ls = g.locals in
       let done = factor_reads text ls (f ∷ map factor_tree (take i xs)) in
@@ -71,9 +71,9 @@ row_more text first part f xs i x {old = old} lt is seen before more = record {
       ∙ ap (λ m. old ++ (reads text ls first ++ m)) (sym (factors_more text ls f xs i x lt is));
 }
 
-pub row_all : (text : List ℕ) (first : LevelTree Single) (f : FactorTree) (xs ys : List Factor) (i : ℕ) (tree : LevelTree (Joined Add)) {locals : Locals} {old new : List Mention}
-    → length xs ≤ i → xs ≡ ys → tree ≡ gathered first (f ∷ map factor_tree ys) → AddsReads text locals (row_reads text first f xs i) old new → AddsReads text locals (λ g. reads text g.locals tree) old new
-row_all text first f xs ys i tree {old = old} le same seen h = record {
+pub sequence_all : (text : List ℕ) (first : LevelTree Single) (f : FactorTree) (xs ys : List Factor) (i : ℕ) (tree : LevelTree (Joined Add)) {locals : Locals} {old new : List Mention}
+    → length xs ≤ i → xs ≡ ys → tree ≡ gathered first (f ∷ map factor_tree ys) → AddsReads text locals (sequence_reads text first f xs i) old new → AddsReads text locals (λ g. reads text g.locals tree) old new
+sequence_all text first f xs ys i tree {old = old} le same seen h = record {
   all = λ g here.
       h.all g here
       ∙ ap (λ zs. old ++ (reads text g.locals first ++ factor_reads text g.locals (f ∷ map factor_tree zs))) (take_all i xs le ∙ same)

@@ -18,12 +18,12 @@ use Rattle.tree.specs.declared.item.Definition.TheVariants as definition
 use Rattle.tree.specs.declared.item.Item.{Item}
 use Rattle.declarations.specs.Declarations.{first_among}
 use Rattle.declarations.specs.Program.{Program, Numbered, as_struct}
-use Rattle.program.specs.declared.kind.HeapKind.{HeapKind}
+use Rattle.program.specs.declared.types.HeapType.{HeapType}
 use Rattle.resolving.specs.Around.{owning_indices, index_listed, indices_held, indices_in}
 use Rattle.resolving.specs.Brought.{held_listed}
 use Rattle.resolving.specs.Counts.{struct_among, structs_of}
 use Rattle.resolving.specs.Fields.{field_number, fields_held, owning_before}
-use Rattle.resolving.specs.Kinds.{type_held}
+use Rattle.resolving.specs.Types.{type_held}
 use Rattle.resolving.specs.Locals.{Local}
 
 -- the place of a field, where it owns
@@ -42,7 +42,7 @@ indices_more p fields i d lt =
     ∙ sym (flat_map_more (owned p) [] (enumerate_from 0 front) (i, next))
 
 -- one more field that owns
-pub index_some : (p : Program) (fields : List Field) (i : ℕ) (d : Field) (held : HeapKind) (done : List ℕ) → i < length fields
+pub index_some : (p : Program) (fields : List Field) (i : ℕ) (d : Field) (held : HeapType) (done : List ℕ) → i < length fields
     → done ≡ indices_held p (take i fields) → Some held ≡ type_held p (get_or fields i d).ty → done ++ i ∷ [] ≡ indices_held p (take (i + 1) fields)
 index_some p fields i d held done lt before is =
     ap (λ l. l ++ i ∷ []) before ∙ ap (λ o. indices_held p (take i fields) ++ index_listed i o) is ∙ sym (indices_more p fields i d lt)
@@ -52,14 +52,14 @@ pub index_none : (p : Program) (fields : List Field) (i : ℕ) (d : Field) (done
     → done ≡ indices_held p (take i fields) → None ≡ type_held p (get_or fields i d).ty → done ≡ indices_held p (take (i + 1) fields)
 index_none p fields i d done lt before is =
     let front = indices_held p (take i fields) in
-    before ∙ sym (append-nil front) ∙ ap (λ (o : Option HeapKind). front ++ index_listed i o) is ∙ sym (indices_more p fields i d lt)
+    before ∙ sym (append-nil front) ∙ ap (λ (o : Option HeapType). front ++ index_listed i o) is ∙ sym (indices_more p fields i d lt)
 
 -- what the structs among the first so many items have
-abbrev pub first_fields : Program → List Item → ℕ → List (List HeapKind)
+abbrev pub first_fields : Program → List Item → ℕ → List (List HeapType)
 first_fields p xs i = map (λ s. fields_held p s.fields) (structs_of (map item_tree (take i xs)))
 
 -- what a definition has, if it is a struct
-abbrev pub fields_in : Program → DefinitionTree → List (List HeapKind)
+abbrev pub fields_in : Program → DefinitionTree → List (List HeapType)
 fields_in p d = map (λ s. fields_held p s.fields) (struct_among d)
 
 -- those of one more item
@@ -90,11 +90,11 @@ before_both place xs ys =
     let test : ℕ → Bool = λ x. ltb x place in
     ap length (filter-append test xs ys) ∙ length-append (filter test xs) (filter test ys)
 
-not_before : (n place : ℕ) (o : Option HeapKind) → place ≤ n → before_index place (index_listed n o) ≡ 0
+not_before : (n place : ℕ) (o : Option HeapType) → place ≤ n → before_index place (index_listed n o) ≡ 0
 not_before n place None le = refl
 not_before n place (Some held) le = ap (λ (b : Bool). length (cond b (n ∷ []) [])) (le-ltb n place le)
 
-one_before : (n place : ℕ) (o : Option HeapKind) → n < place → before_index place (index_listed n o) ≡ length (held_listed o)
+one_before : (n place : ℕ) (o : Option HeapType) → n < place → before_index place (index_listed n o) ≡ length (held_listed o)
 one_before n place None lt = refl
 one_before n place (Some held) lt = ap (λ (b : Bool). length (cond b (n ∷ []) [])) (lt-ltb n place lt)
 
@@ -144,23 +144,23 @@ number_in p n field place (Struct s) is =
     ap Some (number_is p place s.fields) ∙ ap (option_map (λ k. length (fields_held p (take k s.fields)))) is
 
 -- the same of an item, if there is one
-pub number_at : (p : Program) (n : ℕ) (field : Span) (place : ℕ) (row : List ℕ) (o : Option ItemTree) → Some row ≡ option_map (owning_indices p) o
+pub number_at : (p : Program) (n : ℕ) (field : Span) (place : ℕ) (sequence : List ℕ) (o : Option ItemTree) → Some sequence ≡ option_map (owning_indices p) o
     → Some place ≡ option_and_then (index_named p field) (option_and_then (λ i. option_map (λ x. (n, x)) (as_struct i.definition)) o)
-    → Some (before_index place row) ≡ option_and_then (owning_before p field) (option_and_then (λ i. option_map (λ x. (n, x)) (as_struct i.definition)) o)
-number_at p n field place row None has is = cc
-number_at p n field place row (Some i) has is =
-    let kind_lists : row ≡ owning_indices p i = cc in
-    ap (λ r. Some (before_index place r)) kind_lists ∙ number_in p n field place i.definition is
+    → Some (before_index place sequence) ≡ option_and_then (owning_before p field) (option_and_then (λ i. option_map (λ x. (n, x)) (as_struct i.definition)) o)
+number_at p n field place sequence None has is = cc
+number_at p n field place sequence (Some i) has is =
+    let type_lists : sequence ≡ owning_indices p i = cc in
+    ap (λ r. Some (before_index place r)) type_lists ∙ number_in p n field place i.definition is
 
--- the number of a field of what a variable holds, by the kind of the variable
-pub of_kind : (p : Program) (field : Span) (o : Option Local) → option_and_then (λ kind. field_number p kind field) (option_map (λ v. v.kind) o)
-    ≡ option_and_then (λ v. field_number p v.kind field) o
-of_kind p field None = refl
-of_kind p field (Some v) = refl
+-- the number of a field of what a variable holds, by the type of the variable
+pub of_type : (p : Program) (field : Span) (o : Option Local) → option_and_then (λ ty. field_number p ty field) (option_map (λ v. v.ty) o)
+    ≡ option_and_then (λ v. field_number p v.ty field) o
+of_type p field None = refl
+of_type p field (Some v) = refl
 
 -- the places that are looked up at an item
-pub row_found : (p : Program) (kind_lists : List (Vec ℕ)) (n : ℕ) (row : Vec ℕ) → map (λ x. x.items) kind_lists ≡ map (owning_indices p) p.items → slice_get kind_lists n ≡ Some row
-    → Some row.items ≡ option_map (owning_indices p) (slice_get p.items n)
-row_found p kind_lists n row same at =
-    ap (option_map (λ (x : Vec ℕ). x.items)) (sym at) ∙ sym (slice_get-map (λ (x : Vec ℕ). x.items) kind_lists n)
+pub owning_found : (p : Program) (type_lists : List (Vec ℕ)) (n : ℕ) (sequence : Vec ℕ) → map (λ x. x.items) type_lists ≡ map (owning_indices p) p.items → slice_get type_lists n ≡ Some sequence
+    → Some sequence.items ≡ option_map (owning_indices p) (slice_get p.items n)
+owning_found p type_lists n sequence same at =
+    ap (option_map (λ (x : Vec ℕ). x.items)) (sym at) ∙ sym (slice_get-map (λ (x : Vec ℕ). x.items) type_lists n)
     ∙ ap (λ l. slice_get l n) same ∙ slice_get-map (owning_indices p) p.items n

@@ -8,7 +8,7 @@ use Rattle.tree.specs.StatementTrees.{StatementTree, StatementTrees, BlockTree, 
 use Rattle.tree.specs.declared.statement as made
 use Rattle.tree.specs.declared.contract as tree
 use Rattle.declarations.specs.Program.{Program}
-use Rattle.program.specs.declared.kind.HeapKind.{HeapKind}
+use Rattle.program.specs.declared.types.HeapType.{HeapType}
 use Rattle.resolving.specs.Binds.{bind_declaration, bind_told, binds_told}
 use Rattle.resolving.specs.Locals.{Local, Frame, local_named, entered, declared, declared_as}
 use Rattle.resolving.specs.Plain.{declaration_of}
@@ -36,11 +36,11 @@ one_more false ls l = refl
 
 entered_extends : (text : List ℕ) (d : Declaration) (number : Option ℕ) (f g : Frame) → g.locals ≡ entered text d number f.locals → Extends f g
 entered_extends text d number f g is = record {
-  more = if is_some (local_named text f.locals d.name) then [] else record { name = d.name; kind = d.kind; number = number } ∷ [];
-  is = is ∙ one_more (is_some (local_named text f.locals d.name)) f.locals (record { name = d.name; kind = d.kind; number = number });
+  more = if is_some (local_named text f.locals d.name) then [] else record { name = d.name; ty = d.ty; number = number } ∷ [];
+  is = is ∙ one_more (is_some (local_named text f.locals d.name)) f.locals (record { name = d.name; ty = d.ty; number = number });
 }
 
-held_extends : (text : List ℕ) (d : Declaration) (held : Option HeapKind) (f : Frame) → Extends f (declared_as text d held f)
+held_extends : (text : List ℕ) (d : Declaration) (held : Option HeapType) (f : Frame) → Extends f (declared_as text d held f)
 held_extends text d (Some held) f = entered_extends text d (Some (length f.variables)) f _ refl
 held_extends text d None f = entered_extends text d None f _ refl
 

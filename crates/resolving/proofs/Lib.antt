@@ -17,5 +17,5 @@ pub mod CalleeLemmas
 pub mod PlainLemmas
 pub mod SendLemmas
 pub mod BindLemmas
-pub mod KindLemmas
+pub mod TypeLemmas
 pub mod CaseLemmas

@@ -10,9 +10,9 @@ use Rattle.source.specs.declared.token.Span.{Span}
 use Rattle.tables.specs.Firsts.{IsApart, first_of}
 use Rattle.tables.specs.Tables.{IsTable}
 use Rattle.tables.specs.Words.{word_at, same_word}
-use Rattle.declarations.specs.declared.kinds.ValueKind.TheVariants.{Missing}
+use Rattle.declarations.specs.declared.value_type.ValueType.TheVariants.{Missing}
 use Rattle.program.specs.Methods.{variable_model}
-use Rattle.program.specs.declared.kind.HeapKind.{HeapKind}
+use Rattle.program.specs.declared.types.HeapType.{HeapType}
 use Rattle.program.specs.declared.number.VarId.{VarId}
 use Rattle.resolving.specs.Frames.{IsFrame, local_model, number_model, words_in}
 use Rattle.resolving.specs.Locals as model
@@ -31,7 +31,7 @@ pub local_found : (text : List ℕ) (f : Frame) (l : Locals) (name : Span) (plac
 local_found text f l name place h is = local_at text f l h place ∙ ap (option_and_then (slice_get f.locals)) is
 
 abbrev here : Declaration → Option ℕ → model.Local
-here d number = record { name = d.name; kind = d.kind; number = number }
+here d number = record { name = d.name; ty = d.ty; number = number }
 
 some_there : (text : List ℕ) (locals : List model.Local) (name : Span) (o : Option ℕ) → first_of (words_in text locals) (word_at text name) ≡ o → is_some (option_and_then (slice_get locals) o) ≡ is_some o
 some_there text locals name None is = refl
@@ -39,7 +39,7 @@ some_there text locals name (Some k) is =
     let at = position-Some (same_word (word_at text name)) (words_in text locals) k [] is in
     let many = length-map (map (λ (x : model.Local). x.name) locals) (word_at text) ∙ length-map locals (λ (x : model.Local). x.name) in
     let lt : k < length locals = omega (arith, at.0, many) in
-    ap is_some (slice_get-get_or locals k (record { name = name; kind = Missing; number = None }) lt)
+    ap is_some (slice_get-get_or locals k (record { name = name; ty = Missing; number = None }) lt)
 
 -- a variable of a name is in scope where the name is among theirs
 is_named : (text : List ℕ) (locals : List model.Local) (name : Span) → is_some (local_named text locals name) ≡ is_some (first_of (words_in text locals) (word_at text name))
@@ -59,7 +59,7 @@ entered_taken text f l d number word found h at is taken =
 pub entered_new : (text : List ℕ) (f : Frame) (l m : Locals) (d : Declaration) (number : Option VarId) (word : List ℕ) (found : Option ℕ) → IsFrame text f l → word ≡ word_at text d.name
     → ((words : List (List ℕ)) → IsTable words l.names → found ≡ first_of words word) → is_some found ≡ false
     → ((words : List (List ℕ)) → IsTable words l.names → first_of words word ≡ None → IsTable (words ++ word ∷ []) m.names)
-    → m.list.items ≡ l.list.items ++ record { name = d.name; kind = d.kind; number = number } ∷ [] → m.last ≡ l.last → m.variables.items ≡ l.variables.items
+    → m.list.items ≡ l.list.items ++ record { name = d.name; ty = d.ty; number = number } ∷ [] → m.last ≡ l.last → m.variables.items ≡ l.variables.items
     → IsFrame text (scoped (entered text d (number_model number) f.locals) f.last f) m
 entered_new text f l m d number word found h at is taken table list last variables =
     let words = words_in text f.locals in
@@ -68,7 +68,7 @@ entered_new text f l m d number word found h at is taken table list last variabl
     let there = is_named text f.locals d.name ∙ ap is_some none in
     let more = words_push text f.locals (here d (number_model number)) in
     subst (λ b. IsFrame text (entered_if b d (number_model number) f) m) (sym there) (record {
-      list = ap (map local_model) list ∙ map-append local_model l.list.items (record { name = d.name; kind = d.kind; number = number } ∷ []) ∙ ap (λ x. x ++ here d (number_model number) ∷ []) h.list;
+      list = ap (map local_model) list ∙ map-append local_model l.list.items (record { name = d.name; ty = d.ty; number = number } ∷ []) ∙ ap (λ x. x ++ here d (number_model number) ∷ []) h.list;
       names = subst (λ x. IsTable x m.names) (sym more) (subst (λ x. IsTable (words ++ x ∷ []) m.names) at (table words h.names found_none));
       apart = subst IsApart (sym more) ((apart_more words (word_at text d.name) none).0 h.apart);
       last = ap number_model last ∙ h.last;
@@ -76,7 +76,7 @@ entered_new text f l m d number word found h at is taken table list last variabl
     })
 
 -- one of the exchange heap that is in scope and counted is the last of them
-pub heap_declared : (text : List ℕ) (f : Frame) (l m : Locals) (d : Declaration) (held : HeapKind) (n : ℕ) → IsFrame text f l → n ≡ length l.variables.items
+pub heap_declared : (text : List ℕ) (f : Frame) (l m : Locals) (d : Declaration) (held : HeapType) (n : ℕ) → IsFrame text f l → n ≡ length l.variables.items
     → IsFrame text (record { locals = entered text d (Some n) f.locals; last = f.last; variables = counted text d held f.last f.variables }) m
     → IsFrame text (declared_heap text d held f) (record { names = m.names; list = m.list; last = Some (number_of n); variables = m.variables })
 heap_declared text f l m d held n h is both =

@@ -9,11 +9,11 @@ use Rattle.declarations.specs.Program.{Program}
 use Rattle.program.specs.Methods.{MethodModel, VariableModel, method_model, variable_model}
 use Rattle.program.specs.Statements as seen
 use Rattle.program.specs.Statements.{StatementsModel, statement_model}
-use Rattle.program.specs.declared.kind.HeapKind.{HeapKind}
+use Rattle.program.specs.declared.types.HeapType.{HeapType}
 use Rattle.program.specs.declared.method.Method.{Method}
 use Rattle.program.specs.declared.number.VarId.{VarId}
 use Rattle.resolving.specs.Frames.{IsFrame}
-use Rattle.resolving.specs.Kinds.{result_held}
+use Rattle.resolving.specs.Types.{result_held}
 use Rattle.resolving.specs.Locals.{Frame, number_of}
 use Rattle.resolving.specs.Methods.{no_variables, parameters_frame, method_told, takes_some}
 use Rattle.resolving.specs.Steps.{IsTold}
@@ -21,7 +21,7 @@ use Rattle.resolving.specs.Told.{stays_here, statements_told}
 use Rattle.resolving.specs.declared.locals.Locals.{Locals}
 use Rattle.tree.proofs.StatementTwins.{block_is}
 
-method_of : Place → Bool → Bool → Option HeapKind → List VariableModel → StatementsModel → Option VarId → Place → MethodModel
+method_of : Place → Bool → Bool → Option HeapType → List VariableModel → StatementsModel → Option VarId → Place → MethodModel
 method_of name takes gives result variables statements scope close = record { name = name; takes = takes; gives = gives; result = result; variables = variables; statements = statements; scope = scope; close = close }
 
 with_body : made.Method.Method → BlockTree → MethodTree

@@ -8,15 +8,15 @@ use Rattle.declarations.specs.Program.{Program}
 use Rattle.program.specs.Parts.{contract_model}
 use Rattle.declarations.specs.Resolution.{resolved_contracts}
 use Rattle.declarations.specs.Scopes.{IsScope}
-use Rattle.program.specs.declared.kind.HeapKind.{HeapKind}
+use Rattle.program.specs.declared.types.HeapType.{HeapType}
 use Rattle.program.specs.declared.limits.TheConstants.{MOST_METHODS}
 use Rattle.resolving.specs.Callees as model
 use Rattle.resolving.specs.Callees.{all_methods}
 use Rattle.resolving.specs.Messages as messages
 pub use Rattle.resolving.specs.Counts.{counts}
-use Rattle.resolving.specs.Kinds.{type_held}
+use Rattle.resolving.specs.Types.{type_held}
 use Rattle.resolving.specs.declared.around.Around.{Around}
-use Rattle.resolving.specs.declared.around.Types.{Types}
+use Rattle.resolving.specs.declared.around.Directory.{Directory}
 use Rattle.resolving.specs.declared.calls.Callee.{Callee}
 use Rattle.resolving.specs.declared.messages.Meant.{Meant}
 
@@ -25,7 +25,7 @@ abbrev pub program_in : List ℕ → List ItemTree → Program
 program_in text items = record { text = text; items = items }
 
 -- the index of a field that holds this
-abbrev pub index_listed : ℕ → Option HeapKind → List ℕ
+abbrev pub index_listed : ℕ → Option HeapType → List ℕ
 index_listed k None = []
 index_listed k (Some held) = k ∷ []
 
@@ -43,7 +43,7 @@ abbrev pub owning_indices : Program → ItemTree → List ℕ
 owning_indices p i = indices_in p i.definition
 
 -- these are the names of a program, its contracts with their names resolved, and what stands before each item
-pub record IsTypes (p : Program) (t : Types) : Type 0 where
+pub record IsDirectory (p : Program) (t : Directory) : Type 0 where
   pub scope : IsScope p t.scope.now
   pub contracts : map contract_model t.resolved.now.contracts.items ≡ resolved_contracts p.text (contracts_of p.items)
   pub before : t.before.now ≡ counts p.items
@@ -51,7 +51,7 @@ pub record IsTypes (p : Program) (t : Types) : Type 0 where
 -- these are the items of a program, what its types are looked up in, the indices of the fields that own in each item, and the index
 -- of a class
 pub record IsAround (p : Program) (class : ℕ) (a : Around) : Type 0 where
-  pub types : IsTypes p a.types
+  pub directory : IsDirectory p a.directory
   pub items : map item_tree a.items.now ≡ p.items
   pub owning : map (λ x. x.items) a.owning.now ≡ map (owning_indices p) p.items
   pub class_is : a.class ≡ class

@@ -18,7 +18,7 @@ number_model number = option_map (λ v. v.0) number
 
 -- a variable without its memory
 abbrev pub local_model : Local → model.Local
-local_model l = record { name = l.name; kind = l.kind; number = number_model l.number }
+local_model l = record { name = l.name; ty = l.ty; number = number_model l.number }
 
 -- the names of the variables in scope, as they are written
 abbrev pub words_in : List ℕ → List model.Local → List (List ℕ)

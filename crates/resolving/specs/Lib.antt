@@ -2,7 +2,7 @@ pub mod Locals
 pub mod Reads
 pub mod Callees
 pub mod Counts
-pub mod Kinds
+pub mod Types
 pub mod Messages
 pub mod Pieces
 pub mod Binds

@@ -12,7 +12,7 @@ use Rattle.tree.specs.Values as values
 use Rattle.tree.specs.Values.{ValueTree, CallTree, MadeTree}
 use Rattle.tree.specs.declared.class as declared_class
 use Rattle.tree.specs.declared.statement as statement
-use Rattle.declarations.specs.Kinds.{type_kind}
+use Rattle.declarations.specs.Types.{type_meant}
 use Rattle.declarations.specs.Program.{Program}
 use Rattle.program.specs.declared.number.ContractId.{ContractId}
 use Rattle.program.specs.Statements as seen
@@ -26,7 +26,7 @@ use Rattle.program.specs.declared.statement.Mention.{Mention}
 use Rattle.resolving.specs.Fields.{field_number}
 use Rattle.resolving.specs.Locals.{Frame, local_named, mention, mention_of, declared, next_number, number_of}
 use Rattle.resolving.specs.Callees.{Callee, callee, called_name}
-use Rattle.resolving.specs.Kinds.{contract_named, type_held}
+use Rattle.resolving.specs.Types.{contract_named, type_held}
 use Rattle.resolving.specs.Messages.{Meant, message_sent, end_contract}
 use Rattle.resolving.specs.Reads.{reads, listed}
 use Rattle.tree.specs.Alone.{lone_name}
@@ -57,7 +57,7 @@ given x (Some m) = record { mention = m; claimed = x.claims } ∷ []
 
 -- a declaration; its variable is in scope behind it
 abbrev pub declaration_of : Program → DeclareTree → Declaration
-declaration_of p d = record { name = d.name; kind = type_kind p d.ty; held = type_held p d.ty; role = Local }
+declaration_of p d = record { name = d.name; ty = type_meant p d.ty; held = type_held p d.ty; role = Local }
 
 -- the message that a call by two names sends, where the first one means an endpoint
 abbrev pub meant_by : Program → Frame → CallTree → Span → Option Meant
@@ -166,7 +166,7 @@ module _ (p : Program) (class : ℕ) (f : Frame) where
 
   abbrev pub exchange_found : statement.Exchange.Exchange → Option Action
   exchange_found e = option_and_then (exchange_by e)
-      (option_and_then (λ v. field_number p v.kind e.field) (local_named p.text f.locals e.holder))
+      (option_and_then (λ v. field_number p v.ty e.field) (local_named p.text f.locals e.holder))
 
   abbrev pub exchanged : statement.Exchange.Exchange → Action
   exchanged e = option_map_or (λ a. a) (exchange_found e) Nothing

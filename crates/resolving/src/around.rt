@@ -15,7 +15,7 @@ use tree::Item;
 /// What a type is looked up in: the names of the program, its contracts with their names resolved, and what stands before each
 /// item in the text. There are so few contracts that their numbers fit.
 #[derive(Clone, Copy)]
-pub(crate) struct Types<'s, 'a> {
+pub(crate) struct Directory<'s, 'a> {
     pub(crate) scope: &'s Scope<'a>,
     pub(crate) resolved: &'s Resolved,
     pub(crate) before: &'s [Before],
@@ -27,10 +27,10 @@ pub(crate) struct Types<'s, 'a> {
 #[derive(Clone, Copy)]
 pub(crate) struct Around<'s, 'a> {
     pub(crate) alloc: Global,
-    pub(crate) types: Types<'s, 'a>,
+    pub(crate) directory: Directory<'s, 'a>,
     pub(crate) items: &'a [Item],
     pub(crate) owning: &'s [Vec<usize>],
     pub(crate) class: usize,
-    ghost counted: { types.before.now ≡ counts (map item_tree items.now) },
+    ghost counted: { directory.before.now ≡ counts (map item_tree items.now) },
     ghost few: { length (all_methods (map item_tree items.now)) ≤ MOST_METHODS },
 }

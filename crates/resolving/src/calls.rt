@@ -43,10 +43,10 @@ fn method_at<'a>(
     ensures { (items : List ItemTree) (own : ℕ) → IsAround (program_in text.now items) own around.now
         → option_map callee_model result ≡ method_at (program_in text.now items) class name }
 {
-    let place = around.types.scope.method_index(class, name)?;
+    let place = around.directory.scope.method_index(class, name)?;
     let item = around.items.get(class)?;
     let method = methods_of(&item.definition).get(place)?;
-    let before = around.types.before.get(class)?;
+    let before = around.directory.before.get(class)?;
     Some(Callee {
         id: MethodId((before.methods + place) as u32),
         method,
@@ -63,7 +63,7 @@ fn method_of<'a>(
     ensures { (items : List ItemTree) (own : ℕ) → IsAround (program_in text.now items) own around.now
         → option_map callee_model result ≡ method_of (program_in text.now items) class name }
 {
-    let class = around.types.scope.class_index(class)?;
+    let class = around.directory.scope.class_index(class)?;
     method_at(text, around, class, name)
 }
 

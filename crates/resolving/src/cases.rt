@@ -2,7 +2,7 @@
 
 ghost use Rattle.std.specs.Prelude.{◌≡◌, ◌++◌, ℕ, List, IfOk, OnOk, option_map, slice_get};
 ghost use Rattle.tree.specs.Trees.{ItemTree};
-ghost use Rattle.declarations.specs.Kinds.{brought_kind};
+ghost use Rattle.declarations.specs.Types.{brought_type};
 ghost use Rattle.declarations.specs.Program.{Program};
 ghost use Rattle.resolving.specs.Around.{IsAround, meant_model, program_in};
 ghost use Rattle.resolving.specs.Binds as model;
@@ -12,9 +12,9 @@ ghost use Rattle.resolving.specs.Steps.{IsBound, IsTold};
 ghost use Rattle.resolving.specs.Told as told;
 
 use crate::around::Around;
-use crate::kinds::{kind_held, type_held};
 use crate::locals::{Declaration, Locals};
 use crate::messages::{Meant, message_named};
+use crate::types::{heap_type, type_held};
 use program::{Awaited, Mention, MessageId, Role, VarId};
 use source::Span;
 use std::alloc::{AllocError, Global};
@@ -50,7 +50,7 @@ pub(crate) fn awaited_message<'a>(
         return None;
     };
     let contract = locals.contract(text, name)?;
-    message_named(&around.types, contract, word)
+    message_named(&around.directory, contract, word)
 }
 
 /// What a case waits for, with the number of its message.
@@ -83,16 +83,16 @@ pub(crate) fn awaited_params<'a>(meant: Option<Meant<'a>>) -> &'a [MessageParame
     }
 }
 
-/// The kind of a name that a case binds without a type, for this parameter, if there is one.
-fn brought_kind(
+/// The type of a name that a case binds without one, for this parameter, if there is one.
+fn brought_type(
     around: &Around<'_, '_>,
     param: Option<&MessageParameter>,
-) -> declarations::ValueKind
-    ensures { (p : Program) (own : ℕ) → IsAround p own around.now → result ≡ brought_kind p (option_map (λ x. x.now) param.entry) }
+) -> declarations::ValueType
+    ensures { (p : Program) (own : ℕ) → IsAround p own around.now → result ≡ brought_type p (option_map (λ x. x.now) param.entry) }
 {
     match param {
-        Some(param) => around.types.scope.kind(param.ty),
-        None => declarations::ValueKind::Unknown,
+        Some(param) => around.directory.scope.type_meant(param.ty),
+        None => declarations::ValueType::Unknown,
     }
 }
 
@@ -110,16 +110,16 @@ fn bind_declaration(
     match bind.ty {
         Some(written) => Declaration {
             name,
-            kind: around.types.scope.kind(written),
-            held: type_held(&around.types, written),
+            ty: around.directory.scope.type_meant(written),
+            held: type_held(&around.directory, written),
             role,
         },
         None => {
-            let kind = brought_kind(around, param);
-            let held = kind_held(&around.types, kind, None);
+            let ty = brought_type(around, param);
+            let held = heap_type(&around.directory, ty, None);
             Declaration {
                 name,
-                kind,
+                ty,
                 held,
                 role,
             }

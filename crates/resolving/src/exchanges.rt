@@ -23,11 +23,11 @@ fn exchanged_field(
 ) -> Option<usize>
     ensures { (items : List ItemTree) (own : ℕ) (f : Frame) → IsAround (program_in text.now items) own around.now
         → IsFrame text.now f locals.now
-        → result ≡ option_and_then (λ v. fields.field_number (program_in text.now items) v.kind exchange.field)
+        → result ≡ option_and_then (λ v. fields.field_number (program_in text.now items) v.ty exchange.field)
         (local_named text.now f.locals exchange.holder) }
 {
-    let kind = locals.kind(text, exchange.holder)?;
-    field_number(around, kind, exchange.field)
+    let ty = locals.ty(text, exchange.holder)?;
+    field_number(around, ty, exchange.field)
 }
 
 /// What an exchange comes to, if its field and its two variables are found.

@@ -4,14 +4,14 @@ ghost use Rattle.std.specs.Prelude.{◌≡◌, ℕ, IfOk, List, length, ltb, map
 ghost use Rattle.std.specs.List.{filter};
 ghost use Rattle.tree.specs.Trees.{item_tree};
 ghost use Rattle.declarations.specs.Program.{Program};
-ghost use Rattle.program.specs.Programs.{kind_lists};
-ghost use Rattle.resolving.specs.Around.{IsAround, IsTypes, indices_held, program_in, owning_indices};
+ghost use Rattle.program.specs.Programs.{type_lists};
+ghost use Rattle.resolving.specs.Around.{IsAround, IsDirectory, indices_held, program_in, owning_indices};
 ghost use Rattle.resolving.specs.Fields as model;
 ghost use Rattle.resolving.specs.Fields.{fields_held, structs_told};
 
-use crate::around::{Around, Types};
-use crate::kinds::type_held;
-use program::HeapKind;
+use crate::around::{Around, Directory};
+use crate::types::type_held;
+use program::HeapType;
 use source::Span;
 use std::alloc::{AllocError, Global};
 use tree::{Definition, Field, Item};
@@ -19,45 +19,45 @@ use tree::{Definition, Field, Item};
 /// The fields of a struct that own, in order: what each holds, and how many fields stand before it.
 #[derive(Drop)]
 struct Owning {
-    kinds: Vec<HeapKind>,
+    types: Vec<HeapType>,
     indices: Vec<usize>,
 }
 
 /// The fields that own among these.
 fn owning_among(
     alloc: Global,
-    types: &Types<'_, '_>,
+    directory: &Directory<'_, '_>,
     fields: &[Field],
 ) -> Result<Owning, AllocError>
-    ensures { (p : Program) → IsTypes p types.now → IfOk result (λ owning.
-        (owning.kinds.items ≡ fields_held p fields.now) × (owning.indices.items ≡ indices_held p fields.now)) }
+    ensures { (p : Program) → IsDirectory p directory.now → IfOk result (λ owning.
+        (owning.types.items ≡ fields_held p fields.now) × (owning.indices.items ≡ indices_held p fields.now)) }
 {
-    let mut kinds = Vec::new(alloc);
+    let mut types = Vec::new(alloc);
     let mut indices = Vec::new(alloc);
     for (index, field) in fields.iter().enumerate() {
-        if let Some(kind) = type_held(types, field.ty) {
-            kinds.push(kind)?;
+        if let Some(ty) = type_held(directory, field.ty) {
+            types.push(ty)?;
             indices.push(index)?;
         }
     }
-    Ok(Owning { kinds, indices })
+    Ok(Owning { types, indices })
 }
 
 /// The fields that own of a program: what each struct has in them, in order of the text, and their places in each item.
 #[derive(Drop)]
 pub(crate) struct Fields {
-    pub(crate) structs: Vec<Vec<HeapKind>>,
+    pub(crate) structs: Vec<Vec<HeapType>>,
     pub(crate) indices: Vec<Vec<usize>>,
 }
 
 /// What the structs among these items have in fields that own, and where.
 pub(crate) fn fields_of(
     alloc: Global,
-    types: &Types<'_, '_>,
+    directory: &Directory<'_, '_>,
     items: &[Item],
 ) -> Result<Fields, AllocError>
-    ensures { (text : List ℕ) → IsTypes (program_in text (map item_tree items.now)) types.now → IfOk result (λ fields.
-        (kind_lists fields.structs.items ≡ structs_told (program_in text (map item_tree items.now)))
+    ensures { (text : List ℕ) → IsDirectory (program_in text (map item_tree items.now)) directory.now → IfOk result (λ fields.
+        (type_lists fields.structs.items ≡ structs_told (program_in text (map item_tree items.now)))
         × (map (λ x. x.items) fields.indices.items
         ≡ map (owning_indices (program_in text (map item_tree items.now))) (map item_tree items.now))) }
 {
@@ -65,8 +65,8 @@ pub(crate) fn fields_of(
     let mut indices = Vec::new(alloc);
     for item in items {
         if let Definition::Struct(structure) = &item.definition {
-            let owning = owning_among(alloc, types, &structure.fields)?;
-            structs.push(owning.kinds)?;
+            let owning = owning_among(alloc, directory, &structure.fields)?;
+            structs.push(owning.types)?;
             indices.push(owning.indices)?;
         } else {
             indices.push(Vec::new(alloc))?;
@@ -82,19 +82,19 @@ fn count_before(indices: &[usize], index: usize) -> usize
     indices.iter().filter(|before| **before < index).count()
 }
 
-/// The number of a field of what a variable of this kind holds, among the fields that own.
+/// The number of a field of what a variable of this type holds, among the fields that own.
 pub(crate) fn field_number(
     around: &Around<'_, '_>,
-    kind: declarations::ValueKind,
+    ty: declarations::ValueType,
     field: Span,
 ) -> Option<usize>
     ensures { (p : Program) (own : ℕ) → IsAround p own around.now
-        → result ≡ model.field_number p kind field }
+        → result ≡ model.field_number p ty field }
 {
-    let declarations::ValueKind::Pointer(item) = kind else {
+    let declarations::ValueType::Pointer(item) = ty else {
         return None;
     };
-    let index = around.types.scope.field_index(item, field)?;
+    let index = around.directory.scope.field_index(item, field)?;
     let owning = around.owning.get(item)?;
     Some(count_before(owning, index))
 }

@@ -9,7 +9,6 @@ mod counts;
 mod exchanges;
 mod fields;
 mod given;
-mod kinds;
 mod locals;
 mod messages;
 mod methods;
@@ -18,6 +17,7 @@ mod reads;
 mod sends;
 mod statements;
 mod staying;
+mod types;
 mod values;
 mod ways;
 

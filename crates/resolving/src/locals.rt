@@ -9,26 +9,26 @@ ghost use Rattle.resolving.specs.Messages.{contract_of, end_contract};
 ghost use Rattle.resolving.specs.Methods.{no_variables};
 ghost use Rattle.resolving.specs.Locals.{Frame, local_named, mention, next_number, number_of, entered, counted, declared, declared_heap};
 
-use program::{HeapKind, Mention, Role, VarId, Variable};
+use program::{HeapType, Mention, Role, VarId, Variable};
 use source::Span;
 use std::alloc::{AllocError, Global};
 use tables::Table;
 
-/// A variable that is declared: its name, the kind of its type, what it holds where it is one of the exchange heap, and how its
+/// A variable that is declared: its name, its type, what it holds where it is one of the exchange heap, and how its
 /// method comes to it.
 #[derive(Clone, Copy)]
 pub(crate) struct Declaration {
     pub(crate) name: Span,
-    pub(crate) kind: declarations::ValueKind,
-    pub(crate) held: Option<HeapKind>,
+    pub(crate) ty: declarations::ValueType,
+    pub(crate) held: Option<HeapType>,
     pub(crate) role: Role,
 }
 
-/// A variable in scope: the name that declares it, the kind of its type, and its number where it is one of the exchange heap.
+/// A variable in scope: the name that declares it, its type, and its number where it is one of the exchange heap.
 #[derive(Clone, Copy)]
 pub(crate) struct Local {
     name: Span,
-    kind: declarations::ValueKind,
+    ty: declarations::ValueType,
     number: Option<VarId>,
 }
 
@@ -105,13 +105,13 @@ impl<'a> Locals<'a> {
         })
     }
 
-    /// The kind of the variable that a name means.
-    pub(crate) fn kind(&self, text: &[u8], name: Span) -> Option<declarations::ValueKind>
+    /// The type of the variable that a name means.
+    pub(crate) fn ty(&self, text: &[u8], name: Span) -> Option<declarations::ValueType>
         ensures { (f : Frame) → IsFrame text.now f self.now
-            → result ≡ option_map (λ v. v.kind) (local_named text.now f.locals name) }
+            → result ≡ option_map (λ v. v.ty) (local_named text.now f.locals name) }
     {
         let local = self.find(text, name)?;
-        Some(local.kind)
+        Some(local.ty)
     }
 
     /// The place of the contract of the endpoint that a name means.
@@ -119,11 +119,11 @@ impl<'a> Locals<'a> {
         ensures { (items : List ItemTree) (f : Frame) → IsFrame text.now f self.now
             → result ≡ end_contract (program_in text.now items) f.locals name }
     {
-        contract_of(self.find(text, name)?.kind)
+        contract_of(self.find(text, name)?.ty)
     }
 
     /// The number of a variable that is declared next, where it is one of the exchange heap and holds this.
-    pub(crate) fn next_number(&self, held: Option<HeapKind>) -> Option<VarId>
+    pub(crate) fn next_number(&self, held: Option<HeapType>) -> Option<VarId>
         ensures { (text : List ℕ) (f : Frame) → IsFrame text f self.now → number_model result ≡ next_number held f }
     {
         match held {
@@ -154,7 +154,7 @@ impl<'a> Locals<'a> {
         alloc: Global,
         text: &'a [u8],
         declaration: Declaration,
-        held: HeapKind,
+        held: HeapType,
     ) -> Result<(), AllocError>
         ensures { (f : Frame) → IsFrame text.now f self.old
             → OnOk result (IsFrame text.now (declared_heap text.now declaration held f) self.new) }
@@ -183,13 +183,13 @@ impl<'a> Locals<'a> {
             }) self.new) }
     {
         let name = declaration.name;
-        let kind = declaration.kind;
+        let ty = declaration.ty;
         let word = name.slice(text);
         if self.names.find(word).is_some() {
             return Ok(());
         }
         self.names.add(alloc, word)?;
-        self.list.push(Local { name, kind, number })?;
+        self.list.push(Local { name, ty, number })?;
         Ok(())
     }
 
@@ -199,20 +199,20 @@ impl<'a> Locals<'a> {
         alloc: Global,
         text: &[u8],
         declaration: Declaration,
-        kind: HeapKind,
+        ty: HeapType,
     ) -> Result<(), AllocError>
         ensures { (f : Frame) → IsFrame text.now f self.old
             → OnOk result (IsFrame text.now (record {
               locals = f.locals;
               last = f.last;
-              variables = counted text.now declaration kind f.last f.variables;
+              variables = counted text.now declaration ty f.last f.variables;
             }) self.new) }
     {
         let name = Vec::from_slice(alloc, declaration.name.slice(text))?;
         let outer = self.last;
         self.variables.push(Variable {
             name,
-            kind,
+            ty,
             role: declaration.role,
             outer,
         })?;
@@ -243,12 +243,12 @@ impl<'a> Locals<'a> {
     }
 }
 
-/// The place of the contract of a kind that is an endpoint's.
-fn contract_of(kind: declarations::ValueKind) -> Option<usize>
-    ensures { result ≡ contract_of kind }
+/// The place of the contract of a type that is an endpoint's.
+fn contract_of(ty: declarations::ValueType) -> Option<usize>
+    ensures { result ≡ contract_of ty }
 {
-    match kind {
-        declarations::ValueKind::Endpoint(_, place) => Some(place),
+    match ty {
+        declarations::ValueType::Endpoint(_, place) => Some(place),
         _ => None,
     }
 }

@@ -2,11 +2,11 @@
 
 ghost use Rattle.std.specs.Prelude.{◌≡◌, ℕ, option_map};
 ghost use Rattle.declarations.specs.Program.{Program};
-ghost use Rattle.resolving.specs.Around.{IsTypes, meant_model};
+ghost use Rattle.resolving.specs.Around.{IsDirectory, meant_model};
 ghost use Rattle.resolving.specs.Messages as model;
 
-use crate::around::Types;
-use crate::kinds::contract_at;
+use crate::around::Directory;
+use crate::types::contract_at;
 use program::MessageId;
 use source::Span;
 use tree::Message;
@@ -19,42 +19,46 @@ pub(crate) struct Meant<'a> {
 }
 
 /// The number of the message at this index in the contract that is the item at the first one.
-fn message_number(types: &Types<'_, '_>, contract: usize, index: usize) -> Option<MessageId>
-    ensures { (p : Program) → IsTypes p types.now → result ≡ model.message_number p contract index }
+fn message_number(directory: &Directory<'_, '_>, contract: usize, index: usize) -> Option<MessageId>
+    ensures { (p : Program) → IsDirectory p directory.now → result ≡ model.message_number p contract index }
 {
-    let numbered = contract_at(types, contract)?.messages.get(index)?;
+    let numbered = contract_at(directory, contract)?.messages.get(index)?;
     Some(numbered.id)
 }
 
 /// The message there.
-fn message_there<'a>(types: &Types<'_, 'a>, contract: usize, index: usize) -> Option<Meant<'a>>
-    ensures { (p : Program) → IsTypes p types.now → option_map meant_model result ≡ model.message_there p contract index }
+fn message_there<'a>(
+    directory: &Directory<'_, 'a>,
+    contract: usize,
+    index: usize,
+) -> Option<Meant<'a>>
+    ensures { (p : Program) → IsDirectory p directory.now → option_map meant_model result ≡ model.message_there p contract index }
 {
-    let message = types.scope.message_at(contract, index)?;
-    let id = message_number(types, contract, index)?;
+    let message = directory.scope.message_at(contract, index)?;
+    let id = message_number(directory, contract, index)?;
     Some(Meant { id, message })
 }
 
 /// The message of this name in the contract that is the item at this place.
 pub(crate) fn message_named<'a>(
-    types: &Types<'_, 'a>,
+    directory: &Directory<'_, 'a>,
     contract: usize,
     name: Span,
 ) -> Option<Meant<'a>>
-    ensures { (p : Program) → IsTypes p types.now → option_map meant_model result ≡ model.message_named p contract name }
+    ensures { (p : Program) → IsDirectory p directory.now → option_map meant_model result ≡ model.message_named p contract name }
 {
-    let place = types.scope.message_index(contract, name)?;
-    message_there(types, contract, place)
+    let place = directory.scope.message_index(contract, name)?;
+    message_there(directory, contract, place)
 }
 
 /// The message that a word like `SendM` sends, likewise.
 pub(crate) fn message_sent<'a>(
-    types: &Types<'_, 'a>,
+    directory: &Directory<'_, 'a>,
     contract: usize,
     word: Span,
 ) -> Option<Meant<'a>>
-    ensures { (p : Program) → IsTypes p types.now → option_map meant_model result ≡ model.message_sent p contract word }
+    ensures { (p : Program) → IsDirectory p directory.now → option_map meant_model result ≡ model.message_sent p contract word }
 {
-    let place = types.scope.sent_index(contract, word)?;
-    message_there(types, contract, place)
+    let place = directory.scope.sent_index(contract, word)?;
+    message_there(directory, contract, place)
 }

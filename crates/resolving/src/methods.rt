@@ -12,23 +12,23 @@ ghost use Rattle.program.specs.Methods.{method_model};
 ghost use Rattle.declarations.specs.Scopes.{IsScope};
 ghost use Rattle.resolving.specs.Around.{IsAround, program_in};
 ghost use Rattle.resolving.specs.Brought.{brought, messages_told};
-ghost use Rattle.program.specs.Programs.{kind_lists};
+ghost use Rattle.program.specs.Programs.{type_lists};
 ghost use Rattle.resolving.specs.Callees.{all_methods};
 ghost use Rattle.resolving.specs.Fields.{structs_told};
 ghost use Rattle.resolving.specs.Frames.{IsFrame};
 ghost use Rattle.resolving.specs.Locals.{Frame};
 ghost use Rattle.resolving.specs.Methods.{methods_told, role_of, parameter_declaration, parameters_frame, method_told, takes_some};
 
-use crate::around::{Around, Types};
+use crate::around::{Around, Directory};
 use crate::brought::add_brought;
 use crate::counts::count_items;
 use crate::fields::fields_of;
-use crate::kinds::{result_held, type_held};
 use crate::locals::{Declaration, Locals};
 use crate::statements::tell_statements;
 use crate::staying::Staying;
+use crate::types::{result_held, type_held};
 use declarations::Scope;
-use program::{HeapKind, Method, Resolved, Role};
+use program::{HeapType, Method, Resolved, Role};
 use source::Memory;
 use std::alloc::{AllocError, Global};
 use tree::{Definition, Item, Parameter, Tree};
@@ -50,8 +50,8 @@ fn parameter_declaration(around: &Around<'_, '_>, parameter: Parameter) -> Decla
 {
     Declaration {
         name: parameter.name,
-        kind: around.types.scope.kind(parameter.ty),
-        held: type_held(&around.types, parameter.ty),
+        ty: around.directory.scope.type_meant(parameter.ty),
+        held: type_held(&around.directory, parameter.ty),
         role: role_of(parameter),
     }
 }
@@ -106,7 +106,7 @@ fn resolve_method(
         name: method.name.place,
         takes: takes_some(&method.params),
         gives: method.result.is_some(),
-        result: result_held(&around.types, method.result),
+        result: result_held(&around.directory, method.result),
         variables: locals.into_variables(),
         statements,
         scope,
@@ -145,8 +145,8 @@ fn add_methods(
 /// exchange heap, what a struct has in its fields that own, and the method with its names resolved.
 #[derive(Drop)]
 pub struct ResolvedProgram {
-    pub messages: Vec<Vec<HeapKind>>,
-    pub structs: Vec<Vec<HeapKind>>,
+    pub messages: Vec<Vec<HeapType>>,
+    pub structs: Vec<Vec<HeapType>>,
     pub methods: Vec<Method>,
 }
 
@@ -163,32 +163,32 @@ fn resolve_items<'a>(
     requires room { length contracts.now.contracts.items < 2 ^ 32 }
     requires scope { IsScope (program_in text.now (map item_tree items.now)) scope.now }
     requires few { length (all_methods (map item_tree items.now)) ≤ MOST_METHODS }
-    ensures messages { IfOk result (λ program. kind_lists program.messages.items
+    ensures messages { IfOk result (λ program. type_lists program.messages.items
         ≡ messages_told (program_in text.now (map item_tree items.now))) }
-    ensures structs { IfOk result (λ program. kind_lists program.structs.items
+    ensures structs { IfOk result (λ program. type_lists program.structs.items
         ≡ structs_told (program_in text.now (map item_tree items.now))) }
     ensures methods { IfOk result (λ program. map method_model program.methods.items
         ≡ methods_told (program_in text.now (map item_tree items.now))) }
 {
     let before = count_items(alloc, items)?;
-    let types = Types {
+    let directory = Directory {
         scope,
         resolved: contracts,
         before: &before,
     };
-    let fields = fields_of(alloc, &types, items)?;
+    let fields = fields_of(alloc, &directory, items)?;
     let mut messages = Vec::new(alloc);
     let mut resolved = Vec::new(alloc);
     for (class, item) in items.iter().enumerate() {
         let around = Around {
             alloc,
-            types,
+            directory,
             items,
             owning: &fields.indices,
             class,
         };
         let methods = methods_of(&item.definition);
-        add_brought(alloc, &types, &item.definition, &mut messages)?;
+        add_brought(alloc, &directory, &item.definition, &mut messages)?;
         add_methods(text, &around, methods, &mut resolved)?;
     }
     Ok(ResolvedProgram {
@@ -213,8 +213,8 @@ pub fn resolve_methods(
         ≡ resolved_contracts text.now (contracts_of (program_tree tree.now)) }
     requires room { length contracts.now.contracts.items < 2 ^ 32 }
     requires clean { items_mistakes (program_of text.now tree.now) ≡ [] }
-    ensures messages { IfOk result (λ program. kind_lists program.messages.items ≡ messages_told (program_of text.now tree.now)) }
-    ensures structs { IfOk result (λ program. kind_lists program.structs.items ≡ structs_told (program_of text.now tree.now)) }
+    ensures messages { IfOk result (λ program. type_lists program.messages.items ≡ messages_told (program_of text.now tree.now)) }
+    ensures structs { IfOk result (λ program. type_lists program.structs.items ≡ structs_told (program_of text.now tree.now)) }
     ensures resolved { IfOk result (λ program. map method_model program.methods.items
         ≡ methods_told (program_of text.now tree.now)) }
     ensures few { IfOk result (λ program. length program.methods.items ≤ MOST_METHODS) }

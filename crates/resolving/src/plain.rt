@@ -8,7 +8,7 @@ ghost use Rattle.tree.specs.Values.{value_tree};
 ghost use Rattle.declarations.specs.Program.{Program};
 ghost use Rattle.resolving.specs.Around.{IsAround, program_in};
 ghost use Rattle.resolving.specs.Frames.{IsFrame};
-ghost use Rattle.resolving.specs.Kinds.{type_held};
+ghost use Rattle.resolving.specs.Types.{type_held};
 ghost use Rattle.resolving.specs.Locals.{Frame, mention_of, next_number};
 ghost use Rattle.resolving.specs.Steps.{Tells};
 ghost use Rattle.resolving.specs.Plain.{declaration_of, deleted, written, first_value, returned, plain_told, frame_behind};
@@ -17,10 +17,10 @@ use crate::around::Around;
 use crate::calls::tell_start;
 use crate::exchanges::exchange_action;
 use crate::given::alone;
-use crate::kinds::type_held;
 use crate::locals::{Declaration, Locals};
 use crate::reads::add_reads;
 use crate::sends::{channel_action, tell_stated};
+use crate::types::type_held;
 use crate::values::{tell_assigned, tell_part, tell_read, unread};
 use program::{Action, Mention, Role, Statement};
 use source::Place;
@@ -79,7 +79,7 @@ fn declared_mention(
         → IsFrame text.now f locals.now → result ≡ option_map (mention_of declare.now.name)
         (next_number (type_held (program_in text.now items) declare.now.ty) f) }
 {
-    let variable = locals.next_number(type_held(&around.types, declare.ty))?;
+    let variable = locals.next_number(type_held(&around.directory, declare.ty))?;
     Some(Mention {
         variable,
         place: declare.name.place,
@@ -187,8 +187,8 @@ fn declaration_of(around: &Around<'_, '_>, declare: &Declare) -> Declaration
 {
     Declaration {
         name: declare.name,
-        kind: around.types.scope.kind(declare.ty),
-        held: type_held(&around.types, declare.ty),
+        ty: around.directory.scope.type_meant(declare.ty),
+        held: type_held(&around.directory, declare.ty),
         role: Role::Local,
     }
 }

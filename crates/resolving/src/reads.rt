@@ -122,7 +122,7 @@ fn add_sum(
     }
 }
 
-/// The same of a row of factors.
+/// The same of a sequence of factors.
 #[cycle(expressions)]
 fn add_factors(
     text: &[u8],

@@ -14,9 +14,9 @@ ghost use Rattle.resolving.specs.Plain as told;
 use crate::around::Around;
 use crate::calls::{ResultUse, add_argument_reads, tell_call};
 use crate::given::payloads_of;
-use crate::kinds::contract_named;
 use crate::locals::Locals;
 use crate::messages::{Meant, message_sent};
+use crate::types::contract_named;
 use program::{Action, Channel, Mention, Send, Statement};
 use source::Span;
 use std::alloc::{AllocError, Global};
@@ -66,7 +66,7 @@ fn sent_by<'a>(
         → option_map meant_model result ≡ told.meant_by (program_in text.now items) f (call_tree call.now) word }
 {
     let contract = locals.contract(text, call.name)?;
-    message_sent(&around.types, contract, word)
+    message_sent(&around.directory, contract, word)
 }
 
 /// What a call that stands alone comes to, if it is a send.
@@ -131,7 +131,7 @@ fn channel_of(
         → IsAround (program_in text.now items) own around.now → IsFrame text.now f locals.now
         → result ≡ told.channel_found (program_in text.now items) own f channel }
 {
-    let contract = contract_named(&around.types, channel.contract)?;
+    let contract = contract_named(&around.directory, channel.contract)?;
     let first = locals.mention(text, channel.first)?;
     let second = locals.mention(text, channel.second)?;
     Some(Action::NewChannel(Channel {

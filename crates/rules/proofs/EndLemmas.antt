@@ -1,4 +1,4 @@
--- The contracts of a program by number, and the numbers in the leaves that its kinds declare.
+-- The contracts of a program by number, and the numbers in the leaves that its types declare.
 use Rattle.std.proofs.Common.{◌≡◌, ℕ, zero, suc, ◌<◌, List, [], ◌∷◌, map, slice_get, Option, Some, None, IfSome, IsSomeAnd, refl, sym, ap, subst, ◌∙◌, arith}
 use Rattle.std.specs.Prelude.{All}
 use Rattle.std.specs.Coded.{le_prop}
@@ -13,13 +13,13 @@ use Rattle.program.specs.Lists.{Each}
 use Rattle.program.specs.Methods.{VariableModel, variable_model}
 use Rattle.program.specs.declared.method.Variable.{Variable}
 use Rattle.program.specs.Parts.{ContractModel, IsWhole, Parts, StateModel, state_ids}
-use Rattle.program.specs.WellFormed.{IsKind, IsStateOf}
-use Rattle.program.specs.declared.kind.HeapKind.{HeapKind}
-use Rattle.program.specs.declared.kind.HeapKind.TheVariants.{Struct, Array, Endpoint}
+use Rattle.program.specs.WellFormed.{IsType, IsStateOf}
+use Rattle.program.specs.declared.types.HeapType.{HeapType}
+use Rattle.program.specs.declared.types.HeapType.TheVariants.{Struct, Array, Endpoint}
 use Rattle.program.specs.declared.limits.TheConstants.{MOST_STATES}
 use Rattle.program.specs.declared.number.StateId.{StateId}
 use Rattle.program.specs.Programs.{ProgramModel}
-use Rattle.program.specs.declared.kind.Side.{Side}
+use Rattle.program.specs.declared.types.Side.{Side}
 use Rattle.program.specs.declared.number.ContractId.{ContractId}
 use Rattle.contracts.specs.Bounds.{sign_to}
 use Rattle.contracts.specs.Leaving.{edges_from, name_among, sign_from}
@@ -48,32 +48,32 @@ state_numbered c state whole is =
     let read = slice_get-map (λ (s : StateModel). s.id) c.parts.states is.index ∙ ap (option_map (λ (s : StateModel). s.id)) is.there in
     subst (λ (q : StateId). q.0 < MOST_STATES) (get_or_from_slice_get (state_ids c.parts) is.index is.state.id state read ∙ is.is) at)
 
--- and so is that of a leaf that a kind declares
-pub kind_numbered : (sounds : List Sound) (contracts : List ContractModel) (kind : HeapKind) → map sound_parts sounds ≡ map (λ (x : ContractModel). x.parts) contracts → IsKind contracts kind → IsNumbered (declared_leaf kind)
-kind_numbered sounds contracts (Struct n) same is = tt
-kind_numbered sounds contracts (Array element) same is = tt
-kind_numbered sounds contracts (Endpoint contract side state) same is = endpoint (slice_get contracts contract.0) refl is
+-- and so is that of a leaf that a type declares
+pub type_numbered : (sounds : List Sound) (contracts : List ContractModel) (ty : HeapType) → map sound_parts sounds ≡ map (λ (x : ContractModel). x.parts) contracts → IsType contracts ty → IsNumbered (declared_leaf ty)
+type_numbered sounds contracts (Struct n) same is = tt
+type_numbered sounds contracts (Array element) same is = tt
+type_numbered sounds contracts (Endpoint contract side state) same is = endpoint (slice_get contracts contract.0) refl is
   where
     endpoint : (o : Option ContractModel) → slice_get contracts contract.0 ≡ o → IsSomeAnd o (λ c. IsStateOf c state) → state.0 < MOST_STATES
     endpoint None there h = absurd h
     endpoint (Some c) there h = state_numbered c state (whole_at sounds contracts contract.0 c same there) h
 
-pub option_numbered : (sounds : List Sound) (contracts : List ContractModel) (kind : Option HeapKind) → map sound_parts sounds ≡ map (λ (x : ContractModel). x.parts) contracts → IfSome kind (IsKind contracts) → IfSome kind (λ k. IsNumbered (declared_leaf k))
+pub option_numbered : (sounds : List Sound) (contracts : List ContractModel) (ty : Option HeapType) → map sound_parts sounds ≡ map (λ (x : ContractModel). x.parts) contracts → IfSome ty (IsType contracts) → IfSome ty (λ k. IsNumbered (declared_leaf k))
 option_numbered sounds contracts None same is = tt
-option_numbered sounds contracts (Some kind) same is = kind_numbered sounds contracts kind same is
+option_numbered sounds contracts (Some ty) same is = type_numbered sounds contracts ty same is
 
 -- what each of these declares
-pub kinds_numbered : (sounds : List Sound) (contracts : List ContractModel) (kinds : List HeapKind) → map sound_parts sounds ≡ map (λ (x : ContractModel). x.parts) contracts → Each (IsKind contracts) kinds → All (λ kind. IsNumbered (declared_leaf kind)) kinds
-kinds_numbered sounds contracts [] same are = All-nil (λ kind. IsNumbered (declared_leaf kind))
-kinds_numbered sounds contracts (kind ∷ kinds) same are =
-    All-cons (λ k. IsNumbered (declared_leaf k)) kind kinds (kind_numbered sounds contracts kind same are.0) (kinds_numbered sounds contracts kinds same are.1)
+pub types_numbered : (sounds : List Sound) (contracts : List ContractModel) (types : List HeapType) → map sound_parts sounds ≡ map (λ (x : ContractModel). x.parts) contracts → Each (IsType contracts) types → All (λ ty. IsNumbered (declared_leaf ty)) types
+types_numbered sounds contracts [] same are = All-nil (λ ty. IsNumbered (declared_leaf ty))
+types_numbered sounds contracts (ty ∷ types) same are =
+    All-cons (λ k. IsNumbered (declared_leaf k)) ty types (type_numbered sounds contracts ty same are.0) (types_numbered sounds contracts types same are.1)
 
 -- and what each of these variables holds
-pub variables_numbered : (sounds : List Sound) (contracts : List ContractModel) (variables : List Variable) → map sound_parts sounds ≡ map (λ (x : ContractModel). x.parts) contracts → Each (λ (v : VariableModel). IsKind contracts v.kind) (map variable_model variables)
-    → All (λ (v : Variable). IsNumbered (declared_leaf v.kind)) variables
-variables_numbered sounds contracts [] same are = All-nil (λ (v : Variable). IsNumbered (declared_leaf v.kind))
+pub variables_numbered : (sounds : List Sound) (contracts : List ContractModel) (variables : List Variable) → map sound_parts sounds ≡ map (λ (x : ContractModel). x.parts) contracts → Each (λ (v : VariableModel). IsType contracts v.ty) (map variable_model variables)
+    → All (λ (v : Variable). IsNumbered (declared_leaf v.ty)) variables
+variables_numbered sounds contracts [] same are = All-nil (λ (v : Variable). IsNumbered (declared_leaf v.ty))
 variables_numbered sounds contracts (v ∷ variables) same are =
-    All-cons (λ (x : Variable). IsNumbered (declared_leaf x.kind)) v variables (kind_numbered sounds contracts v.kind same are.0) (variables_numbered sounds contracts variables same are.1)
+    All-cons (λ (x : Variable). IsNumbered (declared_leaf x.ty)) v variables (type_numbered sounds contracts v.ty same are.0) (variables_numbered sounds contracts variables same are.1)
 
 -- the parts of a contract of the program
 pub parts_there : (sounds : List Sound) (contracts : List ContractModel) (n : ℕ) (s : Sound) → map sound_parts sounds ≡ map (λ (x : ContractModel). x.parts) contracts → slice_get sounds n ≡ Some s
@@ -96,7 +96,7 @@ pub read_parts : {X : Type 0} (f : Parts → X) (other : X) (o : Option Contract
 read_parts f other None parts is = absurd (cc)
 read_parts f other (Some c) parts is = let same : c.parts ≡ parts = cc in ap f same
 
--- an endpoint of a kind is a side of its contract
+-- an endpoint of a type is a side of its contract
 pub end_there : (p : ProgramModel) (contract : ContractId) (side : Side) (state : StateId) (parts : Parts) → option_map (λ (c : ContractModel). c.parts) (slice_get p.contracts contract.0) ≡ Some parts
     → IsEndOf p (Some (Endpoint contract side state)) parts side
 end_there p contract side state parts is =

@@ -12,6 +12,6 @@ pub mod BackLemmas
 pub mod BreachLemmas
 pub mod RepeatLemmas
 pub mod EndLemmas
-pub mod KindLemmas
+pub mod TypeLemmas
 mod SmallSteps
 pub mod TransferLemmas

@@ -4,7 +4,7 @@ use Rattle.std.specs.List.{list_any}
 use Rattle.std.proofs.lemmas.List.{at_drop_all, at_drop_more}
 use Rattle.std.proofs.lemmas.List.Folds.{list_any_more}
 use Rattle.program.specs.Lists.{is_among}
-use Rattle.program.specs.declared.kind.HeapKind.{HeapKind}
+use Rattle.program.specs.declared.types.HeapType.{HeapType}
 use Rattle.program.specs.declared.statement.Mention.{Mention}
 use Rattle.rules.specs.Arguments.{claimed, payload}
 use Rattle.rules.specs.Repeats.{first_again}
@@ -67,17 +67,17 @@ taken_more besides payloads done d lt is h =
 pub taken_all : (besides : List ℕ) (payloads : List Mention) (done : ℕ) → length payloads ≤ done → Taken besides payloads done → None ≡ first_again besides (map payload payloads)
 taken_all besides payloads done le h = sym (h.same.2 ∙ at_drop_all (λ l. first_again h.same.0 (map payload l)) payloads done le)
 
--- kinds and payloads side by side, from one place on
-pub taken_side : (kinds : List HeapKind) (payloads : List Mention) (i : ℕ) (d : HeapKind) (e : Mention) → i < length kinds → i < length payloads
-    → zip (drop i kinds) (map payload (drop i payloads)) ≡ (slice_index_or kinds i d, payload (slice_index_or payloads i e)) ∷ zip (drop (i + 1) kinds) (map payload (drop (i + 1) payloads))
-taken_side kinds payloads i d e first second =
-    at_drop_more (λ l. zip l (map payload (drop i payloads))) kinds i d first
-    ∙ at_drop_more (λ l. zip (slice_index_or kinds i d ∷ drop (i + 1) kinds) (map payload l)) payloads i e second
+-- types and payloads side by side, from one place on
+pub taken_side : (types : List HeapType) (payloads : List Mention) (i : ℕ) (d : HeapType) (e : Mention) → i < length types → i < length payloads
+    → zip (drop i types) (map payload (drop i payloads)) ≡ (slice_index_or types i d, payload (slice_index_or payloads i e)) ∷ zip (drop (i + 1) types) (map payload (drop (i + 1) payloads))
+taken_side types payloads i d e first second =
+    at_drop_more (λ l. zip l (map payload (drop i payloads))) types i d first
+    ∙ at_drop_more (λ l. zip (slice_index_or types i d ∷ drop (i + 1) types) (map payload l)) payloads i e second
 
 -- nothing is left of one of them
-pub taken_none : (kinds : List HeapKind) (payloads : List Mention) (i : ℕ) → (length kinds ≤ i) ⊎ (length payloads ≤ i) → zip (drop i kinds) (map payload (drop i payloads)) ≡ []
-taken_none kinds payloads i (inl le) = at_drop_all (λ l. zip l (map payload (drop i payloads))) kinds i le
-taken_none kinds payloads i (inr le) = at_drop_all (λ l. zip (drop i kinds) (map payload l)) payloads i le ∙ zip_nil (drop i kinds) [] refl
+pub taken_none : (types : List HeapType) (payloads : List Mention) (i : ℕ) → (length types ≤ i) ⊎ (length payloads ≤ i) → zip (drop i types) (map payload (drop i payloads)) ≡ []
+taken_none types payloads i (inl le) = at_drop_all (λ l. zip l (map payload (drop i payloads))) types i le
+taken_none types payloads i (inr le) = at_drop_all (λ l. zip (drop i types) (map payload l)) payloads i le ∙ zip_nil (drop i types) [] refl
 
 -- one payload more is gone
 pub taken_gone : (row less : List Leaf) (payloads : List Mention) (done : ℕ) (d : Mention) → done < length payloads → less ≡ claimed row (payload (slice_index_or payloads done d) ∷ [])

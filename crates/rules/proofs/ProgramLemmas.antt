@@ -36,11 +36,11 @@ pub said_in : (p : ProgramModel) (n : ℕ) (m : MethodModel) → slice_get p.met
 said_in p n m is = ap (λ o breach. option_map_or (λ m. breach_model p m breach) o (no_result breach.place)) is
 
 -- the pair with which a method begins
-pub entry_is : (o : Option MethodModel) (m : Method) (g : Graph) (leaves : List Leaf) → o ≡ Some (method_model m) → IsSomeAnd o (λ s. graph_model g ≡ graph_of s) → leaves ≡ map (λ v. entry_leaf v.role v.kind) m.variables.items → (g.first, leaves) ≡ method_entry o
+pub entry_is : (o : Option MethodModel) (m : Method) (g : Graph) (leaves : List Leaf) → o ≡ Some (method_model m) → IsSomeAnd o (λ s. graph_model g ≡ graph_of s) → leaves ≡ map (λ v. entry_leaf v.role v.ty) m.variables.items → (g.first, leaves) ≡ method_entry o
 entry_is None m g leaves its graph is = absurd graph
 entry_is (Some s) m g leaves its graph is =
     let first : g.first ≡ (graph_of s).first = ap (λ (h : GraphModel). h.first) graph in
-    let row : leaves ≡ map (λ v. entry_leaf v.role v.kind) s.variables = is ∙ sym (map-map (λ v. entry_leaf v.role v.kind) variable_model m.variables.items) ∙ ap (λ (t : MethodModel). map (λ v. entry_leaf v.role v.kind) t.variables) (sym (one_method s (method_model m) its)) in
+    let row : leaves ≡ map (λ v. entry_leaf v.role v.ty) s.variables = is ∙ sym (map-map (λ v. entry_leaf v.role v.ty) variable_model m.variables.items) ∙ ap (λ (t : MethodModel). map (λ v. entry_leaf v.role v.ty) t.variables) (sym (one_method s (method_model m) its)) in
     λ i. (first i, row i)
 
 -- what stands at a point of a method

@@ -13,9 +13,9 @@ use Rattle.flow.specs.Cases.{EntranceModel, case_for, first_mentions}
 use Rattle.program.specs.Methods.{MethodModel}
 use Rattle.program.specs.Programs.{ProgramModel}
 use Rattle.program.specs.declared.contract.Edge.{Edge}
-use Rattle.program.specs.declared.kind.HeapKind.{HeapKind}
+use Rattle.program.specs.declared.types.HeapType.{HeapType}
 use Rattle.program.specs.declared.number.VarId.{VarId}
-use Rattle.rules.specs.Endpoints.{brought, declared_leaf, field_of, fields_of, first_state, kind_of, message_name, parameter_kinds, result_of}
+use Rattle.rules.specs.Endpoints.{brought, declared_leaf, field_of, fields_of, first_state, type_of, message_name, parameter_types, result_of}
 use Rattle.rules.specs.Switches.{awaited_edges, bound_leaves, closed, comes_at, pair_at, received, switch_checks, switch_pairs}
 use Rattle.program.specs.declared.call.Argument.{Argument}
 use Rattle.program.specs.declared.statement.Mention.{Mention}
@@ -40,16 +40,16 @@ claimed_size row (a ∷ arguments) =
     one true = length-set row a.mention.variable.0 Nothing
     one false = refl
 
-given_size : (row : List Leaf) (kind : Option HeapKind) (target : Option Mention) → length (given_leaf row kind target) ≡ length row
+given_size : (row : List Leaf) (ty : Option HeapType) (target : Option Mention) → length (given_leaf row ty target) ≡ length row
 given_size row None None = refl
 given_size row None (Some v) = refl
-given_size row (Some kind) None = refl
-given_size row (Some kind) (Some v) = length-set row v.variable.0 (declared_leaf kind)
+given_size row (Some ty) None = refl
+given_size row (Some ty) (Some v) = length-set row v.variable.0 (declared_leaf ty)
 
-bound_size : (row : List Leaf) (bound : List VarId) (kinds : List HeapKind) → length (bound_leaves row bound kinds) ≡ length row
-bound_size row [] kinds = refl
+bound_size : (row : List Leaf) (bound : List VarId) (types : List HeapType) → length (bound_leaves row bound types) ≡ length row
+bound_size row [] types = refl
 bound_size row (v ∷ bound) [] = refl
-bound_size row (v ∷ bound) (kind ∷ kinds) = bound_size (set row v.0 (declared_leaf kind)) bound kinds ∙ length-set row v.0 (declared_leaf kind)
+bound_size row (v ∷ bound) (ty ∷ types) = bound_size (set row v.0 (declared_leaf ty)) bound types ∙ length-set row v.0 (declared_leaf ty)
 
 same_goes : (a b : List Pair) → Path (Step Pair FindingModel) (Goes a) (Goes b) → a ≡ b
 same_goes a b e = cc
@@ -116,9 +116,9 @@ module _ (p : ProgramModel) (m : MethodModel) where
       leads_on (all_fields m row (fields_of p m v.variable.0) given ++ target_checks m left (Some v)) next (set left v.variable.0 Block) to
       (length-set left v.variable.0 Block ∙ claimed_size row given ∙ is) e
   instruction_on (Exchange x next) row to is e =
-      let kind = field_of p m x.holder.variable.0 x.field in
-      let leaf = option_map_or declared_leaf kind Nothing in
-      leads_on (is_another m x.holder x.given ∷ has_something m row x.holder ∷ option_map_or (λ kind. field_checks m row kind (payload x.given)) kind [])
+      let ty = field_of p m x.holder.variable.0 x.field in
+      let leaf = option_map_or declared_leaf ty Nothing in
+      leads_on (is_another m x.holder x.given ∷ has_something m row x.holder ∷ option_map_or (λ ty. field_checks m row ty (payload x.given)) ty [])
       next (set row x.given.variable.0 leaf) to (length-set row x.given.variable.0 leaf ∙ is) e
   instruction_on (NewChannel c next) row to is e =
       let first = State (first_state p c.contract.0) in
@@ -135,21 +135,21 @@ module _ (p : ProgramModel) (m : MethodModel) where
       leads_on (is_not_lent m v ∷ has_something m row v ∷ []) next freed to (length-set row v.variable.0 Nothing ∙ is) e
   instruction_on (Send place x message payloads next) row to is e =
       let gone = claimed row (map payload payloads) in
-      let leaf = sent_leaf p (kind_of m x.variable.0) message.0 (leaf_at row x.variable.0) in
+      let leaf = sent_leaf p (type_of m x.variable.0) message.0 (leaf_at row x.variable.0) in
       let leaf_now = leaf_at row x.variable.0 in
-      let kind = kind_of m x.variable.0 in
-      let name = message_name p kind message.0 in
+      let ty = type_of m x.variable.0 in
+      let name = message_name p ty message.0 in
       leads_on
-      (has_something m row x ∷ (all_payloads m row x name (brought p message.0) (map payload payloads) ++ refused (lacks_edge p kind message.0 leaf_now) (not_sent name place) ∷ []))
+      (has_something m row x ∷ (all_payloads m row x name (brought p message.0) (map payload payloads) ++ refused (lacks_edge p ty message.0 leaf_now) (not_sent name place) ∷ []))
       next (set gone x.variable.0 leaf) to (length-set gone x.variable.0 leaf ∙ claimed_size row (map payload payloads) ∙ is) e
   instruction_on (Switch place cases) row to is e =
       subst AreRows (goes_on (switch_checks p m row place cases) (switch_pairs p m row cases) to e) (switch_on row cases is)
   instruction_on (Call place method arguments target next) row to is e =
       let after = claimed row arguments in
-      let kind = result_of p method.0 in
-      leads_on (all_arguments m row (parameter_kinds p method.0) arguments ++ target_checks m after target) next (given_leaf after kind target) to (given_size after kind target ∙ claimed_size row arguments ∙ is) e
+      let ty = result_of p method.0 in
+      leads_on (all_arguments m row (parameter_types p method.0) arguments ++ target_checks m after target) next (given_leaf after ty target) to (given_size after ty target ∙ claimed_size row arguments ∙ is) e
   instruction_on (Start place method arguments next) row to is e =
-      leads_on (all_arguments m row (parameter_kinds p method.0) arguments) next (claimed row arguments) to (claimed_size row arguments ∙ is) e
+      leads_on (all_arguments m row (parameter_types p method.0) arguments) next (claimed row arguments) to (claimed_size row arguments ∙ is) e
   instruction_on (Branch place branches) row to is e = subst AreRows (same_goes (ways branches row) to e) (ways_on branches row is)
   instruction_on (Forget f next) row to is e =
       leads_on (given_back m row f.place None (declared_between m f.outer (Some f.last))) next row to is e
@@ -175,4 +175,4 @@ step_on p n m pair to there is e =
 -- a method begins with such a row
 pub entry_on : (p : ProgramModel) (n : ℕ) (m : MethodModel)
     → slice_get p.methods n ≡ Some m → IsRowOf m (method_entry (slice_get p.methods n)).1
-entry_on p n m there = subst (λ o. IsRowOf m (method_entry o).1) (sym there) (length-map m.variables (λ v. entry_leaf v.role v.kind))
+entry_on p n m there = subst (λ o. IsRowOf m (method_entry o).1) (sym there) (length-map m.variables (λ v. entry_leaf v.role v.ty))

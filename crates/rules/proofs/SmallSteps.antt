@@ -5,9 +5,9 @@ use Rattle.source.specs.declared.place.Place.{Place}
 use Rattle.program.specs.Methods.{MethodModel, VariableModel}
 use Rattle.program.specs.Programs.{ProgramModel}
 use Rattle.program.specs.Statements.{NoStatement}
-use Rattle.program.specs.declared.kind.HeapKind.{HeapKind}
-use Rattle.program.specs.declared.kind.HeapKind.TheVariants.{Struct, Endpoint}
-use Rattle.program.specs.declared.kind.Side.TheVariants.{Imp}
+use Rattle.program.specs.declared.types.HeapType.{HeapType}
+use Rattle.program.specs.declared.types.HeapType.TheVariants.{Struct, Endpoint}
+use Rattle.program.specs.declared.types.Side.TheVariants.{Imp}
 use Rattle.program.specs.declared.method.Role.{Role}
 use Rattle.program.specs.declared.method.Role.TheVariants.{Claimed, Lent, Local}
 use Rattle.program.specs.declared.statement.Mention.{Mention}
@@ -23,15 +23,15 @@ at col = record { line = 1; col = col }
 abbrev mention : ℕ → ℕ → Mention
 mention v col = record { variable = record { 0 = v }; place = at col }
 
-abbrev variable : List ℕ → HeapKind → Role → VariableModel
-variable name k role = record { name = name; kind = k; role = role; outer = None }
+abbrev variable : List ℕ → HeapType → Role → VariableModel
+variable name k role = record { name = name; ty = k; role = role; outer = None }
 
 -- an importing endpoint in a state
-abbrev end : ℕ → HeapKind
+abbrev end : ℕ → HeapType
 end state = Endpoint record { 0 = 0 } Imp record { 0 = state }
 
 -- struct 0 has no fields that own, struct 1 one for a struct 0, struct 2 one for an endpoint in state 0
-abbrev of_struct : ℕ → HeapKind
+abbrev of_struct : ℕ → HeapType
 of_struct n = Struct record { 0 = n }
 
 -- an own block x, a lent block y, a block h with a field for a block, an endpoint i, and a block e with a field for an endpoint

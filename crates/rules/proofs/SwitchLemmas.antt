@@ -7,14 +7,14 @@ use Rattle.program.specs.Methods.{MethodModel}
 use Rattle.program.specs.Programs.{ProgramModel}
 use Rattle.program.specs.declared.contract.Edge.{Edge}
 use Rattle.program.specs.declared.statement.Mention.{Mention}
-use Rattle.rules.specs.Endpoints.{kind_of, message_name}
+use Rattle.rules.specs.Endpoints.{type_of, message_name}
 use Rattle.rules.specs.Mentions.{name_of}
 use Rattle.rules.specs.Outcomes.{Check, refused}
 use Rattle.rules.specs.Switches.{bound_leaves}
 use Rattle.rules.specs.Texts.{not_covered}
 use Rattle.rules.specs.declared.row.Leaf.{Leaf}
 use Rattle.rules.specs.Endpoints.{declared_leaf}
-use Rattle.program.specs.declared.kind.HeapKind.{HeapKind}
+use Rattle.program.specs.declared.types.HeapType.{HeapType}
 use Rattle.program.specs.declared.number.VarId.{VarId}
 
 -- that the messages of these edges have a case at an endpoint
@@ -22,7 +22,7 @@ abbrev pub edge_checks : ProgramModel → MethodModel → List EntranceModel →
 edge_checks p m cases e edges =
     map
     (λ d. refused (is_none (case_for cases e.variable.0 (Some d.message.0)))
-    (not_covered (name_of m e.variable.0) (message_name p (kind_of m e.variable.0) d.message.0) e.place))
+    (not_covered (name_of m e.variable.0) (message_name p (type_of m e.variable.0) d.message.0) e.place))
     edges
 
 -- what was added, and what the others will add, are all of it
@@ -42,22 +42,22 @@ pub adds_all : {X Y : Type 0} (one : X → List Y) (old now : List Y) (xs : List
 adds_all one old now xs done le h = sym (ap (λ l. now ++ l) (at_drop_all (flat_map one) xs done le) ∙ append-nil now) ∙ h.all
 
 -- nothing more is bound
-pub bound_none : (row : List Leaf) (bound : List VarId) (kinds : List HeapKind) (n : ℕ) → (length bound ≤ n) ⊎ (length kinds ≤ n) → bound_leaves row (drop n bound) (drop n kinds) ≡ row
-bound_none row bound kinds n (inl le) = at_drop_all (λ l. bound_leaves row l (drop n kinds)) bound n le ∙ no_bound (drop n kinds)
+pub bound_none : (row : List Leaf) (bound : List VarId) (types : List HeapType) (n : ℕ) → (length bound ≤ n) ⊎ (length types ≤ n) → bound_leaves row (drop n bound) (drop n types) ≡ row
+bound_none row bound types n (inl le) = at_drop_all (λ l. bound_leaves row l (drop n types)) bound n le ∙ no_bound (drop n types)
   where
-    no_bound : (ks : List HeapKind) → bound_leaves row [] ks ≡ row
+    no_bound : (ks : List HeapType) → bound_leaves row [] ks ≡ row
     no_bound [] = refl
     no_bound (k ∷ ks) = refl
-bound_none row bound kinds n (inr le) = at_drop_all (bound_leaves row (drop n bound)) kinds n le ∙ no_kind (drop n bound)
+bound_none row bound types n (inr le) = at_drop_all (bound_leaves row (drop n bound)) types n le ∙ no_type (drop n bound)
   where
-    no_kind : (vs : List VarId) → bound_leaves row vs [] ≡ row
-    no_kind [] = refl
-    no_kind (v ∷ vs) = refl
+    no_type : (vs : List VarId) → bound_leaves row vs [] ≡ row
+    no_type [] = refl
+    no_type (v ∷ vs) = refl
 
 -- one more is bound
-pub bound_more : (row less : List Leaf) (bound : List VarId) (kinds : List HeapKind) (n : ℕ) (d : VarId) (e : HeapKind) → n < length bound → n < length kinds → less ≡ set row (slice_index_or bound n d).0 (declared_leaf (slice_index_or kinds n e))
-    → bound_leaves less (drop (n + 1) bound) (drop (n + 1) kinds) ≡ bound_leaves row (drop n bound) (drop n kinds)
-bound_more row less bound kinds n d e first second is =
-    sym (at_drop_more (λ l. bound_leaves row l (drop n kinds)) bound n d first
-    ∙ at_drop_more (bound_leaves row (slice_index_or bound n d ∷ drop (n + 1) bound)) kinds n e second
-    ∙ ap (λ r. bound_leaves r (drop (n + 1) bound) (drop (n + 1) kinds)) (sym is))
+pub bound_more : (row less : List Leaf) (bound : List VarId) (types : List HeapType) (n : ℕ) (d : VarId) (e : HeapType) → n < length bound → n < length types → less ≡ set row (slice_index_or bound n d).0 (declared_leaf (slice_index_or types n e))
+    → bound_leaves less (drop (n + 1) bound) (drop (n + 1) types) ≡ bound_leaves row (drop n bound) (drop n types)
+bound_more row less bound types n d e first second is =
+    sym (at_drop_more (λ l. bound_leaves row l (drop n types)) bound n d first
+    ∙ at_drop_more (bound_leaves row (slice_index_or bound n d ∷ drop (n + 1) bound)) types n e second
+    ∙ ap (λ r. bound_leaves r (drop (n + 1) bound) (drop (n + 1) types)) (sym is))

@@ -7,7 +7,7 @@ use Rattle.flow.specs.declared.graph.Instr.{Instr}
 use Rattle.flow.specs.Graphs.{Instruction, graph_model, instruction_model}
 use Rattle.flow.specs.Graphs as graphs
 use Rattle.flow.specs.Lowering.{graph_of}
-use Rattle.program.specs.declared.kind.HeapKind.{HeapKind}
+use Rattle.program.specs.declared.types.HeapType.{HeapType}
 use Rattle.program.specs.declared.method.Method.{Method}
 use Rattle.program.specs.declared.statement.Mention.{Mention}
 use Rattle.program.specs.Methods.{MethodModel, method_model}
@@ -71,8 +71,8 @@ module _ (p : ProgramModel) (m : MethodModel) (row : List Leaf) where
   use_comes v next fit allowed = pass (not (is_owned row v.variable.0)) (lacking v) [] ((next, row) ∷ []) (ap not allowed)
 
   -- nothing is given for fields
-  no_fields : (kinds : List HeapKind) → all_fields m row kinds [] ≡ []
-  no_fields kinds = ap (flat_map (λ x. field_checks m row x.0 x.1)) (zip_nil kinds [] refl)
+  no_fields : (types : List HeapType) → all_fields m row types [] ≡ []
+  no_fields types = ap (flat_map (λ x. field_checks m row x.0 x.1)) (zip_nil types [] refl)
 
   new_comes : (v : Mention) (next : ℕ) → Comes (graphs.New v [] next) (New v.variable, next)
   new_comes v next fit allowed =

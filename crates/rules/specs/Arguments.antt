@@ -8,7 +8,7 @@ use Rattle.program.specs.Lists.{is_among}
 use Rattle.program.specs.Methods.{MethodModel}
 use Rattle.program.specs.Programs.{ProgramModel}
 use Rattle.program.specs.declared.call.Argument.{Argument}
-use Rattle.program.specs.declared.kind.HeapKind.{HeapKind}
+use Rattle.program.specs.declared.types.HeapType.{HeapType}
 use Rattle.program.specs.declared.statement.Mention.{Mention}
 use Rattle.contracts.specs.Leaving.{end_on}
 use Rattle.rules.specs.Endpoints.{declared_leaf, edges_out, in_state, is_wrong}
@@ -29,17 +29,17 @@ abbrev pub payload : Mention → Argument
 payload x = record { mention = x; claimed = true }
 
 -- a variable takes what a method gives, if it gives something of the exchange heap
-abbrev pub given_leaf : List Leaf → Option HeapKind → Option Mention → List Leaf
-given_leaf row (Some kind) (Some target) = set row target.variable.0 (declared_leaf kind)
+abbrev pub given_leaf : List Leaf → Option HeapType → Option Mention → List Leaf
+given_leaf row (Some ty) (Some target) = set row target.variable.0 (declared_leaf ty)
 given_leaf row _ _ = row
 
--- what an endpoint of this kind has behind a send of the message
-abbrev pub sent_leaf : ProgramModel → Option HeapKind → ℕ → Leaf → Leaf
-sent_leaf p kind message leaf = in_state leaf (λ q. option_map_or State (end_on (edges_out p kind q) message) leaf) leaf
+-- what an endpoint of this type has behind a send of the message
+abbrev pub sent_leaf : ProgramModel → Option HeapType → ℕ → Leaf → Leaf
+sent_leaf p ty message leaf = in_state leaf (λ q. option_map_or State (end_on (edges_out p ty q) message) leaf) leaf
 
 -- an endpoint in a state that has no edge on which it sends the message
-abbrev pub lacks_edge : ProgramModel → Option HeapKind → ℕ → Leaf → Bool
-lacks_edge p kind message leaf = in_state leaf (λ q. is_none (end_on (edges_out p kind q) message)) false
+abbrev pub lacks_edge : ProgramModel → Option HeapType → ℕ → Leaf → Bool
+lacks_edge p ty message leaf = in_state leaf (λ q. is_none (end_on (edges_out p ty q) message)) false
 
 module _ (m : MethodModel) where
   -- none is one of these, and none is given twice
@@ -50,43 +50,43 @@ module _ (m : MethodModel) where
       ∷ given_before (a.mention.variable.0 ∷ earlier) arguments
 
   -- The checks of what is given for a parameter: it is there, not lent where it is claimed, and in the state that the parameter asks.
-  abbrev pub argument_checks : List Leaf → HeapKind → Argument → List Check
-  argument_checks row kind a =
+  abbrev pub argument_checks : List Leaf → HeapType → Argument → List Check
+  argument_checks row ty a =
       has_something m row a.mention
       ∷ refused (a.claimed && is_lent m a.mention.variable.0) (lent (name_of m a.mention.variable.0) a.mention.place)
-      ∷ refused (is_wrong kind (leaf_at row a.mention.variable.0)) (wrong_for_call (name_of m a.mention.variable.0) a.mention.place)
+      ∷ refused (is_wrong ty (leaf_at row a.mention.variable.0)) (wrong_for_call (name_of m a.mention.variable.0) a.mention.place)
       ∷ []
 
-  -- the checks of arguments, for parameters of these kinds
-  abbrev pub all_arguments : List Leaf → List HeapKind → List Argument → List Check
-  all_arguments row kinds arguments = given_before [] arguments ++ flat_map (λ x. argument_checks row x.0 x.1) (zip kinds arguments)
+  -- the checks of arguments, for parameters of these types
+  abbrev pub all_arguments : List Leaf → List HeapType → List Argument → List Check
+  all_arguments row types arguments = given_before [] arguments ++ flat_map (λ x. argument_checks row x.0 x.1) (zip types arguments)
 
   -- The checks of what goes into a message or a field: it is not lent, there, and in the state that is asked. Where it is in a wrong
   -- one, this is said.
-  abbrev pub taken_checks : List Leaf → (wrong : List ℕ → Place → FindingModel) → HeapKind → Argument → List Check
-  taken_checks row wrong kind a =
+  abbrev pub taken_checks : List Leaf → (wrong : List ℕ → Place → FindingModel) → HeapType → Argument → List Check
+  taken_checks row wrong ty a =
       is_not_lent m a.mention
       ∷ has_something m row a.mention
-      ∷ refused (is_wrong kind (leaf_at row a.mention.variable.0)) (wrong (name_of m a.mention.variable.0) a.mention.place)
+      ∷ refused (is_wrong ty (leaf_at row a.mention.variable.0)) (wrong (name_of m a.mention.variable.0) a.mention.place)
       ∷ []
 
   -- the checks of all that goes there at once; none of it is one of these
-  abbrev pub all_taken : (besides : List ℕ) → List Leaf → (wrong : List ℕ → Place → FindingModel) → List HeapKind → List Argument
+  abbrev pub all_taken : (besides : List ℕ) → List Leaf → (wrong : List ℕ → Place → FindingModel) → List HeapType → List Argument
       → List Check
-  all_taken besides row wrong kinds given = given_before besides given ++ flat_map (λ x. taken_checks row wrong x.0 x.1) (zip kinds given)
+  all_taken besides row wrong types given = given_before besides given ++ flat_map (λ x. taken_checks row wrong x.0 x.1) (zip types given)
 
   -- the checks of what a message takes with it, and of all that is sent along an endpoint
-  abbrev pub payload_checks : List Leaf → (message : List ℕ) → HeapKind → Argument → List Check
+  abbrev pub payload_checks : List Leaf → (message : List ℕ) → HeapType → Argument → List Check
   payload_checks row message = taken_checks row (λ name place. wrong_for name message place)
 
-  abbrev pub all_payloads : List Leaf → Mention → (message : List ℕ) → List HeapKind → List Argument → List Check
+  abbrev pub all_payloads : List Leaf → Mention → (message : List ℕ) → List HeapType → List Argument → List Check
   all_payloads row endpoint message = all_taken (endpoint.variable.0 ∷ []) row (λ name place. wrong_for name message place)
 
   -- the checks of what is given for a field, and of all that is given for the fields of a new block
-  abbrev pub field_checks : List Leaf → HeapKind → Argument → List Check
+  abbrev pub field_checks : List Leaf → HeapType → Argument → List Check
   field_checks row = taken_checks row wrong_for_field
 
-  abbrev pub all_fields : List Leaf → List HeapKind → List Argument → List Check
+  abbrev pub all_fields : List Leaf → List HeapType → List Argument → List Check
   all_fields row = all_taken [] row wrong_for_field
 
   -- the checks of what takes a block: it is not lent, and has nothing

@@ -7,7 +7,7 @@ use Rattle.program.specs.Methods.{MethodModel}
 use Rattle.program.specs.Programs.{ProgramModel}
 use Rattle.program.specs.declared.number.MessageId.{MessageId}
 use Rattle.program.specs.declared.number.VarId.{VarId}
-use Rattle.rules.specs.Endpoints.{kind_of, message_name}
+use Rattle.rules.specs.Endpoints.{type_of, message_name}
 use Rattle.rules.specs.Mentions.{name_of}
 use Rattle.rules.specs.Texts.{lent, no_result, not_back, not_covered, not_owned, not_sent, nothing_to_receive, overwritten, still_owned}
 use Rattle.rules.specs.Texts.{twice, wrong_for, wrong_for_call, wrong_for_field, wrong_for_result}
@@ -20,7 +20,7 @@ use Rattle.rules.specs.declared.breach.Reason.TheVariants.{WrongForField}
 module _ (p : ProgramModel) (m : MethodModel) where
   -- the name of a message of the contract of an endpoint
   abbrev pub name_along : VarId → MessageId → List ℕ
-  name_along endpoint message = message_name p (kind_of m endpoint.0) message.0
+  name_along endpoint message = message_name p (type_of m endpoint.0) message.0
 
   -- the finding at a place, a line for each reason
   abbrev pub told : Place → Reason → FindingModel

@@ -4,36 +4,36 @@ use Rattle.std.specs.Prelude.{ℕ, ◌==◌, Bool, false, not, List, [], length,
 use Rattle.std.specs.Option.{option_and_then, option_map_or}
 use Rattle.program.specs.Methods.{MethodModel}
 use Rattle.program.specs.Programs.{ProgramModel}
-use Rattle.program.specs.WellFormed.{field_kinds, parameters}
+use Rattle.program.specs.WellFormed.{field_types, parameters}
 use Rattle.program.specs.declared.contract.Edge.{Edge}
-use Rattle.program.specs.declared.kind.HeapKind.{HeapKind}
-use Rattle.program.specs.declared.kind.HeapKind.TheVariants.{Endpoint}
+use Rattle.program.specs.declared.types.HeapType.{HeapType}
+use Rattle.program.specs.declared.types.HeapType.TheVariants.{Endpoint}
 use Rattle.contracts.specs.Bounds.{sign_to}
 use Rattle.contracts.specs.Leaving.{edges_from, name_among, sign_from}
 use Rattle.rules.specs.declared.row.Leaf.{Leaf}
 use Rattle.rules.specs.declared.row.Leaf.TheVariants.{Block, State}
 
 -- what a message brings for its parameters of the exchange heap
-abbrev pub brought : ProgramModel → ℕ → List HeapKind
-brought p message = option_map_or (λ kinds. kinds) (slice_get p.messages message) []
+abbrev pub brought : ProgramModel → ℕ → List HeapType
+brought p message = option_map_or (λ types. types) (slice_get p.messages message) []
 
 -- what a method takes for its parameters of the exchange heap
-abbrev pub parameter_kinds : ProgramModel → ℕ → List HeapKind
-parameter_kinds p method = option_map_or (λ m. map (λ v. v.kind) (parameters m)) (slice_get p.methods method) []
+abbrev pub parameter_types : ProgramModel → ℕ → List HeapType
+parameter_types p method = option_map_or (λ m. map (λ v. v.ty) (parameters m)) (slice_get p.methods method) []
 
 -- what it gives, where that is of the exchange heap
-abbrev pub result_of : ProgramModel → ℕ → Option HeapKind
+abbrev pub result_of : ProgramModel → ℕ → Option HeapType
 result_of p method = option_and_then (λ m. m.result) (slice_get p.methods method)
 
 -- what a variable of a method holds
-abbrev pub kind_of : MethodModel → ℕ → Option HeapKind
-kind_of m variable = option_map_or (λ v. Some v.kind) (slice_get m.variables variable) None
+abbrev pub type_of : MethodModel → ℕ → Option HeapType
+type_of m variable = option_map_or (λ v. Some v.ty) (slice_get m.variables variable) None
 
 -- what the block of a variable has in its fields that own, and what one of them holds
-abbrev pub fields_of : ProgramModel → MethodModel → (variable : ℕ) → List HeapKind
-fields_of p m variable = option_map_or (λ kind. field_kinds p.structs kind) (kind_of m variable) []
+abbrev pub fields_of : ProgramModel → MethodModel → (variable : ℕ) → List HeapType
+fields_of p m variable = option_map_or (λ ty. field_types p.structs ty) (type_of m variable) []
 
-abbrev pub field_of : ProgramModel → MethodModel → (variable field : ℕ) → Option HeapKind
+abbrev pub field_of : ProgramModel → MethodModel → (variable field : ℕ) → Option HeapType
 field_of p m variable field = slice_get (fields_of p m variable) field
 
 abbrev pub edges_of : ProgramModel → ℕ → List Edge
@@ -43,33 +43,33 @@ edges_of p contract = option_map_or (λ c. c.parts.edges) (slice_get p.contracts
 abbrev pub first_state : ProgramModel → ℕ → ℕ
 first_state p contract = option_map_or (λ c. c.parts.first.0) (slice_get p.contracts contract) 0
 
--- the edges along which an endpoint of this kind sends in a state
-abbrev pub edges_out : ProgramModel → Option HeapKind → ℕ → List Edge
+-- the edges along which an endpoint of this type sends in a state
+abbrev pub edges_out : ProgramModel → Option HeapType → ℕ → List Edge
 edges_out p (Some (Endpoint contract side state)) q = edges_from (edges_of p contract.0) (sign_from side) q
 edges_out p _ q = []
 
 -- whether there is such an edge
-abbrev pub sends : ProgramModel → Option HeapKind → ℕ → Bool
-sends p kind q = not (length (edges_out p kind q) == 0)
+abbrev pub sends : ProgramModel → Option HeapType → ℕ → Bool
+sends p ty q = not (length (edges_out p ty q) == 0)
 
 -- the edges along which it receives
-abbrev pub edges_in : ProgramModel → Option HeapKind → ℕ → List Edge
+abbrev pub edges_in : ProgramModel → Option HeapType → ℕ → List Edge
 edges_in p (Some (Endpoint contract side state)) q = edges_from (edges_of p contract.0) (sign_to side) q
 edges_in p _ q = []
 
--- the name of a message of the contract of an endpoint of this kind
-abbrev pub message_name : ProgramModel → Option HeapKind → ℕ → List ℕ
+-- the name of a message of the contract of an endpoint of this type
+abbrev pub message_name : ProgramModel → Option HeapType → ℕ → List ℕ
 message_name p (Some (Endpoint contract side state)) message =
     option_map_or (λ c. name_among c.parts.messages message) (slice_get p.contracts contract.0) []
 message_name p _ message = []
 
--- what is had of this kind where it is given: a block, or an endpoint in the declared state
-abbrev pub declared_leaf : HeapKind → Leaf
+-- what is had of this type where it is given: a block, or an endpoint in the declared state
+abbrev pub declared_leaf : HeapType → Leaf
 declared_leaf (Endpoint contract side state) = State state.0
 declared_leaf _ = Block
 
 -- an endpoint neither cut off nor in the declared state
-abbrev pub is_wrong : HeapKind → Leaf → Bool
+abbrev pub is_wrong : HeapType → Leaf → Bool
 is_wrong (Endpoint contract side state) (State q) = not (q == state.0)
 is_wrong _ _ = false
 

@@ -7,7 +7,7 @@ use Rattle.source.specs.Findings.{FindingModel}
 use Rattle.source.specs.declared.place.Place.{Place}
 use Rattle.program.specs.Methods.{MethodModel}
 use Rattle.program.specs.Programs.{ProgramModel}
-use Rattle.program.specs.declared.kind.HeapKind.{HeapKind}
+use Rattle.program.specs.declared.types.HeapType.{HeapType}
 use Rattle.program.specs.declared.statement as stated
 use Rattle.program.specs.declared.statement.Mention.{Mention}
 use Rattle.flow.specs.Graphs.{Instruction, Use, New, Move, Delete, Exchange, NewChannel, Send, Switch, Branch, Forget, Call, Start}
@@ -16,8 +16,8 @@ use Rattle.flow.specs.declared.graph.Branches.{Branches}
 use Rattle.flow.specs.declared.graph.Branches.TheVariants.{Either, Only}
 use Rattle.rules.specs.Arguments.{all_arguments, all_fields, all_payloads, claimed, field_checks, given_leaf, lacks_edge, payload}
 use Rattle.rules.specs.Arguments.{sent_leaf, target_checks}
-use Rattle.rules.specs.Endpoints.{brought, declared_leaf, field_of, fields_of, first_state, is_wrong, kind_of, message_name}
-use Rattle.rules.specs.Endpoints.{parameter_kinds, result_of}
+use Rattle.rules.specs.Endpoints.{brought, declared_leaf, field_of, fields_of, first_state, is_wrong, type_of, message_name}
+use Rattle.rules.specs.Endpoints.{parameter_types, result_of}
 use Rattle.rules.specs.Mentions.{given_back, has_nothing, has_something, is_another, is_lent, is_not_lent, name_of}
 use Rattle.rules.specs.Outcomes.{Step, Goes, Fails, Pair, Check, checked, refused}
 use Rattle.rules.specs.Rows.{leaf_at}
@@ -39,26 +39,26 @@ module _ (p : ProgramModel) (m : MethodModel) where
   value_checks row (Some v) =
       is_not_lent m v
       ∷ has_something m row v
-      ∷ refused (option_map_or (λ kind. is_wrong kind (leaf_at row v.variable.0)) m.result false)
+      ∷ refused (option_map_or (λ ty. is_wrong ty (leaf_at row v.variable.0)) m.result false)
       (wrong_for_result (name_of m v.variable.0) v.place)
       ∷ []
 
   -- whether an endpoint was lent, and is neither cut off nor in its declared state
   abbrev pub is_not_back : List Leaf → ℕ → Bool
-  is_not_back row v = is_lent m v && option_map_or (λ kind. is_wrong kind (leaf_at row v)) (kind_of m v) false
+  is_not_back row v = is_lent m v && option_map_or (λ ty. is_wrong ty (leaf_at row v)) (type_of m v) false
 
   -- the checks of endpoints that were lent, in order: each is cut off, or back in its state
   abbrev pub back_checks : List Leaf → Place → List Check
   back_checks row place = map (λ v. refused (is_not_back row v) (not_back (name_of m v) place)) (range_with_len 0 (length m.variables))
 
-  -- An exchange with a field of this kind. What the field held is in the state that the field asks.
-  abbrev pub exchanged : List Leaf → stated.Exchange.Exchange → ℕ → Option HeapKind → Step Pair FindingModel
-  exchanged row e next kind =
+  -- An exchange with a field of this type. What the field held is in the state that the field asks.
+  abbrev pub exchanged : List Leaf → stated.Exchange.Exchange → ℕ → Option HeapType → Step Pair FindingModel
+  exchanged row e next ty =
       checked
       (is_another m e.holder e.given
       ∷ has_something m row e.holder
-      ∷ option_map_or (λ kind. field_checks m row kind (payload e.given)) kind [])
-      ((next, set row e.given.variable.0 (option_map_or declared_leaf kind Nothing)) ∷ [])
+      ∷ option_map_or (λ ty. field_checks m row ty (payload e.given)) ty [])
+      ((next, set row e.given.variable.0 (option_map_or declared_leaf ty Nothing)) ∷ [])
 
   -- a line for each instruction
   abbrev pub instruction_outcome : Instruction → List Leaf → Step Pair FindingModel
@@ -77,20 +77,20 @@ module _ (p : ProgramModel) (m : MethodModel) where
   instruction_outcome (Delete v next) row =
       checked (is_not_lent m v ∷ has_something m row v ∷ []) ((next, set row v.variable.0 Nothing) ∷ [])
   instruction_outcome (Send place e message payloads next) row =
-      let kind = kind_of m e.variable.0 in
+      let ty = type_of m e.variable.0 in
       let leaf = leaf_at row e.variable.0 in
-      let name = message_name p kind message.0 in
+      let name = message_name p ty message.0 in
       checked
       (has_something m row e
       ∷ (all_payloads m row e name (brought p message.0) (map payload payloads)
-      ++ refused (lacks_edge p kind message.0 leaf) (not_sent name place) ∷ []))
-      ((next, set (claimed row (map payload payloads)) e.variable.0 (sent_leaf p kind message.0 leaf)) ∷ [])
+      ++ refused (lacks_edge p ty message.0 leaf) (not_sent name place) ∷ []))
+      ((next, set (claimed row (map payload payloads)) e.variable.0 (sent_leaf p ty message.0 leaf)) ∷ [])
   instruction_outcome (Switch place cases) row = checked (switch_checks p m row place cases) (switch_pairs p m row cases)
   instruction_outcome (Call place method arguments target next) row =
-      checked (all_arguments m row (parameter_kinds p method.0) arguments ++ target_checks m (claimed row arguments) target)
+      checked (all_arguments m row (parameter_types p method.0) arguments ++ target_checks m (claimed row arguments) target)
       ((next, given_leaf (claimed row arguments) (result_of p method.0) target) ∷ [])
   instruction_outcome (Start place method arguments next) row =
-      checked (all_arguments m row (parameter_kinds p method.0) arguments) ((next, claimed row arguments) ∷ [])
+      checked (all_arguments m row (parameter_types p method.0) arguments) ((next, claimed row arguments) ∷ [])
   instruction_outcome (Branch place branches) row = Goes (ways branches row)
   instruction_outcome (Forget f next) row =
       checked (given_back m row f.place None (declared_between m f.outer (Some f.last))) ((next, row) ∷ [])

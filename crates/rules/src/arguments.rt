@@ -19,7 +19,7 @@ use crate::checks::{gives_none_again, has_nothing, has_something, is_not_lent};
 use crate::endpoints::{declared_leaf, is_wrong};
 use crate::here::Here;
 use crate::row::{Leaf, Row};
-use program::{Argument, HeapKind, Mention};
+use program::{Argument, HeapType, Mention};
 
 /// That what is claimed of an argument is not lent.
 fn can_be_claimed(here: &Here<'_>, argument: Argument) -> Option<Breach>
@@ -33,22 +33,22 @@ fn can_be_claimed(here: &Here<'_>, argument: Argument) -> Option<Breach>
     is_not_lent(here, argument.mention)
 }
 
-/// That what is given for a parameter of this kind is in its state.
-fn is_in_state(here: &Here<'_>, kind: HeapKind, mention: Mention) -> Option<Breach>
+/// That what is given for a parameter of this type is in its state.
+fn is_in_state(here: &Here<'_>, ty: HeapType, mention: Mention) -> Option<Breach>
     ensures { check_model (breach_model (model_of here.now.program.now) (method_model here.now.method.now)) result ≡ refused
-        (is_wrong kind (leaf_at (row_model here.now.row.now) mention.variable.0))
+        (is_wrong ty (leaf_at (row_model here.now.row.now) mention.variable.0))
         (wrong_for_call (name_of (method_model here.now.method.now) mention.variable.0) mention.place) }
 {
-    if !is_wrong(kind, here.row.leaf(mention.variable)) {
+    if !is_wrong(ty, here.row.leaf(mention.variable)) {
         return None;
     }
     Some(Breach::at(mention.place, Reason::WrongForCall(mention.variable)))
 }
 
 /// That what an argument gives is there, not lent where it is claimed, and in the state that the parameter asks.
-fn can_give(here: &Here<'_>, kind: HeapKind, argument: Argument) -> Option<Breach>
+fn can_give(here: &Here<'_>, ty: HeapType, argument: Argument) -> Option<Breach>
     ensures { StandsFor (breach_model (model_of here.now.program.now) (method_model here.now.method.now)) result
-        (argument_checks (method_model here.now.method.now) (row_model here.now.row.now) kind argument) }
+        (argument_checks (method_model here.now.method.now) (row_model here.now.row.now) ty argument) }
 {
     if let Some(breach) = has_something(here, argument.mention) {
         return Some(breach);
@@ -56,25 +56,25 @@ fn can_give(here: &Here<'_>, kind: HeapKind, argument: Argument) -> Option<Breac
     if let Some(breach) = can_be_claimed(here, argument) {
         return Some(breach);
     }
-    is_in_state(here, kind, argument.mention)
+    is_in_state(here, ty, argument.mention)
 }
 
-/// The checks of arguments, for parameters of these kinds, where it is known which argument is the first to give a variable again.
+/// The checks of arguments, for parameters of these types, where it is known which argument is the first to give a variable again.
 pub(crate) fn can_give_all(
     here: &Here<'_>,
     again: Option<Mention>,
-    kinds: &[HeapKind],
+    types: &[HeapType],
     arguments: &[Argument],
 ) -> Option<Breach>
     requires { again ≡ first_again [] arguments.now }
     ensures { StandsFor (breach_model (model_of here.now.program.now) (method_model here.now.method.now)) result
-        (all_arguments (method_model here.now.method.now) (row_model here.now.row.now) kinds.now arguments.now) }
+        (all_arguments (method_model here.now.method.now) (row_model here.now.row.now) types.now arguments.now) }
 {
     if let Some(breach) = gives_none_again(here, again) {
         return Some(breach);
     }
-    for number in 0..kinds.len().min(arguments.len()) {
-        if let Some(breach) = can_give(here, kinds[number], arguments[number]) {
+    for number in 0..types.len().min(arguments.len()) {
+        if let Some(breach) = can_give(here, types[number], arguments[number]) {
             return Some(breach);
         }
     }
@@ -112,11 +112,11 @@ pub(crate) fn claim_all(row: &mut Row, arguments: &[Argument])
 }
 
 /// Gives what a method gives to the variable that takes it, if one does.
-pub(crate) fn give(row: &mut Row, kind: Option<HeapKind>, target: Option<Mention>)
-    requires numbered { IfSome kind (λ kind. IsNumbered (declared_leaf kind)) }
-    ensures { row_model row.new ≡ given_leaf (row_model row.old) kind target }
+pub(crate) fn give(row: &mut Row, ty: Option<HeapType>, target: Option<Mention>)
+    requires numbered { IfSome ty (λ ty. IsNumbered (declared_leaf ty)) }
+    ensures { row_model row.new ≡ given_leaf (row_model row.old) ty target }
 {
-    if let (Some(kind), Some(target)) = (kind, target) {
-        row.set(target.variable, declared_leaf(kind));
+    if let (Some(ty), Some(target)) = (ty, target) {
+        row.set(target.variable, declared_leaf(ty));
     }
 }

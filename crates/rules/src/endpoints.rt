@@ -4,7 +4,7 @@ ghost use Rattle.std.specs.Prelude.{◌≡◌, ◌<◌, All, IfSome, MatchOption
 ghost use Rattle.contracts.specs.Leaving.{end_on};
 ghost use Rattle.contracts.specs.Sounds.{sound_parts};
 ghost use Rattle.program.specs.Methods.{method_model};
-ghost use Rattle.program.specs.WellFormed.{field_kinds};
+ghost use Rattle.program.specs.WellFormed.{field_types};
 ghost use Rattle.program.specs.declared.limits.TheConstants.{MOST_STATES};
 ghost use Rattle.rules.specs.Endpoints as table;
 ghost use Rattle.rules.specs.Endpoints.{declared_leaf};
@@ -14,34 +14,34 @@ ghost use Rattle.rules.specs.Leaves.{IsNumbered};
 use crate::lowered::Program;
 use crate::row::Leaf;
 use contracts::Sound;
-use program::{ContractId, Edge, HeapKind, MessageId, Method, MethodId, Side, StateId, VarId};
+use program::{ContractId, Edge, HeapType, MessageId, Method, MethodId, Side, StateId, VarId};
 
-/// What is had of this kind where it is given.
-pub(crate) fn declared_leaf(kind: HeapKind) -> Leaf
-    ensures { result ≡ declared_leaf kind }
+/// What is had of this type where it is given.
+pub(crate) fn declared_leaf(ty: HeapType) -> Leaf
+    ensures { result ≡ declared_leaf ty }
 {
-    match kind {
-        HeapKind::Struct(_) | HeapKind::Array(_) => Leaf::Block,
-        HeapKind::Endpoint { state, .. } => Leaf::State(state.0),
+    match ty {
+        HeapType::Struct(_) | HeapType::Array(_) => Leaf::Block,
+        HeapType::Endpoint { state, .. } => Leaf::State(state.0),
     }
 }
 
-/// Whether this is an endpoint neither cut off nor in the state that its kind declares.
-pub(crate) fn is_wrong(kind: HeapKind, leaf: Leaf) -> bool
-    ensures { result ≡ table.is_wrong kind leaf }
+/// Whether this is an endpoint neither cut off nor in the state that its type declares.
+pub(crate) fn is_wrong(ty: HeapType, leaf: Leaf) -> bool
+    ensures { result ≡ table.is_wrong ty leaf }
 {
-    match (kind, leaf) {
-        (HeapKind::Endpoint { state, .. }, Leaf::State(number)) => number != state.0,
+    match (ty, leaf) {
+        (HeapType::Endpoint { state, .. }, Leaf::State(number)) => number != state.0,
         _ => false,
     }
 }
 
 /// What a variable of a method holds, if there is such a variable.
-pub(crate) fn kind_of(method: &Method, variable: VarId) -> Option<HeapKind>
-    ensures { result ≡ table.kind_of (method_model method.now) variable.0 }
+pub(crate) fn type_of(method: &Method, variable: VarId) -> Option<HeapType>
+    ensures { result ≡ table.type_of (method_model method.now) variable.0 }
 {
     match method.variables.get(variable.0) {
-        Some(variable) => Some(variable.kind),
+        Some(variable) => Some(variable.ty),
         None => None,
     }
 }
@@ -50,37 +50,37 @@ impl Program {
     ghost use Rattle.rules.specs.Programs.{model_of};
 
     /// What a message brings for its parameters of the exchange heap.
-    pub(crate) fn brought(&self, message: MessageId) -> &[HeapKind]
-        ensures kinds { result.now ≡ table.brought (model_of self.now) message.0 }
-        ensures numbered { All (λ kind. IsNumbered (declared_leaf kind)) result.now }
+    pub(crate) fn brought(&self, message: MessageId) -> &[HeapType]
+        ensures types { result.now ≡ table.brought (model_of self.now) message.0 }
+        ensures numbered { All (λ ty. IsNumbered (declared_leaf ty)) result.now }
     {
         match self.methods.messages().get(message.0 as usize) {
-            Some(kinds) => kinds.as_slice(),
+            Some(types) => types.as_slice(),
             None => &[],
         }
     }
 
-    /// What a block of this kind has in its fields that own.
-    fn field_kinds(&self, kind: HeapKind) -> &[HeapKind]
-        ensures kinds { result.now ≡ field_kinds (model_of self.now).structs kind }
-        ensures numbered { All (λ kind. IsNumbered (declared_leaf kind)) result.now }
+    /// What a block of this type has in its fields that own.
+    fn field_types(&self, ty: HeapType) -> &[HeapType]
+        ensures types { result.now ≡ field_types (model_of self.now).structs ty }
+        ensures numbered { All (λ ty. IsNumbered (declared_leaf ty)) result.now }
     {
-        match kind {
-            HeapKind::Struct(number) => match self.methods.structs().get(number.0 as usize) {
-                Some(kinds) => kinds.as_slice(),
+        match ty {
+            HeapType::Struct(number) => match self.methods.structs().get(number.0 as usize) {
+                Some(types) => types.as_slice(),
                 None => &[],
             },
-            HeapKind::Array(_) | HeapKind::Endpoint { .. } => &[],
+            HeapType::Array(_) | HeapType::Endpoint { .. } => &[],
         }
     }
 
     /// What the block of a variable has in its fields that own.
-    pub(crate) fn fields_of(&self, method: &Method, variable: VarId) -> &[HeapKind]
-        ensures kinds { result.now ≡ table.fields_of (model_of self.now) (method_model method.now) variable.0 }
-        ensures numbered { All (λ kind. IsNumbered (declared_leaf kind)) result.now }
+    pub(crate) fn fields_of(&self, method: &Method, variable: VarId) -> &[HeapType]
+        ensures types { result.now ≡ table.fields_of (model_of self.now) (method_model method.now) variable.0 }
+        ensures numbered { All (λ ty. IsNumbered (declared_leaf ty)) result.now }
     {
-        match kind_of(method, variable) {
-            Some(kind) => self.field_kinds(kind),
+        match type_of(method, variable) {
+            Some(ty) => self.field_types(ty),
             None => &[],
         }
     }
@@ -91,27 +91,27 @@ impl Program {
         method: &Method,
         variable: VarId,
         field: usize,
-    ) -> Option<HeapKind>
-        ensures kind { result ≡ table.field_of (model_of self.now) (method_model method.now) variable.0 field }
-        ensures numbered { IfSome result (λ kind. IsNumbered (declared_leaf kind)) }
+    ) -> Option<HeapType>
+        ensures ty { result ≡ table.field_of (model_of self.now) (method_model method.now) variable.0 field }
+        ensures numbered { IfSome result (λ ty. IsNumbered (declared_leaf ty)) }
     {
         self.fields_of(method, variable).get(field).copied()
     }
 
     /// What a method takes for its parameters of the exchange heap.
-    pub(crate) fn parameter_kinds(&self, method: MethodId) -> &[HeapKind]
-        ensures { result.now ≡ table.parameter_kinds (model_of self.now) method.0 }
+    pub(crate) fn parameter_types(&self, method: MethodId) -> &[HeapType]
+        ensures { result.now ≡ table.parameter_types (model_of self.now) method.0 }
     {
         match self.parameters.get(method.0 as usize) {
-            Some(kinds) => kinds.as_slice(),
+            Some(types) => types.as_slice(),
             None => &[],
         }
     }
 
     /// What a method gives, where that is of the exchange heap.
-    pub(crate) fn result_of(&self, method: MethodId) -> Option<HeapKind>
-        ensures kind { result ≡ table.result_of (model_of self.now) method.0 }
-        ensures numbered { IfSome result (λ kind. IsNumbered (declared_leaf kind)) }
+    pub(crate) fn result_of(&self, method: MethodId) -> Option<HeapType>
+        ensures ty { result ≡ table.result_of (model_of self.now) method.0 }
+        ensures numbered { IfSome result (λ ty. IsNumbered (declared_leaf ty)) }
     {
         self.methods.list().get(method.0 as usize)?.result
     }
@@ -127,27 +127,27 @@ impl Program {
         }
     }
 
-    /// Whether an endpoint of this kind sends in a state.
-    pub(crate) fn sends(&self, kind: Option<HeapKind>, state: u32) -> bool
-        ensures { result ≡ table.sends (model_of self.now) kind state }
+    /// Whether an endpoint of this type sends in a state.
+    pub(crate) fn sends(&self, ty: Option<HeapType>, state: u32) -> bool
+        ensures { result ≡ table.sends (model_of self.now) ty state }
     {
-        match self.end_of(kind) {
+        match self.end_of(ty) {
             Some(end) => !end.sound.edges_out(end.side, StateId(state)).is_empty(),
             None => false,
         }
     }
 
-    /// Where an endpoint of this kind is behind a send of the message, if it sends it in that state.
+    /// Where an endpoint of this type is behind a send of the message, if it sends it in that state.
     pub fn state_after_send(
         &self,
-        kind: Option<HeapKind>,
+        ty: Option<HeapType>,
         state: u32,
         message: MessageId,
     ) -> Option<StateId>
-        ensures end { option_map (λ q. q.0) result ≡ end_on (table.edges_out (model_of self.now) kind state) message.0 }
+        ensures end { option_map (λ q. q.0) result ≡ end_on (table.edges_out (model_of self.now) ty state) message.0 }
         ensures numbered { IfSome result (λ q. q.0 < MOST_STATES) }
     {
-        match self.end_of(kind) {
+        match self.end_of(ty) {
             Some(end) => end
                 .sound
                 .state_after_send(end.side, StateId(state), message),
@@ -155,38 +155,38 @@ impl Program {
         }
     }
 
-    /// The edges along which an endpoint of this kind receives in a state, in order of the contract.
-    pub(crate) fn edges_in(&self, kind: Option<HeapKind>, state: u32) -> &[Edge]
-        ensures edges { result.now ≡ table.edges_in (model_of self.now) kind state }
+    /// The edges along which an endpoint of this type receives in a state, in order of the contract.
+    pub(crate) fn edges_in(&self, ty: Option<HeapType>, state: u32) -> &[Edge]
+        ensures edges { result.now ≡ table.edges_in (model_of self.now) ty state }
         ensures numbered { All (λ e. e.to.0 < MOST_STATES) result.now }
     {
-        match self.end_of(kind) {
+        match self.end_of(ty) {
             Some(end) => end.sound.edges_in(end.side, StateId(state)),
             None => &[],
         }
     }
 
-    /// The name of a message of the contract of an endpoint of this kind.
-    pub(crate) fn message_name(&self, kind: Option<HeapKind>, message: MessageId) -> &[u8]
-        ensures { result.now ≡ table.message_name (model_of self.now) kind message.0 }
+    /// The name of a message of the contract of an endpoint of this type.
+    pub(crate) fn message_name(&self, ty: Option<HeapType>, message: MessageId) -> &[u8]
+        ensures { result.now ≡ table.message_name (model_of self.now) ty message.0 }
     {
-        match self.end_of(kind) {
+        match self.end_of(ty) {
             Some(end) => end.sound.message_name(message),
             None => &[],
         }
     }
 
-    /// The contract and the side of an endpoint of this kind.
-    fn end_of(&self, kind: Option<HeapKind>) -> Option<End<'_>>
-        ensures { MatchOption result (IsNoEnd (model_of self.now) kind)
-            (λ end. IsEndOf (model_of self.now) kind (sound_parts end.sound.now) end.side) }
+    /// The contract and the side of an endpoint of this type.
+    fn end_of(&self, ty: Option<HeapType>) -> Option<End<'_>>
+        ensures { MatchOption result (IsNoEnd (model_of self.now) ty)
+            (λ end. IsEndOf (model_of self.now) ty (sound_parts end.sound.now) end.side) }
     {
-        match kind? {
-            HeapKind::Endpoint { contract, side, .. } => {
+        match ty? {
+            HeapType::Endpoint { contract, side, .. } => {
                 let sound = self.sounds.get(contract.0 as usize)?;
                 Some(End { sound, side })
             }
-            HeapKind::Struct(_) | HeapKind::Array(_) => None,
+            HeapType::Struct(_) | HeapType::Array(_) => None,
         }
     }
 }

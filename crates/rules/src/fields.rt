@@ -24,7 +24,7 @@ use crate::here::{Here, Site};
 use crate::onward::Onward;
 use crate::payloads::{Taker, can_all_be_taken, can_be_taken, claim_payloads};
 use crate::row::{Leaf, Row};
-use program::{Exchange, HeapKind, Mention};
+use program::{Exchange, HeapType, Mention};
 
 /// The variable takes a new block, and what is given for the fields of that is gone.
 pub(crate) fn new(
@@ -45,8 +45,8 @@ pub(crate) fn new(
         method: site.method,
         row,
     };
-    let kinds = site.program.fields_of(site.method, target.variable);
-    if let Some(breach) = can_all_be_taken(&here, Taker::Field, kinds, arguments) {
+    let types = site.program.fields_of(site.method, target.variable);
+    if let Some(breach) = can_all_be_taken(&here, Taker::Field, types, arguments) {
         return Onward::Found(breach);
     }
     claim_payloads(row, arguments);
@@ -63,23 +63,23 @@ pub(crate) fn new(
 }
 
 /// That what is given for a field, if there is such a field, is not lent, there, and in the state that the field asks.
-fn can_be_inside(here: &Here<'_>, field: Option<HeapKind>, given: Mention) -> Option<Breach>
+fn can_be_inside(here: &Here<'_>, field: Option<HeapType>, given: Mention) -> Option<Breach>
     ensures { StandsFor (breach_model (model_of here.now.program.now) (method_model here.now.method.now)) result
-        (option_map_or (λ kind. field_checks (method_model here.now.method.now) (row_model here.now.row.now) kind (payload given))
+        (option_map_or (λ ty. field_checks (method_model here.now.method.now) (row_model here.now.row.now) ty (payload given))
         field []) }
 {
-    let kind = field?;
-    can_be_taken(here, Taker::Field, kind, given)
+    let ty = field?;
+    can_be_taken(here, Taker::Field, ty, given)
 }
 
 /// What comes out of a field, if there is such a field.
-fn leaf_out_of(field: Option<HeapKind>) -> Leaf
-    requires numbered { IfSome field (λ kind. IsNumbered (table.declared_leaf kind)) }
+fn leaf_out_of(field: Option<HeapType>) -> Leaf
+    requires numbered { IfSome field (λ ty. IsNumbered (table.declared_leaf ty)) }
     ensures leaf { result ≡ option_map_or table.declared_leaf field Nothing }
     ensures numbered { IsNumbered result }
 {
     match field {
-        Some(kind) => declared_leaf(kind),
+        Some(ty) => declared_leaf(ty),
         None => Leaf::Nothing,
     }
 }

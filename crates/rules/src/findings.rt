@@ -9,7 +9,7 @@ ghost use Rattle.rules.specs.Programs.{model_of};
 
 use crate::breach::{Breach, Reason};
 use crate::checks::name_of;
-use crate::endpoints::kind_of;
+use crate::endpoints::type_of;
 use crate::lowered::Program;
 use program::{MessageId, Method, MethodId, VarId};
 use source::{Finding, Memory, texts};
@@ -77,6 +77,6 @@ impl Program {
     fn name_along<'a>(&'a self, method: &Method, endpoint: VarId, message: MessageId) -> &'a [u8]
         ensures { result.now ≡ table.name_along (model_of self.now) (method_model method.now) endpoint message }
     {
-        self.message_name(kind_of(method, endpoint), message)
+        self.message_name(type_of(method, endpoint), message)
     }
 }

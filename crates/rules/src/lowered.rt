@@ -7,7 +7,7 @@ ghost use Rattle.flow.specs.Graphs.{graph_model};
 ghost use Rattle.flow.specs.Lowering.{graph_of};
 ghost use Rattle.program.specs.Methods.{method_model, variable_model};
 ghost use Rattle.program.specs.Parts.{contract_model};
-ghost use Rattle.program.specs.Programs.{contracts_model, methods_model, program_model, kind_lists};
+ghost use Rattle.program.specs.Programs.{contracts_model, methods_model, program_model, type_lists};
 ghost use Rattle.program.specs.WellFormed as formed;
 ghost use Rattle.program.specs.WellFormed.{IsWellFormed, parameters};
 ghost use Rattle.program.specs.declared.limits.TheConstants.{MOST_VARIABLES};
@@ -16,7 +16,7 @@ ghost use Rattle.rules.specs.Repeats.{again_in, repeated_in};
 use crate::repeats::{Repeats, repeats_of};
 use contracts::Sound;
 use flow::{Graph, lower};
-use program::{Contract, ContractId, HeapKind, Method, MethodId, Methods, Role};
+use program::{Contract, ContractId, HeapType, Method, MethodId, Methods, Role};
 use source::Memory;
 use std::alloc::Global;
 
@@ -28,11 +28,11 @@ pub struct Program {
     pub(crate) sounds: Vec<Sound>,
     graphs: Vec<Graph>,
     repeats: Vec<Repeats>,
-    pub(crate) parameters: Vec<Vec<HeapKind>>,
+    pub(crate) parameters: Vec<Vec<HeapType>>,
     ghost sound: { map sound_parts sounds.items ≡ map (λ c. c.parts) (contracts_model methods) },
     ghost lowered: { map graph_model graphs.items ≡ map graph_of (methods_model methods) },
     ghost told: { map repeated_in repeats.items ≡ map (λ m. again_in (graph_of m)) (methods_model methods) } by { Prim.hlevel props },
-    ghost asked: { kind_lists parameters.items ≡ map (λ m. map (λ v. v.kind) (formed.parameters m)) (methods_model methods) },
+    ghost asked: { type_lists parameters.items ≡ map (λ m. map (λ v. v.ty) (formed.parameters m)) (methods_model methods) },
 }
 
 impl Program {
@@ -145,25 +145,25 @@ fn is_parameter(role: Role) -> bool
 }
 
 /// What a method takes for its parameters of the exchange heap.
-fn kinds_of(alloc: Global, method: &Method) -> Result<Vec<HeapKind>, Memory>
-    ensures { IfOk result (λ kinds. kinds.items ≡ map (λ v. v.kind) (parameters (method_model method.now))) }
+fn types_of(alloc: Global, method: &Method) -> Result<Vec<HeapType>, Memory>
+    ensures { IfOk result (λ types. types.items ≡ map (λ v. v.ty) (parameters (method_model method.now))) }
 {
-    let mut kinds = Vec::new(alloc);
+    let mut types = Vec::new(alloc);
     for variable in &method.variables {
         if is_parameter(variable.role) {
-            kinds.push(variable.kind)?;
+            types.push(variable.ty)?;
         }
     }
-    Ok(kinds)
+    Ok(types)
 }
 
 /// What each of these methods takes for its parameters of the exchange heap.
-fn parameters_of(alloc: Global, methods: &[Method]) -> Result<Vec<Vec<HeapKind>>, Memory>
-    ensures { IfOk result (λ kinds. kind_lists kinds.items ≡ map (λ m. map (λ v. v.kind) (parameters m)) (map method_model methods.now)) }
+fn parameters_of(alloc: Global, methods: &[Method]) -> Result<Vec<Vec<HeapType>>, Memory>
+    ensures { IfOk result (λ types. type_lists types.items ≡ map (λ m. map (λ v. v.ty) (parameters m)) (map method_model methods.now)) }
 {
     let mut parameters = Vec::new(alloc);
     for method in methods {
-        parameters.push(kinds_of(alloc, method)?)?;
+        parameters.push(types_of(alloc, method)?)?;
     }
     Ok(parameters)
 }

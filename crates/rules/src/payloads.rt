@@ -23,7 +23,7 @@ use crate::checks::{gives_none_again, has_something, is_not_lent};
 use crate::endpoints::is_wrong;
 use crate::here::Here;
 use crate::row::{Leaf, Row};
-use program::{HeapKind, Mention, MessageId, VarId};
+use program::{HeapType, Mention, MessageId, VarId};
 
 /// Where something goes for good.
 #[derive(Clone, Copy)]
@@ -93,14 +93,14 @@ fn first_again(taker: Taker, payloads: &[Mention]) -> Option<Mention>
     None
 }
 
-/// That what goes there, where this kind is asked, is in its state.
-fn is_in_state(here: &Here<'_>, taker: Taker, kind: HeapKind, mention: Mention) -> Option<Breach>
+/// That what goes there, where this type is asked, is in its state.
+fn is_in_state(here: &Here<'_>, taker: Taker, ty: HeapType, mention: Mention) -> Option<Breach>
     ensures { check_model (breach_model (model_of here.now.program.now) (method_model here.now.method.now)) result ≡ refused
-        (is_wrong kind (leaf_at (row_model here.now.row.now) mention.variable.0))
+        (is_wrong ty (leaf_at (row_model here.now.row.now) mention.variable.0))
         (wrong_in (model_of here.now.program.now) (method_model here.now.method.now) taker
         (name_of (method_model here.now.method.now) mention.variable.0) mention.place) }
 {
-    if !is_wrong(kind, here.row.leaf(mention.variable)) {
+    if !is_wrong(ty, here.row.leaf(mention.variable)) {
         return None;
     }
     let reason = taker.wrong_state(mention.variable);
@@ -111,12 +111,12 @@ fn is_in_state(here: &Here<'_>, taker: Taker, kind: HeapKind, mention: Mention) 
 pub(crate) fn can_be_taken(
     here: &Here<'_>,
     taker: Taker,
-    kind: HeapKind,
+    ty: HeapType,
     mention: Mention,
 ) -> Option<Breach>
     ensures { StandsFor (breach_model (model_of here.now.program.now) (method_model here.now.method.now)) result
         (taken_checks (method_model here.now.method.now) (row_model here.now.row.now)
-        (wrong_in (model_of here.now.program.now) (method_model here.now.method.now) taker) kind (payload mention)) }
+        (wrong_in (model_of here.now.program.now) (method_model here.now.method.now) taker) ty (payload mention)) }
 {
     if let Some(breach) = is_not_lent(here, mention) {
         return Some(breach);
@@ -124,27 +124,27 @@ pub(crate) fn can_be_taken(
     if let Some(breach) = has_something(here, mention) {
         return Some(breach);
     }
-    is_in_state(here, taker, kind, mention)
+    is_in_state(here, taker, ty, mention)
 }
 
-/// The checks of all that goes there at once, where these kinds are asked.
+/// The checks of all that goes there at once, where these types are asked.
 pub(crate) fn can_all_be_taken(
     here: &Here<'_>,
     taker: Taker,
-    kinds: &[HeapKind],
+    types: &[HeapType],
     payloads: &[Mention],
 ) -> Option<Breach>
     ensures { StandsFor (breach_model (model_of here.now.program.now) (method_model here.now.method.now)) result
         (all_taken (method_model here.now.method.now) (besides taker) (row_model here.now.row.now)
-        (wrong_in (model_of here.now.program.now) (method_model here.now.method.now) taker) kinds.now (map payload payloads.now)) }
+        (wrong_in (model_of here.now.program.now) (method_model here.now.method.now) taker) types.now (map payload payloads.now)) }
 {
     let again = first_again(taker, payloads);
     if let Some(breach) = gives_none_again(here, again) {
         return Some(breach);
     }
-    for number in 0..kinds.len().min(payloads.len()) {
-        let (kind, given) = (kinds[number], payloads[number]);
-        if let Some(breach) = can_be_taken(here, taker, kind, given) {
+    for number in 0..types.len().min(payloads.len()) {
+        let (ty, given) = (types[number], payloads[number]);
+        if let Some(breach) = can_be_taken(here, taker, ty, given) {
             return Some(breach);
         }
     }

@@ -55,12 +55,12 @@ pub(crate) fn return_(here: &Here<'_>, returning: Returning) -> Onward
 /// That what a method gives is in the state of its result.
 fn is_in_state(here: &Here<'_>, value: Mention) -> Option<Breach>
     ensures { check_model (breach_model (model_of here.now.program.now) (method_model here.now.method.now)) result ≡ refused
-        (option_map_or (λ kind. endpoints.is_wrong kind (leaf_at (row_model here.now.row.now) value.variable.0))
+        (option_map_or (λ ty. endpoints.is_wrong ty (leaf_at (row_model here.now.row.now) value.variable.0))
         (method_model here.now.method.now).result false)
         (wrong_for_result (mentions.name_of (method_model here.now.method.now) value.variable.0) value.place) }
 {
-    let kind = here.method.result?;
-    if !is_wrong(kind, here.row.leaf(value.variable)) {
+    let ty = here.method.result?;
+    if !is_wrong(ty, here.row.leaf(value.variable)) {
         return None;
     }
     Some(Breach::at(value.place, Reason::WrongForResult(value.variable)))
@@ -96,11 +96,11 @@ fn is_not_back(here: &Here<'_>, variable: VarId) -> bool
 /// Whether a variable is a lent endpoint whose declared state is another than this.
 fn is_lent_elsewhere(method: &Method, variable: VarId, state: u32) -> bool
     ensures { result ≡ (mentions.is_lent (method_model method.now) variable.0
-        && option_map_or (λ kind. endpoints.is_wrong kind (Leaf.State state)) (endpoints.kind_of (method_model method.now) variable.0)
+        && option_map_or (λ ty. endpoints.is_wrong ty (Leaf.State state)) (endpoints.type_of (method_model method.now) variable.0)
         false) }
 {
     match method.variables.get(variable.0) {
-        Some(found) => is_lent_role(found.role) && is_wrong(found.kind, Leaf::State(state)),
+        Some(found) => is_lent_role(found.role) && is_wrong(found.ty, Leaf::State(state)),
         None => false,
     }
 }

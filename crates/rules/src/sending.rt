@@ -15,14 +15,14 @@ ghost use Rattle.rules.specs.RuleTable.{instruction_outcome};
 
 use crate::breach::{Breach, Reason};
 use crate::checks::has_something;
-use crate::endpoints::kind_of;
+use crate::endpoints::type_of;
 use crate::here::{Here, Site};
 use crate::lowered::Program;
 use crate::onward::Onward;
 use crate::payloads::{Taker, can_all_be_taken, claim_payloads};
 use crate::row::{Leaf, Row};
 use flow::Sending;
-use program::{HeapKind, MessageId};
+use program::{HeapType, MessageId};
 
 /// A message is sent. What it takes with it is gone, and its endpoint is in the next state, or still cut off.
 pub(crate) fn send(site: &Site<'_>, row: &mut Row, sending: &Sending) -> Onward
@@ -43,14 +43,14 @@ pub(crate) fn send(site: &Site<'_>, row: &mut Row, sending: &Sending) -> Onward
         return Onward::Found(breach);
     }
     let payloads = sending.payloads.as_slice();
-    let kinds = site.program.brought(message);
+    let types = site.program.brought(message);
     let taker = Taker::Message { endpoint, message };
-    if let Some(breach) = can_all_be_taken(&here, taker, kinds, payloads) {
+    if let Some(breach) = can_all_be_taken(&here, taker, types, payloads) {
         return Onward::Found(breach);
     }
-    let kind = kind_of(site.method, endpoint.variable);
+    let ty = type_of(site.method, endpoint.variable);
     let leaf = row.leaf(endpoint.variable);
-    let sent = sent_leaf(site.program, kind, message, leaf);
+    let sent = sent_leaf(site.program, ty, message, leaf);
     let Some(after) = sent else {
         let endpoint = endpoint.variable;
         let reason = Reason::NotSent { endpoint, message };
@@ -64,20 +64,20 @@ pub(crate) fn send(site: &Site<'_>, row: &mut Row, sending: &Sending) -> Onward
 /// What an endpoint has behind a send of the message: nothing is answered where it is in a state that does not send it.
 fn sent_leaf(
     program: &Program,
-    kind: Option<HeapKind>,
+    ty: Option<HeapType>,
     message: MessageId,
     leaf: Leaf,
 ) -> Option<Leaf>
     requires numbered { IsNumbered leaf }
     ensures sent { MatchOption result
-        (table.lacks_edge (model_of program.now) kind message.0 leaf ≡ true)
-        (λ after. (table.lacks_edge (model_of program.now) kind message.0 leaf ≡ false)
-        × (after ≡ table.sent_leaf (model_of program.now) kind message.0 leaf)) }
+        (table.lacks_edge (model_of program.now) ty message.0 leaf ≡ true)
+        (λ after. (table.lacks_edge (model_of program.now) ty message.0 leaf ≡ false)
+        × (after ≡ table.sent_leaf (model_of program.now) ty message.0 leaf)) }
     ensures numbered { IfSome result IsNumbered }
 {
     match leaf {
         Leaf::State(state) => {
-            let next = program.state_after_send(kind, state, message)?;
+            let next = program.state_after_send(ty, state, message)?;
             Some(Leaf::State(next.0))
         }
         Leaf::Nothing | Leaf::Block | Leaf::CutOff => Some(leaf),

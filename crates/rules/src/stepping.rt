@@ -26,29 +26,29 @@ use crate::row::{Leaf, Row};
 use crate::spare::Spare;
 use crate::table::apply;
 use flow::{Branches, Instr};
-use program::{HeapKind, MethodId, Role, Variable};
+use program::{HeapType, MethodId, Role, Variable};
 use source::Memory;
 use std::alloc::Global;
 
 /// What a variable has where its method begins.
-fn first_leaf(role: Role, kind: HeapKind) -> Leaf
-    ensures { result ≡ entry_leaf role kind }
+fn first_leaf(role: Role, ty: HeapType) -> Leaf
+    ensures { result ≡ entry_leaf role ty }
 {
     match role {
         Role::Local => Leaf::Nothing,
-        Role::Lent | Role::Claimed => declared_leaf(kind),
+        Role::Lent | Role::Claimed => declared_leaf(ty),
     }
 }
 
 /// The row with which a method of these variables begins.
 fn first_row(alloc: Global, variables: &[Variable]) -> Result<Row, Memory>
     requires few { length variables.now ≤ MOST_VARIABLES }
-    requires numbered { All (λ v. IsNumbered (declared_leaf v.kind)) variables.now }
-    ensures { IfOk result (λ row. row_model row ≡ map (λ v. entry_leaf v.role v.kind) variables.now) }
+    requires numbered { All (λ v. IsNumbered (declared_leaf v.ty)) variables.now }
+    ensures { IfOk result (λ row. row_model row ≡ map (λ v. entry_leaf v.role v.ty) variables.now) }
 {
     let leaves = variables
         .iter()
-        .map(|v| first_leaf(v.role, v.kind))
+        .map(|v| first_leaf(v.role, v.ty))
         .collect(alloc)?;
     Ok(Row { leaves })
 }

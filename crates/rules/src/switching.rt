@@ -22,13 +22,13 @@ ghost use Rattle.rules.specs.Switches.{bound_leaves};
 
 use crate::breach::{Breach, Reason};
 use crate::checks::has_something;
-use crate::endpoints::{declared_leaf, kind_of};
+use crate::endpoints::{declared_leaf, type_of};
 use crate::here::Here;
 use crate::onward::Onward;
 use crate::row::{Leaf, Row};
 use crate::spare::Spare;
 use flow::Cases;
-use program::{Edge, HeapKind, Mention, VarId};
+use program::{Edge, HeapType, Mention, VarId};
 use source::{Memory, Place};
 
 /// A switch waits. It goes on at a case for each message that may come at one of its endpoints, and for the close of each.
@@ -82,8 +82,8 @@ fn is_to_send(here: &Here<'_>, endpoint: Mention) -> bool
 {
     match here.row.leaf(endpoint.variable) {
         Leaf::State(state) => {
-            let kind = kind_of(here.method, endpoint.variable);
-            here.program.sends(kind, state)
+            let ty = type_of(here.method, endpoint.variable);
+            here.program.sends(ty, state)
         }
         Leaf::Nothing | Leaf::Block | Leaf::CutOff => false,
     }
@@ -105,8 +105,8 @@ fn awaited_edges<'a>(here: &Here<'a>, endpoint: Mention) -> &'a [Edge]
 {
     match here.row.leaf(endpoint.variable) {
         Leaf::State(state) => {
-            let kind = kind_of(here.method, endpoint.variable);
-            here.program.edges_in(kind, state)
+            let ty = type_of(here.method, endpoint.variable);
+            here.program.edges_in(ty, state)
         }
         Leaf::Nothing | Leaf::Block | Leaf::CutOff => &[],
     }
@@ -146,12 +146,12 @@ fn are_covered(here: &Here<'_>, cases: &Cases) -> Option<Breach>
 }
 
 /// What the variables take that a case binds.
-fn bind(row: &mut Row, targets: &[VarId], kinds: &[HeapKind])
-    requires numbered { All (λ kind. IsNumbered (declared_leaf kind)) kinds.now }
-    ensures { row_model row.new ≡ bound_leaves (row_model row.old) targets.now kinds.now }
+fn bind(row: &mut Row, targets: &[VarId], types: &[HeapType])
+    requires numbered { All (λ ty. IsNumbered (declared_leaf ty)) types.now }
+    ensures { row_model row.new ≡ bound_leaves (row_model row.old) targets.now types.now }
 {
-    for number in 0..targets.len().min(kinds.len()) {
-        row.set(targets[number], declared_leaf(kinds[number]));
+    for number in 0..targets.len().min(types.len()) {
+        row.set(targets[number], declared_leaf(types[number]));
     }
 }
 

@@ -197,9 +197,9 @@ fn call(site: &Site<'_>, row: &mut Row, calling: &Calling) -> Onward
         method: site.method,
         row,
     };
-    let kinds = site.program.parameter_kinds(calling.method);
+    let types = site.program.parameter_types(calling.method);
     let again = site.repeats.at(site.point);
-    if let Some(breach) = can_give_all(&here, again, kinds, &calling.arguments) {
+    if let Some(breach) = can_give_all(&here, again, types, &calling.arguments) {
         return Onward::Found(breach);
     }
     claim_all(row, &calling.arguments);
@@ -230,9 +230,9 @@ fn start(site: &Site<'_>, row: &mut Row, starting: &Starting) -> Onward
         method: site.method,
         row,
     };
-    let kinds = site.program.parameter_kinds(starting.method);
+    let types = site.program.parameter_types(starting.method);
     let again = site.repeats.at(site.point);
-    if let Some(breach) = can_give_all(&here, again, kinds, &starting.arguments) {
+    if let Some(breach) = can_give_all(&here, again, types, &starting.arguments) {
         return Onward::Found(breach);
     }
     claim_all(row, &starting.arguments);

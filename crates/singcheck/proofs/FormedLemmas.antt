@@ -11,7 +11,7 @@ use Rattle.program.specs.Methods.{MethodModel}
 use Rattle.program.specs.Parts.{ContractModel, IsWhole}
 use Rattle.program.specs.Programs.{ProgramModel}
 use Rattle.program.specs.WellFormed.{AreWellFormed}
-use Rattle.program.specs.declared.kind.HeapKind.{HeapKind}
+use Rattle.program.specs.declared.types.HeapType.{HeapType}
 use Rattle.contracts.specs.Conditions.{IsSound}
 use Rattle.resolving.specs.Brought.{messages_told}
 use Rattle.resolving.specs.Fields.{structs_told}
@@ -35,8 +35,8 @@ formed_of laws text p has =
     let q = of_items text p has in
     let told = resolved_contracts text (contracts_of has.items) in
     subst (λ (cs : List ContractModel). AreWellFormed cs p.messages p.structs p.methods) (sym has.program.are)
-    (subst (λ (ms : List (List HeapKind)). AreWellFormed told ms p.structs p.methods) (sym has.messages)
-    (subst (λ (ss : List (List HeapKind)). AreWellFormed told (messages_told q) ss p.methods) (sym has.structs)
+    (subst (λ (ms : List (List HeapType)). AreWellFormed told ms p.structs p.methods) (sym has.messages)
+    (subst (λ (ss : List (List HeapType)). AreWellFormed told (messages_told q) ss p.methods) (sym has.structs)
     (subst (λ (ms : List MethodModel). AreWellFormed told (messages_told q) (structs_told q) ms) (sym has.methods)
     (laws.formed q has.program.clean))))
 

@@ -5,8 +5,8 @@ use Rattle.std.proofs.lemmas.List.Elements.{All-head, All-tail}
 use Rattle.tree.specs.Trees.{contracts_of}
 use Rattle.program.specs.Parts.{ContractModel, IsWhole, Parts}
 use Rattle.program.specs.Programs.{ProgramModel}
-use Rattle.program.specs.declared.kind.Side.{Side}
-use Rattle.program.specs.declared.kind.Side.TheVariants.{Exp, Imp}
+use Rattle.program.specs.declared.types.Side.{Side}
+use Rattle.program.specs.declared.types.Side.TheVariants.{Exp, Imp}
 use Rattle.names.specs.Findings.{program_mistakes}
 use Rattle.declarations.specs.Program.{Program}
 use Rattle.declarations.specs.Resolution.{resolved_contracts}

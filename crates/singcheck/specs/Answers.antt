@@ -15,7 +15,7 @@ use Rattle.tree.specs.Spelled.{Spells}
 use Rattle.syntax.specs.Parsing.{IsFirstWrong}
 use Rattle.tree.specs.Programs.{program}
 use Rattle.tree.specs.Trees.{ItemTree, contracts_of}
-use Rattle.program.specs.declared.kind.Side.TheVariants.{Exp, Imp}
+use Rattle.program.specs.declared.types.Side.TheVariants.{Exp, Imp}
 use Rattle.names.specs.Findings.{program_findings, program_mistakes}
 use Rattle.program.specs.Parts.{ContractModel}
 use Rattle.declarations.specs.Resolution.{resolved_contracts}

@@ -9,8 +9,8 @@ use Rattle.program.specs.Methods.{MethodModel, VariableModel}
 use Rattle.program.specs.Parts.{ContractModel}
 use Rattle.program.specs.Programs.{ProgramModel}
 use Rattle.program.specs.WellFormed.{is_end}
-use Rattle.program.specs.declared.kind.Side.TheVariants.{Imp, Exp}
-use Rattle.program.specs.declared.kind.Side.{Side}
+use Rattle.program.specs.declared.types.Side.TheVariants.{Imp, Exp}
+use Rattle.program.specs.declared.types.Side.{Side}
 use Rattle.program.specs.declared.number.MessageId.{MessageId}
 use Rattle.program.specs.declared.statement.Channel as channel
 use Rattle.program.specs.declared.statement.Exchange as stated
@@ -21,13 +21,13 @@ use Rattle.flow.specs.Lowering.{graph_of}
 use Rattle.contracts.specs.Bounds.{sign_to}
 use Rattle.contracts.specs.TwoEnds.{HeldAlways, NeverLonger}
 use Rattle.rules.specs.Endpoints.{first_state}
-use Rattle.machine.specs.Blocks.{handed, is_own_still, new_block, owns_none, end_kind}
-use Rattle.machine.specs.Frames.{method_at, variables_of, kind_at, payloads_claimed, address, addresses, choices, point_instruction}
+use Rattle.machine.specs.Blocks.{handed, is_own_still, new_block, owns_none, end_type}
+use Rattle.machine.specs.Frames.{method_at, variables_of, type_at, payloads_claimed, address, addresses, choices, point_instruction}
 use Rattle.machine.specs.Machine.{outcome_of, outcome_in}
 use Rattle.machine.specs.Machine.{event_outcome}
 use Rattle.machine.specs.Outcomes.{Outcome, NoChoice, Bounds, tested}
 use Rattle.machine.specs.Runs.{Run, begins, goes_on}
-use Rattle.machine.specs.World.{no_kind, MessageHeld, Block, Frame, World, block_at, stack_at, changed, read, owns, let_go}
+use Rattle.machine.specs.World.{no_type, MessageHeld, Block, Frame, World, block_at, stack_at, changed, read, owns, let_go}
 use Rattle.machine.specs.Heaps.{top}
 use Rattle.machine.specs.declared.worlds.Owner.TheVariants.{Inside}
 use Rattle.machine.specs.declared.halts.Event.{Event}
@@ -56,7 +56,7 @@ use Rattle.machine.proofs.ChangeLemmas.{eqb_same, true≢false}
 
 -- What is asked of an instruction, whatever is found: a new block is no endpoint, and the contract of a new channel is there.
 abbrev pub IsMadeWell : ProgramModel → MethodModel → Instruction → Type 0
-IsMadeWell p m (New v arguments next) = is_end (kind_at m.variables v.variable.0) ≡ false
+IsMadeWell p m (New v arguments next) = is_end (type_at m.variables v.variable.0) ≡ false
 IsMadeWell p m (NewChannel c next) = (x : ContractModel) × (slice_get p.contracts c.contract.0 ≡ Some x)
 IsMadeWell p m _ = Unit {0}
 
@@ -86,14 +86,14 @@ module _ (p : ProgramModel) (bound : Bounds) (w : World) (self : ℕ) (f : Frame
       (given_once p bound w self f rest h [] (payloads_claimed payloads) (payloads_claim payloads) given x).1
 
   new_fits : (m : MethodModel) (v : Mention) (arguments : List Mention) → method_at p f.method ≡ Some m
-      → is_end (kind_at m.variables v.variable.0) ≡ false → AreGiven p bound w self f rest h [] (payloads_claimed arguments)
+      → is_end (type_at m.variables v.variable.0) ≡ false → AreGiven p bound w self f rest h [] (payloads_claimed arguments)
       → RunFits p (changed (handed (Inside (length w.blocks)) (addresses f.variables (payloads_claimed arguments))) w.blocks
-      ++ new_block (kind_at (variables_of p f.method) v.variable.0) self 0 0 (addresses f.variables (payloads_claimed arguments)) ∷ [])
+      ++ new_block (type_at (variables_of p f.method) v.variable.0) self 0 0 (addresses f.variables (payloads_claimed arguments)) ∷ [])
   new_fits m v arguments there plain given =
       let xs = addresses f.variables (payloads_claimed arguments) in
-      let k = kind_at (variables_of p f.method) v.variable.0 in
+      let k = type_at (variables_of p f.method) v.variable.0 in
       let no_end : is_end k ≡ false = ap (λ (o : Option MethodModel). is_end
-      (kind_at (option_map_or (λ x. x.variables) o []) v.variable.0)) there ∙ plain in
+      (type_at (option_map_or (λ x. x.variables) o []) v.variable.0)) there ∙ plain in
       let mine = given_mine p bound w self f rest h [] (payloads_claimed arguments) given in
       record {
         fits = made.fits_now p w self h.fits xs k mine (once_given arguments given) no_end;
@@ -112,11 +112,11 @@ module _ (p : ProgramModel) (bound : Bounds) (w : World) (self : ℕ) (f : Frame
       (address (read f.variables e.given.variable.0)) held own_at own_given apart is
 
   channel_fits : (c : channel.Channel) (held : ContractModel) → slice_get p.contracts c.contract.0 ≡ Some held
-      → RunFits p (w.blocks ++ new_block (end_kind c Imp) self (length w.blocks + 1) (first_state p c.contract.0) []
-      ∷ new_block (end_kind c Exp) self (length w.blocks) (first_state p c.contract.0) [] ∷ [])
+      → RunFits p (w.blocks ++ new_block (end_type c Imp) self (length w.blocks + 1) (first_state p c.contract.0) []
+      ∷ new_block (end_type c Exp) self (length w.blocks) (first_state p c.contract.0) [] ∷ [])
   channel_fits c held there =
-      let more = new_block (end_kind c Imp) self (length w.blocks + 1) (first_state p c.contract.0) []
-      ∷ new_block (end_kind c Exp) self (length w.blocks) (first_state p c.contract.0) [] ∷ [] in
+      let more = new_block (end_type c Imp) self (length w.blocks + 1) (first_state p c.contract.0) []
+      ∷ new_block (end_type c Exp) self (length w.blocks) (first_state p c.contract.0) [] ∷ [] in
       let fresh = opened.fresh p w.blocks self c held there h.fits.channels in
       record {
         fits = record {
@@ -214,7 +214,7 @@ module _ (always : HeldAlways) (longer : NeverLonger) (p : ProgramModel) (bound 
 short : NeverLonger → (p : ProgramModel) (bound : Bounds) → IsSoundProgram p bound → (bs : List Block) → ChannelsFit p bs
     → (a c : ℕ) (side : Side) → IsLiveEnd bs a c side → length (block_at bs a).queue ≤ bound c side
 short longer p bound sound bs channels a c side live =
-    let ch = channel_of p bs a c side channels live.there live.lives (ap stateless live.kind) in
+    let ch = channel_of p bs a c side channels live.there live.lives (ap stateless live.ty) in
     let most = longer ch.contract.parts ch.ends.n ch.ends.ends (sign_to side) (bound c side) (sound.whole c ch.contract ch.there)
     (sound.sound c ch.contract ch.there) (sound.bounds c ch.contract side ch.there) ch.ends.moves in
     let same = ap length ch.ends.mine.queue in
@@ -225,7 +225,7 @@ short longer p bound sound bs channels a c side live =
 -- a graph that fits makes well
 fit_made : (p : ProgramModel) (m : MethodModel) (scope : Scope) (point : ℕ) (i : Instruction) → IsFit p m scope point i → IsMadeWell p m i
 fit_made p m scope point (New v arguments next) fit =
-    ap (λ (o : Option VariableModel). is_end (option_map_or (λ x. x.kind) o no_kind)) fit.there ∙ fit.block
+    ap (λ (o : Option VariableModel). is_end (option_map_or (λ x. x.ty) o no_type)) fit.there ∙ fit.block
 fit_made p m scope point (NewChannel c next) fit = (fit.contract, fit.contract_there)
 fit_made p m scope point (Use v next) fit = tt
 fit_made p m scope point (Move v u next) fit = tt

@@ -6,12 +6,12 @@ use Rattle.program.specs.Lists.{Each}
 use Rattle.program.specs.Methods.{MethodModel, VariableModel}
 use Rattle.program.specs.Parts.{ContractModel}
 use Rattle.program.specs.Programs.{ProgramModel}
-use Rattle.program.specs.WellFormed.{field_kinds, is_end}
+use Rattle.program.specs.WellFormed.{field_types, is_end}
 use Rattle.program.specs.declared.call.Argument.{Argument}
-use Rattle.program.specs.declared.kind.HeapKind.TheVariants.{Endpoint}
-use Rattle.program.specs.declared.kind.HeapKind.{HeapKind}
-use Rattle.program.specs.declared.kind.Side.TheVariants.{Imp, Exp}
-use Rattle.program.specs.declared.kind.Side.{Side}
+use Rattle.program.specs.declared.types.HeapType.TheVariants.{Endpoint}
+use Rattle.program.specs.declared.types.HeapType.{HeapType}
+use Rattle.program.specs.declared.types.Side.TheVariants.{Imp, Exp}
+use Rattle.program.specs.declared.types.Side.{Side}
 use Rattle.program.specs.declared.method.Role.TheVariants as role
 use Rattle.program.specs.declared.method.Role.{Role}
 use Rattle.program.specs.declared.statement.Mention.{Mention}
@@ -38,26 +38,26 @@ use Rattle.machine.specs.World.{MessageHeld, Block, Frame, World, block_at, stac
 use Rattle.sound.specs.Operands.{stateless}
 
 -- ---- what a leaf says of an address
-abbrev pub IsOn : List Block → HeapKind → ℕ → Leaf → Type 0
+abbrev pub IsOn : List Block → HeapType → ℕ → Leaf → Type 0
 IsOn bs k a leaf.Nothing = ⊥
 IsOn bs k a leaf.Block = is_end k ≡ false
 IsOn bs k a leaf.CutOff = (is_end k ≡ true) × (cut_off bs a ≡ true)
 IsOn bs k a (leaf.State q) = (is_end k ≡ true) × (((block_at bs a).state ≡ q) ⊎ (cut_off bs a ≡ true))
 
-pub record HasLeaf (bs : List Block) (k : HeapKind) (a : ℕ) (l : Leaf) : Type 0 where
+pub record HasLeaf (bs : List Block) (k : HeapType) (a : ℕ) (l : Leaf) : Type 0 where
   pub there : a < length bs
-  pub kind : stateless (block_at bs a).kind ≡ stateless k
+  pub ty : stateless (block_at bs a).ty ≡ stateless k
   pub state : IsOn bs k a l
 
 -- none, and nothing; or an address of which the leaf holds
-abbrev pub LeafFits : List Block → HeapKind → Option ℕ → Leaf → Type 0
+abbrev pub LeafFits : List Block → HeapType → Option ℕ → Leaf → Type 0
 LeafFits bs k None l = l ≡ leaf.Nothing
 LeafFits bs k (Some a) l = HasLeaf bs k a l
 
 pub record RowFits (bs : List Block) (variables : List VariableModel) (vs : List (Option ℕ)) (row : List Leaf) : Type 0 where
   pub long : length vs ≡ length variables
   pub row_long : length row ≡ length variables
-  pub each : (v : ℕ) (x : VariableModel) → slice_get variables v ≡ Some x → LeafFits bs x.kind (read vs v) (leaf_at row v)
+  pub each : (v : ℕ) (x : VariableModel) → slice_get variables v ≡ Some x → LeafFits bs x.ty (read vs v) (leaf_at row v)
 
 -- ---- who has what; an address that is lent counts where it was lent to
 abbrev pub one_at : ℕ → Option ℕ → ℕ
@@ -98,7 +98,7 @@ pub record TopFits (p : ProgramModel) (bs : List Block) (f : Frame) : Type 0 whe
   pub fits : RowFits bs m.variables f.variables row
 
 -- a variable that was lent: the address that the parameter has, and its leaf before the call, the declared one or cut off
-pub record IsLent (bs : List Block) (k : HeapKind) (mine theirs : Option ℕ) (l : Leaf) : Type 0 where
+pub record IsLent (bs : List Block) (k : HeapType) (mine theirs : Option ℕ) (l : Leaf) : Type 0 where
   pub at : ℕ
   pub within : at < length bs
   pub mine_is : mine ≡ Some at
@@ -120,7 +120,7 @@ AreLent bs mine before [] ys arguments = arguments ≡ []
 AreLent bs mine before (x ∷ xs) [] arguments = ⊥
 AreLent bs mine before (x ∷ xs) (y ∷ ys) arguments =
     by_role x.role (AreLent bs mine before xs ys arguments)
-    (with_first (λ a. (a.claimed ≡ false) × IsLent bs x.kind (read mine a.mention.variable.0) y (leaf_at before a.mention.variable.0))
+    (with_first (λ a. (a.claimed ≡ false) × IsLent bs x.ty (read mine a.mention.variable.0) y (leaf_at before a.mention.variable.0))
     (AreLent bs mine before xs ys) arguments)
     (with_first (λ a. (a.claimed ≡ true) × (read mine a.mention.variable.0 ≡ None)) (AreLent bs mine before xs ys) arguments)
 
@@ -165,10 +165,10 @@ abbrev pub in_queue : ℕ → List MessageHeld → ℕ
 in_queue x [] = 0
 in_queue x (m ∷ ms) = standing_in x m.payload + in_queue x ms
 
--- addresses of these kinds, each as it is declared
-abbrev pub AreDeclared : List Block → List HeapKind → List ℕ → Type 0
+-- addresses of these types, each as it is declared
+abbrev pub AreDeclared : List Block → List HeapType → List ℕ → Type 0
 AreDeclared bs [] [] = Unit {0}
-AreDeclared bs (k ∷ kinds) (a ∷ given) = HasLeaf bs k a (declared_leaf k) × AreDeclared bs kinds given
+AreDeclared bs (k ∷ types) (a ∷ given) = HasLeaf bs k a (declared_leaf k) × AreDeclared bs types given
 AreDeclared bs _ _ = ⊥
 
 abbrev pub AreBrought : ProgramModel → List Block → List MessageHeld → Type 0
@@ -178,7 +178,7 @@ AreBrought p bs queue = Each (λ m. AreDeclared bs (brought p m.message) m.paylo
 -- the fields of each block that is not freed hold what they are declared with
 abbrev pub FieldsDeclared : ProgramModel → List Block → Type 0
 FieldsDeclared p bs = (a : ℕ) → a < length bs → freed bs a ≡ false
-    → AreDeclared bs (field_kinds p.structs (block_at bs a).kind) (block_at bs a).fields
+    → AreDeclared bs (field_types p.structs (block_at bs a).ty) (block_at bs a).fields
 
 -- ---- channels
 -- an end that lives is as two ends say
@@ -191,7 +191,7 @@ pub record ChannelFits (p : ProgramModel) (bs : List Block) (a c : ℕ) : Type 0
   pub peer : ℕ
   pub peer_is : (block_at bs a).peer ≡ peer
   pub peer_there : peer < length bs
-  pub peer_kind : stateless (block_at bs peer).kind ≡ Endpoint record { 0 = c } Exp record { 0 = 0 }
+  pub peer_type : stateless (block_at bs peer).ty ≡ Endpoint record { 0 = c } Exp record { 0 = 0 }
   pub back : (block_at bs peer).peer ≡ a
   pub contract : ContractModel
   pub contract_there : slice_get p.contracts c ≡ Some contract
@@ -206,13 +206,13 @@ pub record IsPeer (bs : List Block) (a c : ℕ) : Type 0 where
   pub peer : ℕ
   pub peer_is : (block_at bs a).peer ≡ peer
   pub peer_there : peer < length bs
-  pub peer_kind : stateless (block_at bs peer).kind ≡ Endpoint record { 0 = c } Imp record { 0 = 0 }
+  pub peer_type : stateless (block_at bs peer).ty ≡ Endpoint record { 0 = c } Imp record { 0 = 0 }
   pub back : (block_at bs peer).peer ≡ a
 
 pub record ChannelsFit (p : ProgramModel) (bs : List Block) : Type 0 where
-  pub imp : (a c : ℕ) → a < length bs → stateless (block_at bs a).kind ≡ Endpoint record { 0 = c } Imp record { 0 = 0 }
+  pub imp : (a c : ℕ) → a < length bs → stateless (block_at bs a).ty ≡ Endpoint record { 0 = c } Imp record { 0 = 0 }
       → ChannelFits p bs a c
-  pub exp : (a c : ℕ) → a < length bs → stateless (block_at bs a).kind ≡ Endpoint record { 0 = c } Exp record { 0 = 0 } → IsPeer bs a c
+  pub exp : (a c : ℕ) → a < length bs → stateless (block_at bs a).ty ≡ Endpoint record { 0 = c } Exp record { 0 = 0 } → IsPeer bs a c
 
 -- what holds of the blocks of every run, whatever its verdicts
 pub record BlocksFit (p : ProgramModel) (bs : List Block) : Type 0 where

@@ -8,8 +8,8 @@ use Rattle.std.specs.Prelude.{Option, ◌⊎◌, slice_get}
 use Rattle.program.specs.Methods.{MethodModel, VariableModel}
 use Rattle.program.specs.Programs.{ProgramModel}
 use Rattle.program.specs.declared.call.Argument.{Argument}
-use Rattle.program.specs.WellFormed.{field_kinds}
-use Rattle.program.specs.declared.kind.HeapKind.{HeapKind}
+use Rattle.program.specs.WellFormed.{field_types}
+use Rattle.program.specs.declared.types.HeapType.{HeapType}
 use Rattle.program.specs.declared.method.Role.TheVariants as role
 use Rattle.program.specs.declared.method.Role.{Role}
 use Rattle.flow.specs.Graphs.{Call}
@@ -37,13 +37,13 @@ use Rattle.machine.proofs.ChangeLemmas.{eqb_same, true≢false}
 -- the block stays what it is, but for an endpoint that is cut off then
 pub record IsKept (bs bs' : List Block) (a : ℕ) : Type 0 where
   pub there : a < length bs'
-  pub kind : (block_at bs' a).kind ≡ (block_at bs a).kind
+  pub ty : (block_at bs' a).ty ≡ (block_at bs a).ty
   pub state : ((block_at bs' a).state ≡ (block_at bs a).state) ⊎ (cut_off bs' a ≡ true)
 
 abbrev pub AreKept : List Block → List Block → (ℕ → Type 0) → Type 0
 AreKept bs bs' P = (a : ℕ) → P a → a < length bs → IsKept bs bs' a
 
-on_kept : (bs bs' : List Block) (k : HeapKind) (a : ℕ) (l : Leaf) → a < length bs → StaysCutOff bs bs' → IsKept bs bs' a → IsOn bs k a l
+on_kept : (bs bs' : List Block) (k : HeapType) (a : ℕ) (l : Leaf) → a < length bs → StaysCutOff bs bs' → IsKept bs bs' a → IsOn bs k a l
     → IsOn bs' k a l
 on_kept bs bs' k a leaf.Nothing within cut kept h = h
 on_kept bs bs' k a leaf.Block within cut kept h = h
@@ -51,12 +51,12 @@ on_kept bs bs' k a leaf.CutOff within cut kept h = (h.0, cut.each a within h.1)
 on_kept bs bs' k a (leaf.State q) within cut kept h =
     (h.0, ⊎_elim (λ e. ⊎_elim (λ same. inl (same ∙ e)) (λ c. inr c) kept.state) (λ c. inr (cut.each a within c)) h.1)
 
-pub leaf_kept : (bs bs' : List Block) (k : HeapKind) (a : ℕ) (l : Leaf) → StaysCutOff bs bs' → IsKept bs bs' a → HasLeaf bs k a l
+pub leaf_kept : (bs bs' : List Block) (k : HeapType) (a : ℕ) (l : Leaf) → StaysCutOff bs bs' → IsKept bs bs' a → HasLeaf bs k a l
     → HasLeaf bs' k a l
 leaf_kept bs bs' k a l cut kept h =
-    record { there = kept.there; kind = ap stateless kept.kind ∙ h.kind; state = on_kept bs bs' k a l h.there cut kept h.state }
+    record { there = kept.there; ty = ap stateless kept.ty ∙ h.ty; state = on_kept bs bs' k a l h.there cut kept h.state }
 
-pub fits_kept : (bs bs' : List Block) (k : HeapKind) (x : Option ℕ) (l : Leaf) → StaysCutOff bs bs'
+pub fits_kept : (bs bs' : List Block) (k : HeapType) (x : Option ℕ) (l : Leaf) → StaysCutOff bs bs'
     → ((a : ℕ) → x ≡ Some a → a < length bs → IsKept bs bs' a) → LeafFits bs k x l → LeafFits bs' k x l
 fits_kept bs bs' k None l cut kept h = h
 fits_kept bs bs' k (Some a) l cut kept h = leaf_kept bs bs' k a l cut (kept a refl h.there) h
@@ -66,7 +66,7 @@ pub row_kept : (bs bs' : List Block) (variables : List VariableModel) (vs : List
 row_kept bs bs' variables vs row cut kept h = record {
   long = h.long;
   row_long = h.row_long;
-  each = λ v x there. fits_kept bs bs' x.kind (read vs v) (leaf_at row v) cut (λ a is within. kept a (standing_read vs v a is) within)
+  each = λ v x there. fits_kept bs bs' x.ty (read vs v) (leaf_at row v) cut (λ a is within. kept a (standing_read vs v a is) within)
       (h.each v x there);
 }
 
@@ -82,7 +82,7 @@ pub first_map : (P P' : Argument → Type 0) (Q Q' : List Argument → Type 0) (
 first_map P P' Q Q' [] f g h = h
 first_map P P' Q Q' (a ∷ arguments) f g h = (f a h.0, g arguments h.1)
 
-lent_kept : (bs bs' : List Block) (k : HeapKind) (mine theirs : Option ℕ) (l : Leaf) → StaysCutOff bs bs' → IsLent bs k mine theirs l
+lent_kept : (bs bs' : List Block) (k : HeapType) (mine theirs : Option ℕ) (l : Leaf) → StaysCutOff bs bs' → IsLent bs k mine theirs l
     → IsLent bs' k mine theirs l
 lent_kept bs bs' k mine theirs l cut h =
     record {
@@ -102,7 +102,7 @@ all_lent_kept bs bs' mine before (x ∷ xs) (y ∷ ys) arguments cut h =
     (λ is r. all_lent_kept bs bs' mine before xs ys arguments cut r)
     (λ is r. first_map _ _ _ _ arguments (λ a i. (
       i.0,
-      lent_kept bs bs' x.kind (read mine a.mention.variable.0) y
+      lent_kept bs bs' x.ty (read mine a.mention.variable.0) y
           (leaf_at before a.mention.variable.0) cut i.1,
     )) (λ more i. all_lent_kept bs bs' mine before xs ys more cut i) r)
     (λ is r. first_map _ _ _ _ arguments (λ a i. i) (λ more i. all_lent_kept bs bs' mine before xs ys more cut i) r)
@@ -148,7 +148,7 @@ all_lent_stays bs mine before (x ∷ xs) (y ∷ ys) (y' ∷ ys') arguments same 
     (λ is r. first_map _ _ _ _ arguments
     (λ a i. (
       i.0,
-      subst (λ z. IsLent bs x.kind (read mine a.mention.variable.0) z (leaf_at before a.mention.variable.0))
+      subst (λ z. IsLent bs x.ty (read mine a.mention.variable.0) z (leaf_at before a.mention.variable.0))
           (sym (same.each 0 x refl (ap is_lent_role is))) i.1,
     ))
     (λ others i. all_lent_stays bs mine before xs ys ys' others more i) r)
@@ -232,15 +232,15 @@ rest_above p bs above above' m (g ∷ rest) there same stays h = (
 )
 
 -- ---- queues
-pub declared_kept : (bs bs' : List Block) (kinds : List HeapKind) (given : List ℕ) → StaysCutOff bs bs'
-    → AreKept bs bs' (λ a. 0 < standing_in a given) → AreDeclared bs kinds given → AreDeclared bs' kinds given
+pub declared_kept : (bs bs' : List Block) (types : List HeapType) (given : List ℕ) → StaysCutOff bs bs'
+    → AreKept bs bs' (λ a. 0 < standing_in a given) → AreDeclared bs types given → AreDeclared bs' types given
 declared_kept bs bs' [] [] cut kept h = h
 declared_kept bs bs' [] (a ∷ given) cut kept h = h
-declared_kept bs bs' (k ∷ kinds) [] cut kept h = h
-declared_kept bs bs' (k ∷ kinds) (a ∷ given) cut kept h =
+declared_kept bs bs' (k ∷ types) [] cut kept h = h
+declared_kept bs bs' (k ∷ types) (a ∷ given) cut kept h =
     let first : one_if (a == a) ≡ 1 = ap one_if (eqb_same a a refl) in (
       leaf_kept bs bs' k a (declared_leaf k) cut (kept a (omega arith) h.0.there) h.0,
-      declared_kept bs bs' kinds given cut
+      declared_kept bs bs' types given cut
           (λ x some within. kept x (omega arith) within) h.1,
     )
 
@@ -266,17 +266,17 @@ LiesInside bs x = (b : ℕ) × (is_inside (block_at bs x).owner b ≡ true)
 pub record SameFields (p : ProgramModel) (bs bs' : List Block) : Type 0 where
   pub cut : StaysCutOff bs bs'
   pub kept : AreKept bs bs' (LiesInside bs)
-  pub kinds : (a : ℕ) → a < length bs → (block_at bs' a).kind ≡ (block_at bs a).kind
+  pub types : (a : ℕ) → a < length bs → (block_at bs' a).ty ≡ (block_at bs a).ty
   pub lives : (a : ℕ) → a < length bs → freed bs' a ≡ false → freed bs a ≡ false
   pub fields : (a : ℕ) → a < length bs → freed bs' a ≡ false → (block_at bs' a).fields ≡ (block_at bs a).fields
 
 -- the fields of a block that was there are still as they are declared
 pub fields_kept : (p : ProgramModel) (bs bs' : List Block) (a : ℕ) → IsHeld bs → SameFields p bs bs' → FieldsDeclared p bs → a < length bs
-    → freed bs' a ≡ false → AreDeclared bs' (field_kinds p.structs (block_at bs' a).kind) (block_at bs' a).fields
+    → freed bs' a ≡ false → AreDeclared bs' (field_types p.structs (block_at bs' a).ty) (block_at bs' a).fields
 fields_kept p bs bs' a held same h within lives =
-    subst (λ (k : HeapKind). AreDeclared bs' (field_kinds p.structs k) (block_at bs' a).fields) (sym (same.kinds a within))
-    (subst (λ (xs : List ℕ). AreDeclared bs' (field_kinds p.structs (block_at bs a).kind) xs) (sym (same.fields a within lives))
-    (declared_kept bs bs' (field_kinds p.structs (block_at bs a).kind) (block_at bs a).fields same.cut
+    subst (λ (k : HeapType). AreDeclared bs' (field_types p.structs k) (block_at bs' a).fields) (sym (same.types a within))
+    (subst (λ (xs : List ℕ). AreDeclared bs' (field_types p.structs (block_at bs a).ty) xs) (sym (same.fields a within lives))
+    (declared_kept bs bs' (field_types p.structs (block_at bs a).ty) (block_at bs a).fields same.cut
     (λ x some short. same.kept x (
       a,
       one_if_true (is_inside (block_at bs x).owner a)

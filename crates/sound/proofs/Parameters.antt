@@ -7,12 +7,12 @@ use Rattle.source.specs.Findings.{FindingModel}
 use Rattle.source.specs.declared.place.Place.{Place}
 use Rattle.program.specs.Methods.{MethodModel, VariableModel}
 use Rattle.program.specs.Programs.{ProgramModel}
-use Rattle.program.specs.WellFormed.{field_kinds, is_parameter}
+use Rattle.program.specs.WellFormed.{field_types, is_parameter}
 use Rattle.program.specs.declared.call.Argument.{Argument}
-use Rattle.program.specs.declared.kind.HeapKind.{HeapKind}
+use Rattle.program.specs.declared.types.HeapType.{HeapType}
 use Rattle.program.specs.declared.statement.Mention.{Mention}
 use Rattle.rules.specs.Arguments.{argument_checks, payload, taken_checks}
-use Rattle.rules.specs.Endpoints.{field_of, fields_of, kind_of}
+use Rattle.rules.specs.Endpoints.{field_of, fields_of, type_of}
 use Rattle.rules.specs.Outcomes.{Check}
 use Rattle.rules.specs.declared.row.Leaf.{Leaf}
 
@@ -21,28 +21,28 @@ abbrev pub parameters_of : List VariableModel → List VariableModel
 parameters_of variables = filter (λ v. is_parameter v.role) variables
 
 -- and what they hold
-abbrev pub kinds_among : List VariableModel → List HeapKind
-kinds_among variables = map (λ v. v.kind) (parameters_of variables)
+abbrev pub types_among : List VariableModel → List HeapType
+types_among variables = map (λ v. v.ty) (parameters_of variables)
 
 module _ (m : MethodModel) where
-  -- the checks of arguments for parameters of these kinds, but that none is given twice
-  abbrev pub each_argument : List Leaf → List HeapKind → List Argument → List Check
-  each_argument row kinds arguments = flat_map (λ x. argument_checks m row x.0 x.1) (zip kinds arguments)
+  -- the checks of arguments for parameters of these types, but that none is given twice
+  abbrev pub each_argument : List Leaf → List HeapType → List Argument → List Check
+  each_argument row types arguments = flat_map (λ x. argument_checks m row x.0 x.1) (zip types arguments)
 
   -- likewise for what goes into a message or the fields of a new block
-  abbrev pub each_taken : List Leaf → (List ℕ → Place → FindingModel) → List HeapKind → List Mention → List Check
-  each_taken row wrong kinds given = flat_map (λ x. taken_checks m row wrong x.0 x.1) (zip kinds (map payload given))
+  abbrev pub each_taken : List Leaf → (List ℕ → Place → FindingModel) → List HeapType → List Mention → List Check
+  each_taken row wrong types given = flat_map (λ x. taken_checks m row wrong x.0 x.1) (zip types (map payload given))
 
   -- what a variable holds that is there
-  pub kind_known : (v : ℕ) (x : VariableModel) → slice_get m.variables v ≡ Some x → kind_of m v ≡ Some x.kind
-  kind_known v x there = ap (λ (o : Option VariableModel). option_map_or (λ y. Some y.kind) o None) there
+  pub type_known : (v : ℕ) (x : VariableModel) → slice_get m.variables v ≡ Some x → type_of m v ≡ Some x.ty
+  type_known v x there = ap (λ (o : Option VariableModel). option_map_or (λ y. Some y.ty) o None) there
 
   -- what its block has in its fields that own
   pub fields_known : (p : ProgramModel) (v : ℕ) (x : VariableModel) → slice_get m.variables v ≡ Some x
-      → fields_of p m v ≡ field_kinds p.structs x.kind
-  fields_known p v x there = ap (λ (o : Option HeapKind). option_map_or (λ k. field_kinds p.structs k) o []) (kind_known v x there)
+      → fields_of p m v ≡ field_types p.structs x.ty
+  fields_known p v x there = ap (λ (o : Option HeapType). option_map_or (λ k. field_types p.structs k) o []) (type_known v x there)
 
   -- what one of them holds
   pub field_known : (p : ProgramModel) (v field : ℕ) (x : VariableModel) → slice_get m.variables v ≡ Some x
-      → field_of p m v field ≡ slice_get (field_kinds p.structs x.kind) field
-  field_known p v field x there = ap (λ (kinds : List HeapKind). slice_get kinds field) (fields_known p v x there)
+      → field_of p m v field ≡ slice_get (field_types p.structs x.ty) field
+  field_known p v field x there = ap (λ (types : List HeapType). slice_get types field) (fields_known p v x there)

@@ -12,7 +12,7 @@ use Rattle.program.specs.Programs.{ProgramModel}
 use Rattle.program.specs.WellFormed.{is_parameter}
 use Rattle.program.specs.declared.call.Argument.{Argument}
 use Rattle.program.specs.declared.contract.Edge.{Edge}
-use Rattle.program.specs.declared.kind.HeapKind.{HeapKind}
+use Rattle.program.specs.declared.types.HeapType.{HeapType}
 use Rattle.program.specs.declared.method.Role.TheVariants as role
 use Rattle.program.specs.declared.method.Role.{Role}
 use Rattle.program.specs.declared.number.VarId.{VarId}
@@ -26,7 +26,7 @@ use Rattle.flow.specs.Lowering.{graph_of}
 use Rattle.flow.specs.declared.graph.Branches.TheVariants.{Either, Only}
 use Rattle.rules.specs.Arguments.{all_arguments, all_fields, all_payloads, claimed, field_checks, given_leaf, lacks_edge, payload}
 use Rattle.rules.specs.Arguments.{sent_leaf, target_checks}
-use Rattle.rules.specs.Endpoints.{brought, declared_leaf, fields_of, result_of, first_state, message_name, parameter_kinds, kind_of}
+use Rattle.rules.specs.Endpoints.{brought, declared_leaf, fields_of, result_of, first_state, message_name, parameter_types, type_of}
 use Rattle.rules.specs.Leaves.{is_something}
 use Rattle.rules.specs.Mentions.{is_lent, is_kept, has_something, given_back, is_not_lent, has_nothing, is_another}
 use Rattle.rules.specs.Outcomes.{Goes, Pair, refused}
@@ -110,18 +110,18 @@ module _ (p : ProgramModel) (m : MethodModel) (scope : (point variable : ℕ) �
       ⊎_elim (λ inside. ⊎_elim (λ still. still) (λ g. absurd (true≢false g refl)) (k.each v inside))
       (λ out. absurd (true≢false owned (ap is_something (h v out)))) (cases_Bool (scope from v))
 
-  given_in : (to : ℕ) (row : List Leaf) (k : Option HeapKind) (target : Option Mention) → IfSome target (λ v. scope to v.variable.0 ≡ true)
+  given_in : (to : ℕ) (row : List Leaf) (k : Option HeapType) (target : Option Mention) → IfSome target (λ v. scope to v.variable.0 ≡ true)
       → NoneOut (to, row) → NoneOut (to, given_leaf row k target)
   given_in to row None target inside h = h
   given_in to row (Some k) None inside h = h
   given_in to row (Some k) (Some v) inside h = set_in to row v.variable.0 (declared_leaf k) inside h
 
-  bound_in : (from to : ℕ) (row : List Leaf) (bound : List VarId) (kinds : List HeapKind) → Each (λ v. IsBoundAt p m scope from to v.0) bound
-      → NoneOut (to, row) → NoneOut (to, bound_leaves row bound kinds)
-  bound_in from to row [] kinds b h = h
+  bound_in : (from to : ℕ) (row : List Leaf) (bound : List VarId) (types : List HeapType) → Each (λ v. IsBoundAt p m scope from to v.0) bound
+      → NoneOut (to, row) → NoneOut (to, bound_leaves row bound types)
+  bound_in from to row [] types b h = h
   bound_in from to row (v ∷ bound) [] b h = h
-  bound_in from to row (v ∷ bound) (k ∷ kinds) b h =
-      bound_in from to (set row v.0 (declared_leaf k)) bound kinds b.1 (set_in to row v.0 (declared_leaf k) b.0.after h)
+  bound_in from to row (v ∷ bound) (k ∷ types) b h =
+      bound_in from to (set row v.0 (declared_leaf k)) bound types b.1 (set_in to row v.0 (declared_leaf k) b.0.after h)
 
   received_in : (from : ℕ) (row : List Leaf) (cases : List EntranceModel) (e : ℕ) (d : Edge) → NoneOut (from, row)
       → Each (IsEntrance p m scope from) cases → is_owned row e ≡ true → Each NoneOut (received p m row cases e d)
@@ -180,11 +180,11 @@ module _ (p : ProgramModel) (m : MethodModel) (scope : (point variable : ℕ) �
         tt,
       )
   step_in from row (Exchange x next) all fit h e =
-      let kind = field_known m p x.holder.variable.0 x.field fit.holder fit.holder_there ∙ fit.field_there in
-      let l = declared_leaf fit.kind in
+      let ty = field_known m p x.holder.variable.0 x.field fit.holder fit.holder_there ∙ fit.field_there in
+      let l = declared_leaf fit.ty in
       let k = checked_passed
-      (is_another m x.holder x.given ∷ has_something m row x.holder ∷ field_checks m row fit.kind (payload x.given))
-      ((next, set row x.given.variable.0 l) ∷ []) all (sym (ap (λ (o : Option HeapKind). exchanged p m row x next o) kind) ∙ e) in
+      (is_another m x.holder x.given ∷ has_something m row x.holder ∷ field_checks m row fit.ty (payload x.given))
+      ((next, set row x.given.variable.0 l) ∷ []) all (sym (ap (λ (o : Option HeapType). exchanged p m row x next o) ty) ∙ e) in
       subst (λ ps. Each NoneOut ps) k.1
       (set_in next row x.given.variable.0 l fit.in_scope (keeps_all from next row fit.keeps h), tt)
   step_in from row (Move v u next) all fit h e =
@@ -213,19 +213,19 @@ module _ (p : ProgramModel) (m : MethodModel) (scope : (point variable : ℕ) �
         tt,
       )
   step_in from row (Send place e message payloads next) all fit h eq =
-      let kind = kind_of m e.variable.0 in
+      let ty = type_of m e.variable.0 in
       let l = leaf_at row e.variable.0 in
-      let name = message_name p kind message.0 in
+      let name = message_name p ty message.0 in
       let k =
       checked_passed
       (has_something m row e
       ∷ (all_payloads m row e name (brought p message.0) (map payload payloads)
-      ++ refused (lacks_edge p kind message.0 l) (not_sent name place) ∷ []))
-      ((next, set (claimed row (map payload payloads)) e.variable.0 (sent_leaf p kind message.0 l)) ∷ []) all eq
+      ++ refused (lacks_edge p ty message.0 l) (not_sent name place) ∷ []))
+      ((next, set (claimed row (map payload payloads)) e.variable.0 (sent_leaf p ty message.0 l)) ∷ []) all eq
       in
       let owned = not_false (is_owned row e.variable.0) (not_refused (not (is_owned row e.variable.0)) _ k.0.0) in
       subst (λ ps. Each NoneOut ps) k.1 (
-        set_in next (claimed row (map payload payloads)) e.variable.0 (sent_leaf p kind message.0 l)
+        set_in next (claimed row (map payload payloads)) e.variable.0 (sent_leaf p ty message.0 l)
             (owned_in from next e.variable.0 row fit.keeps h owned)
             (claimed_out next row (map payload payloads) (keeps_all from next row fit.keeps h)),
         tt,
@@ -250,7 +250,7 @@ module _ (p : ProgramModel) (m : MethodModel) (scope : (point variable : ℕ) �
         tt,
       )
   step_in from row (Call place method arguments target next) all fit h e =
-      let k = checked_passed (all_arguments m row (parameter_kinds p method.0) arguments
+      let k = checked_passed (all_arguments m row (parameter_types p method.0) arguments
       ++ target_checks m (claimed row arguments) target) ((next, given_leaf (claimed row arguments) (result_of p method.0) target)
       ∷ []) all e in
       subst (λ ps. Each NoneOut ps) k.1 (
@@ -259,7 +259,7 @@ module _ (p : ProgramModel) (m : MethodModel) (scope : (point variable : ℕ) �
         tt,
       )
   step_in from row (Start place method arguments next) all fit h e =
-      let k = checked_passed (all_arguments m row (parameter_kinds p method.0) arguments)
+      let k = checked_passed (all_arguments m row (parameter_types p method.0) arguments)
       ((next, claimed row arguments) ∷ []) all e in subst (λ ps. Each NoneOut ps) k.1
       (claimed_out next row arguments (keeps_all from next row fit.keeps h), tt)
   step_in from row (Return place value last) all fit h e = let k =
@@ -285,17 +285,17 @@ module _ (p : ProgramModel) (n : ℕ) (m : MethodModel) (g : IsGraphFit p m) (th
   path_in [] x y h path = subst (λ z. NoneOut p m g.scope z) path h
   path_in (s ∷ steps) x y h path = path_in steps s y (leads_in x s h path.0) path.1
 
-  begin_in : NoneOut p m g.scope ((graph_of m).first, map (λ v. entry_leaf v.role v.kind) m.variables)
-  begin_in v out = ap given (slice_get-map (λ (x : VariableModel). entry_leaf x.role x.kind) m.variables v)
+  begin_in : NoneOut p m g.scope ((graph_of m).first, map (λ v. entry_leaf v.role v.ty) m.variables)
+  begin_in v out = ap given (slice_get-map (λ (x : VariableModel). entry_leaf x.role x.ty) m.variables v)
       ∙ by (slice_get m.variables v) refl
     where
-      local : (x : VariableModel) (r : Role) → x.role ≡ r → slice_get m.variables v ≡ Some x → entry_leaf r x.kind ≡ leaf.Nothing
+      local : (x : VariableModel) (r : Role) → x.role ≡ r → slice_get m.variables v ≡ Some x → entry_leaf r x.ty ≡ leaf.Nothing
       local x role.Local is at = refl
       local x role.Lent is at = absurd (true≢false (g.begins v x at (ap is_parameter is)) out)
       local x role.Claimed is at = absurd (true≢false (g.begins v x at (ap is_parameter is)) out)
 
       by : (o : Option VariableModel) → slice_get m.variables v ≡ o
-          → given (option_map (λ (x : VariableModel). entry_leaf x.role x.kind) o) ≡ leaf.Nothing
+          → given (option_map (λ (x : VariableModel). entry_leaf x.role x.ty) o) ≡ leaf.Nothing
       by None at = refl
       by (Some x) at = local x x.role refl at
 

@@ -6,11 +6,11 @@ use Rattle.program.specs.Methods.{MethodModel}
 use Rattle.program.specs.Programs.{ProgramModel}
 use Rattle.program.specs.Scopes.{GoesBack}
 use Rattle.program.specs.Statements.{CallModel, NewModel, SendModel}
-use Rattle.program.specs.WellFormed.{Holds, HoldAll, IsAction, IsCallOf, IsIn, IsKind, IsMessageOf, IsNew, IsSend}
-use Rattle.program.specs.WellFormed.{IsStartOf, IsTaken, field_kinds}
+use Rattle.program.specs.WellFormed.{Holds, HoldAll, IsAction, IsCallOf, IsIn, IsType, IsMessageOf, IsNew, IsSend}
+use Rattle.program.specs.WellFormed.{IsStartOf, IsTaken, field_types}
 use Rattle.program.specs.WellFormed.{IsWellFormed}
 use Rattle.program.specs.WellFormed.{Setting, are_ends, is_end, parameters}
-use Rattle.program.specs.declared.kind.HeapKind.{HeapKind}
+use Rattle.program.specs.declared.types.HeapType.{HeapType}
 use Rattle.program.specs.declared.number.VarId.{VarId}
 use Rattle.program.specs.declared.statement.Action.TheVariants as does
 use Rattle.program.specs.declared.statement.Action.{Action}
@@ -24,7 +24,7 @@ use Rattle.sound.proofs.Binding.{leads_in}
 use Rattle.sound.proofs.events.Branching.{keeps_within}
 use Rattle.sound.proofs.Laying.{LaysFit, OneScope, Within, both_fits, gone_fits, nothing_fits, one_fits}
 use Rattle.sound.proofs.Lists.{some_more, some_there}
-use Rattle.sound.proofs.Operands.{all_claim, contract_at, end_variable, found_kinds, given_fit, is_taken, of_kind, payloads_of_kinds}
+use Rattle.sound.proofs.Operands.{all_claim, contract_at, end_variable, found_types, given_fit, is_taken, of_type, payloads_of_types}
 use Rattle.sound.proofs.Scopes.{Grown, in_scope, own_gone, scope_parted}
 use Rattle.rules.proofs.EndLemmas.{each_at}
 
@@ -104,15 +104,15 @@ module _ (p : ProgramModel) (m : MethodModel) (well : IsWellFormed p.contracts p
   acts_fit (does.Exchange e) exit again here x a from next wf ge ga =
       let s = around exit again here in
       let v = some_there (slice_get m.variables e.holder.variable.0)
-      (λ v. IsSomeAnd (slice_get (field_kinds p.structs v.kind) e.field) (λ k. Holds s k e.given.variable)) wf.1 in
-      let k = some_there (slice_get (field_kinds p.structs v.0.kind) e.field) (λ k. Holds s k e.given.variable) v.2 in
-      let g = of_kind s k.0 e.given.variable k.2 in
+      (λ v. IsSomeAnd (slice_get (field_types p.structs v.ty) e.field) (λ k. Holds s k e.given.variable)) wf.1 in
+      let k = some_there (slice_get (field_types p.structs v.0.ty) e.field) (λ k. Holds s k e.given.variable) v.2 in
+      let g = of_type s k.0 e.given.variable k.2 in
       let in_here = inside exit again here e.given.variable (slice_get_within m.variables e.given.variable.0 g.variable g.there) wf.0 in
       one_fits p m (graph.Exchange e) (in_scope m here) (in_scope m here) (Out exit again x a) from next
       (λ scope is w out. record {
         holder = v.0;
         holder_there = v.1;
-        kind = k.0;
+        ty = k.0;
         field_there = k.1;
         given = g;
         in_scope = w e.given.variable.0 in_here;
@@ -120,26 +120,26 @@ module _ (p : ProgramModel) (m : MethodModel) (well : IsWellFormed p.contracts p
       })
   acts_fit (does.Move target source) exit again here x a from next wf ge ga =
       let s = around exit again here in
-      let t = some_there (slice_get m.variables target.variable.0) (λ v. Holds s v.kind source.variable) wf.1 in
-      let k = of_kind s t.0.kind source.variable t.2 in
+      let t = some_there (slice_get m.variables target.variable.0) (λ v. Holds s v.ty source.variable) wf.1 in
+      let k = of_type s t.0.ty source.variable t.2 in
       let in_here = inside exit again here target.variable (slice_get_within m.variables target.variable.0 t.0 t.1) wf.0 in
       one_fits p m (graph.Move target source) (in_scope m here) (in_scope m here) (Out exit again x a) from next
       (λ scope is w out. record {
         variable = k.variable;
         there = k.there;
-        kind = record { variable = t.0; there = t.1; kind = sym k.kind };
+        ty = record { variable = t.0; there = t.1; ty = sym k.ty };
         in_scope = w target.variable.0 in_here;
         keeps = keeps_here scope from next here is w;
       })
   acts_fit (does.NewChannel c) exit again here x a from next wf ge ga =
       let f =
       some_there (slice_get m.variables c.first.variable.0)
-      (λ v. IsSomeAnd (slice_get m.variables c.second.variable.0) (λ w. are_ends c.contract.0 v.kind w.kind ≡ true)) wf.1
+      (λ v. IsSomeAnd (slice_get m.variables c.second.variable.0) (λ w. are_ends c.contract.0 v.ty w.ty ≡ true)) wf.1
       in
-      let g = some_there (slice_get m.variables c.second.variable.0) (λ w. are_ends c.contract.0 f.0.kind w.kind ≡ true) f.2 in
+      let g = some_there (slice_get m.variables c.second.variable.0) (λ w. are_ends c.contract.0 f.0.ty w.ty ≡ true) f.2 in
       let h =
-      contract_at p.contracts c.contract.0 f.0.kind g.0.kind g.2
-      (each_at (λ v. IsKind p.contracts v.kind) m.variables c.first.variable.0 f.0 well.kinds f.1)
+      contract_at p.contracts c.contract.0 f.0.ty g.0.ty g.2
+      (each_at (λ v. IsType p.contracts v.ty) m.variables c.first.variable.0 f.0 well.types f.1)
       in
       let first_in = inside exit again here c.first.variable (slice_get_within m.variables c.first.variable.0 f.0 f.1) wf.0.0 in
       let second_in = inside exit again here c.second.variable (slice_get_within m.variables c.second.variable.0 g.0 g.1) wf.0.1 in
@@ -181,8 +181,8 @@ module _ (p : ProgramModel) (m : MethodModel) (well : IsWellFormed p.contracts p
       → IsNew (around exit again here) n → here_fits (made_new n) here here Outside from next
   new_fit n exit again here Outside from next wf =
       let s = around exit again here in
-      let v = some_there (slice_get m.variables n.target.variable.0) (λ x. (is_end x.kind ≡ false)
-      × HoldAll s (field_kinds p.structs x.kind) (map (λ y. y.variable) n.arguments)) wf.taken in
+      let v = some_there (slice_get m.variables n.target.variable.0) (λ x. (is_end x.ty ≡ false)
+      × HoldAll s (field_types p.structs x.ty) (map (λ y. y.variable) n.arguments)) wf.taken in
       let in_here = inside exit again here n.target.variable (slice_get_within m.variables n.target.variable.0 v.0 v.1) wf.in_scope in
       both_here (reads n.reads) (one (graph.New n.target n.arguments)) here Outside (reads_fit n.reads here Outside)
       (λ at to. one_fits p m (graph.New n.target n.arguments) (in_scope m here) (in_scope m here) Outside at to
@@ -190,19 +190,19 @@ module _ (p : ProgramModel) (m : MethodModel) (well : IsWellFormed p.contracts p
         variable = v.0;
         there = v.1;
         block = v.2.0;
-        kinds = payloads_of_kinds s (field_kinds p.structs v.0.kind) n.arguments v.2.1;
+        types = payloads_of_types s (field_types p.structs v.0.ty) n.arguments v.2.1;
         in_scope = w n.target.variable.0 in_here;
         keeps = keeps_here scope at to here is w;
       }))
       from next
 
   -- what takes the result of a call is in scope
-  target_in : (exit again here : Option VarId) (k : Option HeapKind) (target : Option Mention) → IsTaken (around exit again here) k target
+  target_in : (exit again here : Option VarId) (k : Option HeapType) (target : Option Mention) → IsTaken (around exit again here) k target
       → IfSome target (λ v. IsIn (around exit again here) v.variable) → IfSome target (λ v. in_scope m here v.variable.0 ≡ true)
   target_in exit again here k None taken h = tt
   target_in exit again here None (Some v) taken h = absurd taken
   target_in exit again here (Some k) (Some v) taken h =
-      let t = of_kind (around exit again here) k v.variable taken in
+      let t = of_type (around exit again here) k v.variable taken in
       inside exit again here v.variable (slice_get_within m.variables v.variable.0 t.variable t.there) h
 
   pub called_fit : (c : CallModel) (exit again here : Option VarId) (Outside : Scope → Type 0) (from next : ℕ)
@@ -255,8 +255,8 @@ module _ (p : ProgramModel) (m : MethodModel) (well : IsWellFormed p.contracts p
       (λ at to. one_fits p m (graph.Send x.place x.endpoint x.message x.payloads) (in_scope m here) (in_scope m here) Outside at to
       (λ scope is w out. record {
         endpoint = end_variable s (λ c. IsMessageOf c x.message) x.endpoint wf.endpoint;
-        kinds = payloads_of_kinds s (brought p x.message.0) x.payloads
-            (found_kinds (slice_get p.messages x.message.0) (λ kinds. HoldAll s kinds (map (λ y. y.variable) x.payloads)) wf.payloads);
+        types = payloads_of_types s (brought p x.message.0) x.payloads
+            (found_types (slice_get p.messages x.message.0) (λ types. HoldAll s types (map (λ y. y.variable) x.payloads)) wf.payloads);
         keeps = keeps_here scope at to here is w;
       }))
       from next

@@ -22,8 +22,8 @@ use Rattle.program.specs.WellFormed.{AreWellFormed}
 use Rattle.sound.proofs.Contracts.{sound_program}
 use Rattle.sound.proofs.Trees.{graphs_fit}
 use Rattle.sound.specs.Safe.{FieldsOwn, IsSafe}
-use Rattle.program.specs.WellFormed.{field_kinds}
-use Rattle.program.specs.declared.kind.HeapKind.{HeapKind}
+use Rattle.program.specs.WellFormed.{field_types}
+use Rattle.program.specs.declared.types.HeapType.{HeapType}
 use Rattle.machine.specs.Heaps.{IsHeld}
 use Rattle.machine.proofs.Chains.{is_inside_is}
 use Rattle.machine.proofs.Holding.{inside_not_process}
@@ -117,16 +117,16 @@ good_instruction always longer p bound sound graphs none w self choice f rest m 
 good_instruction always longer p bound sound graphs none w self choice f rest m (Stop place) h fit = absurd (h.passes _ refl)
 
 -- addresses that are as declared are as many
-declared_long : (bs : List Block) (kinds : List HeapKind) (xs : List ℕ) → AreDeclared bs kinds xs → length xs ≡ length kinds
+declared_long : (bs : List Block) (types : List HeapType) (xs : List ℕ) → AreDeclared bs types xs → length xs ≡ length types
 declared_long bs [] [] h = refl
 declared_long bs [] (x ∷ xs) h = absurd h
-declared_long bs (k ∷ kinds) [] h = absurd h
-declared_long bs (k ∷ kinds) (x ∷ xs) h = ap suc (declared_long bs kinds xs h.1)
+declared_long bs (k ∷ types) [] h = absurd h
+declared_long bs (k ∷ types) (x ∷ xs) h = ap suc (declared_long bs types xs h.1)
 
 -- fields that hold what is inside their block, and are as declared
 fields_own : (p : ProgramModel) (bs : List Block) → IsHeld bs → FieldsDeclared p bs → FieldsOwn p bs
 fields_own p bs held were = record {
-  full = λ a within lives. declared_long bs (field_kinds p.structs (block_at bs a).kind) (block_at bs a).fields (were a within lives);
+  full = λ a within lives. declared_long bs (field_types p.structs (block_at bs a).ty) (block_at bs a).fields (were a within lives);
   once = held.holds_are;
   rooted = held.rooted;
 }

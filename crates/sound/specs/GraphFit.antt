@@ -1,13 +1,13 @@
--- A lowered method fits: the operands of each instruction are there and of the right kind, and each point has a scope. What is in
+-- A lowered method fits: the operands of each instruction are there and of the right type, and each point has a scope. What is in
 -- scope before an instruction is in scope behind it, but for what its Forget names; what an instruction assigns is in scope behind it.
 use Rattle.std.specs.Prelude.{◌≡◌, ◌≢◌, ℕ, ◌⊎◌, Bool, true, false, List, [], map, Option, Some, None, IfSome, slice_get}
 use Rattle.program.specs.Lists.{Each, is_among}
 use Rattle.program.specs.Methods.{MethodModel, VariableModel}
 use Rattle.program.specs.Parts.{ContractModel}
 use Rattle.program.specs.Programs.{ProgramModel}
-use Rattle.program.specs.WellFormed.{are_ends, field_kinds, is_end, is_parameter, parameters}
+use Rattle.program.specs.WellFormed.{are_ends, field_types, is_end, is_parameter, parameters}
 use Rattle.program.specs.declared.call.Argument.{Argument}
-use Rattle.program.specs.declared.kind.HeapKind.{HeapKind}
+use Rattle.program.specs.declared.types.HeapType.{HeapType}
 use Rattle.program.specs.declared.number.VarId.{VarId}
 use Rattle.program.specs.declared.statement.Awaited.{Awaited}
 use Rattle.program.specs.declared.statement.Awaited.TheVariants.{Message, Closed}
@@ -22,7 +22,7 @@ use Rattle.flow.specs.Within.{goes_on}
 use Rattle.rules.specs.Endpoints.{brought}
 use Rattle.rules.specs.Mentions.{is_lent}
 use Rattle.rules.specs.Scopes.{declared_between}
-use Rattle.sound.specs.Operands.{AreApart, AreArguments, AreClaims, AreOfKinds, IsEndVariable, IsOfKind, IsTakenBy}
+use Rattle.sound.specs.Operands.{AreApart, AreArguments, AreClaims, AreOfTypes, IsEndVariable, IsOfType, IsTakenBy}
 
 -- which variables are in scope at a point
 abbrev pub Scope : Type 0
@@ -43,7 +43,7 @@ module _ (p : ProgramModel) (m : MethodModel) (scope : Scope) where
   abbrev pub AreBrought : ℕ → Awaited → List VarId → ℕ → Type 0
   AreBrought from Closed bound to = Unit {0}
   AreBrought from (Message id) bound to =
-      AreOfKinds m.variables (brought p id.0) (map (λ v. v.0) bound)
+      AreOfTypes m.variables (brought p id.0) (map (λ v. v.0) bound)
       × (AreApart (map (λ v. v.0) bound) × Each (λ v. IsBoundAt from to v.0) bound)
 
   -- a case of a switch at a point
@@ -80,22 +80,22 @@ module _ (p : ProgramModel) (m : MethodModel) (scope : Scope) where
     pub given : IsTakenBy m.variables m.result value
     pub covers : (v : ℕ) → scope point v ≡ true → is_among (declared_between m None last) v ≡ true
 
-  -- New: the variable is of no endpoint, and what is given is of the kinds of its fields that own.
+  -- New: the variable is of no endpoint, and what is given is of the types of its fields that own.
   pub record IsNewFit (point v : ℕ) (arguments : List Mention) (next : ℕ) : Type 0 where
     pub variable : VariableModel
     pub there : slice_get m.variables v ≡ Some variable
-    pub block : is_end variable.kind ≡ false
-    pub kinds : AreOfKinds m.variables (field_kinds p.structs variable.kind) (map (λ x. x.variable.0) arguments)
+    pub block : is_end variable.ty ≡ false
+    pub types : AreOfTypes m.variables (field_types p.structs variable.ty) (map (λ x. x.variable.0) arguments)
     pub in_scope : scope next v ≡ true
     pub keeps : Keeps scope point next []
 
-  -- Exchange: the block of the holder has such a field, and what is given is of its kind.
+  -- Exchange: the block of the holder has such a field, and what is given is of its type.
   pub record IsExchangeFit (point : ℕ) (e : stated.Exchange) (next : ℕ) : Type 0 where
     pub holder : VariableModel
     pub holder_there : slice_get m.variables e.holder.variable.0 ≡ Some holder
-    pub kind : HeapKind
-    pub field_there : slice_get (field_kinds p.structs holder.kind) e.field ≡ Some kind
-    pub given : IsOfKind m.variables kind e.given.variable.0
+    pub ty : HeapType
+    pub field_there : slice_get (field_types p.structs holder.ty) e.field ≡ Some ty
+    pub given : IsOfType m.variables ty e.given.variable.0
     pub in_scope : scope next e.given.variable.0 ≡ true
     pub keeps : Keeps scope point next []
 
@@ -107,23 +107,23 @@ module _ (p : ProgramModel) (m : MethodModel) (scope : Scope) where
     pub second : VariableModel
     pub first_there : slice_get m.variables c.first.variable.0 ≡ Some first
     pub second_there : slice_get m.variables c.second.variable.0 ≡ Some second
-    pub ends : are_ends c.contract.0 first.kind second.kind ≡ true
+    pub ends : are_ends c.contract.0 first.ty second.ty ≡ true
     pub first_scope : scope next c.first.variable.0 ≡ true
     pub second_scope : scope next c.second.variable.0 ≡ true
     pub keeps : Keeps scope point next []
 
-  -- a Move: both variables are of one kind
+  -- a Move: both variables are of one type
   pub record IsMoveFit (point target source next : ℕ) : Type 0 where
     pub variable : VariableModel
     pub there : slice_get m.variables source ≡ Some variable
-    pub kind : IsOfKind m.variables variable.kind target
+    pub ty : IsOfType m.variables variable.ty target
     pub in_scope : scope next target ≡ true
     pub keeps : Keeps scope point next []
 
   -- a Send: along an endpoint, of what the message brings
   pub record IsSendFit (point e message : ℕ) (payloads : List Mention) (next : ℕ) : Type 0 where
     pub endpoint : IsEndVariable m.variables e
-    pub kinds : AreOfKinds m.variables (brought p message) (map (λ x. x.variable.0) payloads)
+    pub types : AreOfTypes m.variables (brought p message) (map (λ x. x.variable.0) payloads)
     pub keeps : Keeps scope point next []
 
   -- A Forget: it names what leaves the scope, and nothing of it is lent.

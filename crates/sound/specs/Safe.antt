@@ -3,8 +3,8 @@ use Rattle.std.specs.Prelude.{◌≡◌, ◌≢◌, ◌+◌, ◌==◌, ◌<◌, 
 use Rattle.program.specs.Lists.{Each}
 use Rattle.program.specs.Methods.{VariableModel}
 use Rattle.program.specs.Programs.{ProgramModel}
-use Rattle.program.specs.WellFormed.{field_kinds}
-use Rattle.program.specs.declared.kind.Side.{Side}
+use Rattle.program.specs.WellFormed.{field_types}
+use Rattle.program.specs.declared.types.Side.{Side}
 use Rattle.rules.specs.Mentions.{is_lent_role}
 use Rattle.machine.specs.Frames.{variables_of}
 use Rattle.machine.specs.Machine.{event_outcome}
@@ -30,7 +30,7 @@ stands_in_frames p (f ∷ frames) a = stands_in (variables_of p f.method) f.vari
 pub record FieldsOwn (p : ProgramModel) (blocks : List Block) : Type 0 where
   -- a block that is not freed has an address in each field that owns of its struct
   pub full : (a : ℕ) → a < length blocks → freed blocks a ≡ false
-      → length (block_at blocks a).fields ≡ length (field_kinds p.structs (block_at blocks a).kind)
+      → length (block_at blocks a).fields ≡ length (field_types p.structs (block_at blocks a).ty)
   -- An address stands once in the fields of the block that it is directly inside, and in no field of another.
   pub once : (a x : ℕ) → occurs (block_at blocks a).fields x ≡ one_if (is_inside (block_at blocks x).owner a)
   -- the owners lead from each address, in finitely many steps, to one that is inside no other

@@ -15,7 +15,7 @@ ghost use Rattle.sound.specs.Safe.{IsSafe};
 use contracts::{Sound, two_ends};
 use program::Methods;
 
-/// The graphs of well formed methods fit: the operands of each instruction are there and of the right kind, also what is given for the
+/// The graphs of well formed methods fit: the operands of each instruction are there and of the right type, also what is given for the
 /// fields of a new block and what changes places with a field, each point has a scope, and what leaves the scope is in the Forget of the
 /// instruction.
 pub fn graphs_fit()

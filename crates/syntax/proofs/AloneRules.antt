@@ -9,8 +9,8 @@ use Rattle.tree.specs.Factors.{lone, summed}
 use Rattle.syntax.specs.OperatorReads.{joins, behind_sum}
 use Rattle.syntax.specs.Reading.{Takes}
 use Rattle.syntax.specs.ExpressionReads.{level_at}
-use Rattle.syntax.proofs.KindLemmas.{test_stops}
-use Rattle.syntax.proofs.Pieces.{stops_both, stops_with}
+use Rattle.syntax.proofs.pieces.KindLemmas.{test_stops}
+use Rattle.syntax.proofs.pieces.Pieces.{stops_both, stops_with}
 
 lone_spelled : (l : Operators) (x : LevelTree (below l)) (s : List Symbol) → level x ≡ s → level (lone l x) ≡ s
 lone_spelled l x s h = append-nil (level x) ∙ h

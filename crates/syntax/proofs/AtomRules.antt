@@ -13,13 +13,13 @@ use Rattle.syntax.specs.OperatorReads.{opens_prefix, opens_rest}
 use Rattle.tree.specs.Expressions.{LevelTree, AtomTree, TargetTree, Unary, Number, True, False, Target, Parens, Variable, Field, Element, ExpressionTree, level, atom, target, expression, dot_name}
 use Rattle.syntax.specs.ExpressionReads.{level_on, level_at, target_at, atom_at}
 use Rattle.tree.specs.declared.expression.Prefix.{Prefix}
-use Rattle.syntax.proofs.Pieces.{Piece, Follows, Meets, via_piece, next, stops_with}
-use Rattle.syntax.proofs.Beginnings.{Begins, Starts, splits_self}
-use Rattle.syntax.proofs.Repeats.{many_piece}
-use Rattle.syntax.proofs.Choices.{Form, Same, Other}
-use Rattle.syntax.proofs.Enclosed.{InParens, InBrackets}
-use Rattle.syntax.proofs.KindLemmas.{kind_other, other_leads}
-use Rattle.syntax.proofs.CursorLemmas.{fixed_piece, named_piece}
+use Rattle.syntax.proofs.pieces.Pieces.{Piece, Follows, Meets, via_piece, next, stops_with}
+use Rattle.syntax.proofs.pieces.Beginnings.{Begins, Starts, splits_self}
+use Rattle.syntax.proofs.pieces.Repeats.{many_piece}
+use Rattle.syntax.proofs.pieces.Choices.{Form, Same, Other}
+use Rattle.syntax.proofs.pieces.Enclosed.{InParens, InBrackets}
+use Rattle.syntax.proofs.pieces.KindLemmas.{kind_other, other_leads}
+use Rattle.syntax.proofs.pieces.CursorLemmas.{fixed_piece, named_piece}
 use Rattle.syntax.proofs.OperatorRules.{prefix_piece, prefix_starts}
 use Rattle.syntax.proofs.LevelRules.{level_wide}
 

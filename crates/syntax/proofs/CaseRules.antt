@@ -15,23 +15,23 @@ use Rattle.tree.specs.declared.statement.Awaited.{Awaited}
 use Rattle.tree.specs.declared.statement.Awaited.TheVariants.{Message, Closed}
 use Rattle.tree.specs.declared.statement.Bind.{Bind}
 use Rattle.tree.specs.declared.types as type_nodes
-use Rattle.program.specs.declared.kind as kind_nodes
-use Rattle.program.specs.declared.kind.Scalar.TheVariants as scalar
+use Rattle.program.specs.declared.types as kind_nodes
+use Rattle.program.specs.declared.types.Scalar.TheVariants as scalar
 use Rattle.tree.specs.declared.types.Type.TheVariants as type
 use Rattle.tree.specs.declared.types.Heap.TheVariants as heap
 use Rattle.syntax.specs.declared.fronts as parts
 use Rattle.syntax.specs.declared.fronts.NamedTail.TheVariants as tail
-use Rattle.syntax.proofs.Pieces.{Piece, Follows, Meets, ReadsOneWay, both_piece, next, via_piece, wide_way}
-use Rattle.syntax.proofs.Beginnings.{Begins, Starts, splits_self}
-use Rattle.syntax.proofs.Repeats.{row_stops}
-use Rattle.syntax.proofs.Options.{opt_piece}
-use Rattle.syntax.proofs.Choices.{Form, FormOf, Same, Other, form_way}
-use Rattle.syntax.proofs.Enclosed.{InParens, parens_piece}
-use Rattle.syntax.proofs.ListedOpen.{OpenItem, listed_open_piece}
-use Rattle.syntax.proofs.KindLemmas.{apart_kinds}
-use Rattle.syntax.proofs.CursorLemmas.{fixed_piece, placed_piece, named_piece}
-use Rattle.syntax.proofs.TypeRules.{scalar_type_piece}
-use Rattle.syntax.proofs.TypeForms.{named_tail_piece, named_form, scalar_form, type_meets}
+use Rattle.syntax.proofs.pieces.Pieces.{Piece, Follows, Meets, ReadsOneWay, both_piece, next, via_piece, wide_way}
+use Rattle.syntax.proofs.pieces.Beginnings.{Begins, Starts, splits_self}
+use Rattle.syntax.proofs.pieces.Repeats.{sequence_stops}
+use Rattle.syntax.proofs.pieces.Options.{opt_piece}
+use Rattle.syntax.proofs.pieces.Choices.{Form, FormOf, Same, Other, form_way}
+use Rattle.syntax.proofs.pieces.Enclosed.{InParens, parens_piece}
+use Rattle.syntax.proofs.pieces.ListedOpen.{OpenItem, listed_open_piece}
+use Rattle.syntax.proofs.pieces.KindLemmas.{apart_kinds}
+use Rattle.syntax.proofs.pieces.CursorLemmas.{fixed_piece, placed_piece, named_piece}
+use Rattle.syntax.proofs.definitions.TypeRules.{scalar_type_piece}
+use Rattle.syntax.proofs.definitions.TypeForms.{named_tail_piece, named_form, scalar_form, type_meets}
 
 -- awaited = ID | "ChannelClosed" .
 
@@ -214,7 +214,7 @@ bind_item = record {
     begins (Some t) span = type_behind t span (by_kind opens_type) (type_starts.each t)
 
 pub binds_inside : InParens (listed bind) binds_on binds_at
-binds_inside = record { on = refl; here = elim [ [] ↦ refl | b ∷ bs ↦ row_stops (is_kind kind.Comma) bind_at (Fixed kind.CloseParen) refl (λ b. bind_apart b.ty (Fixed kind.CloseParen) refl) (b ∷ bs) ] }
+binds_inside = record { on = refl; here = elim [ [] ↦ refl | b ∷ bs ↦ sequence_stops (is_kind kind.Comma) bind_at (Fixed kind.CloseParen) refl (λ b. bind_apart b.ty (Fixed kind.CloseParen) refl) (b ∷ bs) ] }
 
 pub bind_list_piece : Piece (listed bind) binds_on binds_at
 bind_list_piece = listed_open_piece bind_item

@@ -16,14 +16,14 @@ use Rattle.tree.specs.Factors.{step_sequence}
 use Rattle.tree.specs.declared.expression.Prefix.{Prefix}
 use Rattle.tree.specs.declared.expression.PrefixOperator.{PrefixOperator}
 use Rattle.tree.specs.declared.expression.PrefixOperator.TheVariants as prefixes
-use Rattle.syntax.proofs.Pieces.{Piece, ReadsOneWay, both, via_fails, same_fails, wide_fails, fails_first, fails_second, fails_here, fails_after, stops_never, stops_with}
-use Rattle.syntax.proofs.Beginnings.{Begins, Starts, splits_self}
-use Rattle.syntax.proofs.Options.{opt_piece, opt_fails}
-use Rattle.syntax.proofs.Choices.{form_way, form_fails}
-use Rattle.syntax.proofs.KindLemmas.{kind_leads}
-use Rattle.syntax.proofs.Enclosed.{parens_piece, brackets_piece}
-use Rattle.syntax.proofs.Chains.{chain, chain_on, chain_at, chain_first_fails, chain_links_fail, chain_reads, operator_fails, part_fails, link_fails, link_starts}
-use Rattle.syntax.proofs.CursorLemmas.{placed_piece, named_piece, leads_of}
+use Rattle.syntax.proofs.pieces.Pieces.{Piece, ReadsOneWay, both, via_fails, same_fails, wide_fails, fails_first, fails_second, fails_here, fails_after, stops_never, stops_with}
+use Rattle.syntax.proofs.pieces.Beginnings.{Begins, Starts, splits_self}
+use Rattle.syntax.proofs.pieces.Options.{opt_piece, opt_fails}
+use Rattle.syntax.proofs.pieces.Choices.{form_way, form_fails}
+use Rattle.syntax.proofs.pieces.KindLemmas.{kind_leads}
+use Rattle.syntax.proofs.pieces.Enclosed.{parens_piece, brackets_piece}
+use Rattle.syntax.proofs.pieces.Chains.{chain, chain_on, chain_at, chain_first_fails, chain_links_fail, chain_reads, operator_fails, part_fails, link_fails, link_starts}
+use Rattle.syntax.proofs.pieces.CursorLemmas.{placed_piece, named_piece, leads_of}
 use Rattle.syntax.proofs.LevelRules.{on_split, level_joins, chain_to, chain_from, chain_there, chain_spelled, stops_chain, level_wide}
 use Rattle.syntax.proofs.AtomRules.{in_parens, in_brackets, unary_to, unary_from, unary_spelled, prefixes_piece, prefixes_follow, Rest, Dotted, Indexed, rest, index, rest_at, named_rest, rest_starts, dotted_form, indexed_form, dot_piece, target_to, target_from, target_there, target_spelled}
 use Rattle.syntax.proofs.ExpressionRules.{level_way, atom_way, target_way}
@@ -163,7 +163,7 @@ pub step_tail : (l : Operators) {X : Type 0} (view : X → LevelTree (below l)) 
 step_tail l {X} view o old mid new (Ok x) read h = (read.0 ∙ ap (λ t. operator l o ++ t) h.0 ∙ sym (append_assoc (operator l o) (level (view x)) new), h.1)
 step_tail l {X} view o old mid new (Err fault) read h = faulted fault (Fails (level {l = below l}) (level_on (below l)) mid new) (Fails (step l) (level_on (below l)) old new) (behind_fails l o read) h
 
--- the first step of a row is not empty
+-- the first step of a sequence is not empty
 pub step_starts : (l : Operators) → Starts (step l) (by_kind (joins l))
 step_starts l = link_starts (level_joins l)
 

@@ -7,13 +7,13 @@ use Rattle.tree.specs.Operators.{Operators, Level, Single, below}
 use Rattle.syntax.specs.OperatorReads.{joins}
 use Rattle.tree.specs.Expressions.{LevelTree, StepTrees, AtomTree, TargetTree, Unary, Chain, Done, More, Number, True, False, Target, Parens, Variable, Field, Element, level, atom, target, step}
 use Rattle.syntax.specs.ExpressionReads.{level_on, level_at, steps_end, target_on, target_at, atom_at}
-use Rattle.syntax.proofs.Pieces.{ReadsOneWay, both_way, via_way, same_way, wide_way, ends, meets}
-use Rattle.syntax.proofs.Beginnings.{splits_self}
-use Rattle.syntax.proofs.Options.{none_way, some_way}
-use Rattle.syntax.proofs.Choices.{form_way}
-use Rattle.syntax.proofs.Enclosed.{parens_way, brackets_way}
-use Rattle.syntax.proofs.Chains.{chain_on, chain_way, no_links_way, more_links_way}
-use Rattle.syntax.proofs.CursorLemmas.{placed_piece, named_piece}
+use Rattle.syntax.proofs.pieces.Pieces.{ReadsOneWay, both_way, via_way, same_way, wide_way, ends, meets}
+use Rattle.syntax.proofs.pieces.Beginnings.{splits_self}
+use Rattle.syntax.proofs.pieces.Options.{none_way, some_way}
+use Rattle.syntax.proofs.pieces.Choices.{form_way}
+use Rattle.syntax.proofs.pieces.Enclosed.{parens_way, brackets_way}
+use Rattle.syntax.proofs.pieces.Chains.{chain_on, chain_way, no_links_way, more_links_way}
+use Rattle.syntax.proofs.pieces.CursorLemmas.{placed_piece, named_piece}
 use Rattle.syntax.proofs.LevelRules.{on_split, level_joins, step_list, chain_to, chain_from, chain_back, chain_spelled, chain_stops}
 use Rattle.syntax.proofs.AtomRules.{in_parens, in_brackets, dot_piece, dotted_form, indexed_form, rest_starts, target_to, target_from, target_back, target_spelled, target_stops, number_form, true_form, false_form, target_form, parens_form, prefixes_piece, unary_to, unary_from, unary_back, unary_spelled, unary_stops, prefixes_follow, prefixes_meet}
 

@@ -1,4 +1,4 @@
--- Rows of factors: where they fail, and what is read of them.
+-- Sequences of factors: where they fail, and what is read of them.
 use Rattle.std.proofs.Common.{◌≡◌, true, false, List, [], ◌∷◌, ◌++◌, Option, Some, sym, refl, ap, ◌∙◌, subst}
 use Rattle.std.specs.List.{flat_map}
 use Rattle.std.proofs.Math.Bool.{or_assoc}
@@ -13,10 +13,10 @@ use Rattle.tree.specs.Factors.{FactorTree, factor_operator, factor, gathered}
 use Rattle.tree.specs.declared.expression.FactorOperator.{FactorOperator}
 use Rattle.syntax.specs.OperatorReads.{joins, joins_factors, opens_rest}
 use Rattle.syntax.specs.ExpressionReads.{level_on, level_at, factor_at, factors_end}
-use Rattle.syntax.proofs.Pieces.{wide_fails, stops_with}
-use Rattle.syntax.proofs.Repeats.{more_fail, more_reads}
-use Rattle.syntax.proofs.Chains.{Joins, chain, chain_on, chain_at, chain_links_fail, chain_reads, operator_fails, part_fails, link_fails, link_piece, link_starts, link_splits, link_leaves}
-use Rattle.syntax.proofs.KindLemmas.{test_stops}
+use Rattle.syntax.proofs.pieces.Pieces.{wide_fails, stops_with}
+use Rattle.syntax.proofs.pieces.Repeats.{more_fail, more_reads}
+use Rattle.syntax.proofs.pieces.Chains.{Joins, chain, chain_on, chain_at, chain_links_fail, chain_reads, operator_fails, part_fails, link_fails, link_piece, link_starts, link_splits, link_leaves}
+use Rattle.syntax.proofs.pieces.KindLemmas.{test_stops}
 use Rattle.syntax.proofs.OperatorRules.{factor_operator_piece, factor_operator_starts}
 use Rattle.syntax.proofs.LevelRules.{level_wide}
 use Rattle.syntax.proofs.ExpressionFails.{level_piece}
@@ -32,15 +32,15 @@ factor_apart k h = absurd (true≢false (sym h))
 factor_joins : Joins (level {l = Single}) factor_operator (level_on Single) level_at (by_kind joins_factors)
 factor_joins = record { operator = factor_operator_piece; begin = factor_operator_starts; apart = λ y h. factor_apart (kind_at (y ∷ [])) h; wide = level_wide }
 
--- by what a row goes on, a sum does
-row_wide : (y : Symbol) → level_on (Joined Add) y ≡ false → chain_on (level_on Single) (by_kind joins_factors) y ≡ false
-row_wide y h = sym (or_assoc (level_on Single y) (by_kind (joins Multiply) y) (by_kind (joins Add) y)) ∙ h
+-- by what a sequence goes on, a sum does
+sequence_wide : (y : Symbol) → level_on (Joined Add) y ≡ false → chain_on (level_on Single) (by_kind joins_factors) y ≡ false
+sequence_wide y h = sym (or_assoc (level_on Single y) (by_kind (joins Multiply) y) (by_kind (joins Add) y)) ∙ h
 
-wide_row : (y : Symbol) → chain_on (level_on Single) (by_kind joins_factors) y ≡ false → level_on (Joined Add) y ≡ false
-wide_row y h = or_assoc (level_on Single y) (by_kind (joins Multiply) y) (by_kind (joins Add) y) ∙ h
+wide_sequence : (y : Symbol) → chain_on (level_on Single) (by_kind joins_factors) y ≡ false → level_on (Joined Add) y ≡ false
+wide_sequence y h = or_assoc (level_on Single y) (by_kind (joins Multiply) y) (by_kind (joins Add) y) ∙ h
 
-row_fails : {old new : List Symbol} → Fails (chain (level {l = Single}) factor_operator) (chain_on (level_on Single) (by_kind joins_factors)) old new → Fails (level {l = Joined Add}) (level_on (Joined Add)) old new
-row_fails {old} {new} h = record {
+sequence_fails : {old new : List Symbol} → Fails (chain (level {l = Single}) factor_operator) (chain_on (level_on Single) (by_kind joins_factors)) old new → Fails (level {l = Joined Add}) (level_on (Joined Add)) old new
+sequence_fails {old} {new} h = record {
   front = h.front;
   next = h.next;
   rest = h.rest;
@@ -50,7 +50,7 @@ row_fails {old} {new} h = record {
   more = h.more;
   begins = gathered_spelled h.piece.0 h.piece.1 ∙ h.begins;
   rejects = λ z r s hr e.
-      h.rejects (spread z) r s (stops_with (level_on (Joined Add)) (chain_on (level_on Single) (by_kind joins_factors)) row_wide r hr) (ap (λ t. t ++ r) (spread_spelled z) ∙ e);
+      h.rejects (spread z) r s (stops_with (level_on (Joined Add)) (chain_on (level_on Single) (by_kind joins_factors)) sequence_wide r hr) (ap (λ t. t ++ r) (spread_spelled z) ∙ e);
 }
 
 -- an operator fails, the unary behind it, a further factor
@@ -65,29 +65,29 @@ further_fails : {old mid new : List Symbol} (fs : List FactorTree) → old ≡ f
 further_fails {old} {mid} {new} fs read more h = link_fails factor_joins (level_piece Single) fs read more h
 
 pub factor_fails : {old mid new : List Symbol} (fs : List FactorTree) → old ≡ flat_map factor fs ++ mid → leads (by_kind joins_factors) mid ≡ true → Fails factor (level_on Single) mid new → Fails (flat_map factor) (level_on (Joined Add)) old new
-factor_fails {old} {mid} {new} fs read more h = wide_fails row_wide (further_fails fs read more h)
+factor_fails {old} {mid} {new} fs read more h = wide_fails sequence_wide (further_fails fs read more h)
 
 -- the second factor of a sum fails, or those behind it
 
 pub second_fails : {old mid new : List Symbol} (u : LevelTree Single) → Takes level level_at old mid u → leads (by_kind joins_factors) mid ≡ true → Fails factor (level_on Single) mid new → Fails (level {l = Joined Add}) (level_on (Joined Add)) old new
-second_fails {old} {mid} {new} u read more h = row_fails (chain_links_fail factor_joins (level_piece Single) u read (further_fails [] refl more h))
+second_fails {old} {mid} {new} u read more h = sequence_fails (chain_links_fail factor_joins (level_piece Single) u read (further_fails [] refl more h))
 
 pub other_factors_fail : {old mid last new : List Symbol} (u : LevelTree Single) (f : FactorTree) → Takes level level_at old mid u → Takes factor factor_at mid last f → Fails (flat_map factor) (level_on (Joined Add)) last new → Fails (level {l = Joined Add}) (level_on (Joined Add)) old new
 other_factors_fail {old} {mid} {last} {new} u f read second h =
     let piece = link_piece factor_joins (level_piece Single) in
-    let behind = more_fail piece (link_starts factor_joins) (link_splits factor_joins) (link_leaves factor_joins) f second (wide_fails wide_row h) in
-    row_fails (chain_links_fail factor_joins (level_piece Single) u read behind)
+    let behind = more_fail piece (link_starts factor_joins) (link_splits factor_joins) (link_leaves factor_joins) f second (wide_fails wide_sequence h) in
+    sequence_fails (chain_links_fail factor_joins (level_piece Single) u read behind)
 
--- a row is read, and a unary behind which no operator stands
+-- a sequence is read, and a unary behind which no operator stands
 
-row_is_read : (old mid new : List Symbol) (u : LevelTree Single) (fs : List FactorTree) (z : LevelTree (Joined Add)) → z ≡ gathered u fs → Takes level level_at old mid u → Takes (flat_map factor) factors_end mid new fs → Takes level level_at old new z
-row_is_read old mid new u fs z is first others =
+sequence_is_read : (old mid new : List Symbol) (u : LevelTree Single) (fs : List FactorTree) (z : LevelTree (Joined Add)) → z ≡ gathered u fs → Takes level level_at old mid u → Takes (flat_map factor) factors_end mid new fs → Takes level level_at old new z
+sequence_is_read old mid new u fs z is first others =
     let read : Takes (chain (level {l = Single}) factor_operator) (chain_at level_at (by_kind joins_factors)) old new (u, fs) = chain_reads factor_joins old mid new u fs first others in
     let stops = stops_with (chain_at level_at (by_kind joins_factors) (u, fs)) (level_at (gathered u fs)) (λ y h. gathered_ends u fs y ∙ h) new read.1 in
     subst (Takes level level_at old new) (sym is) (read.0 ∙ ap (λ t. t ++ new) (sym (gathered_spelled u fs)), stops)
 
 pub factors_are_read : (old mid last new : List Symbol) (u : LevelTree Single) (f : FactorTree) (fs : List FactorTree) (z : LevelTree (Joined Add)) → z ≡ gathered u (f ∷ fs) → Takes level level_at old mid u → Takes factor factor_at mid last f → Takes (flat_map factor) factors_end last new fs → Takes level level_at old new z
-factors_are_read old mid last new u f fs z is first second others = row_is_read old mid new u (f ∷ fs) z is first (more_reads factor (by_kind joins_factors) factor_at mid last new f fs second others)
+factors_are_read old mid last new u f fs z is first second others = sequence_is_read old mid new u (f ∷ fs) z is first (more_reads factor (by_kind joins_factors) factor_at mid last new f fs second others)
 
 pub unary_is_sum : (old new : List Symbol) (u : LevelTree Single) (z : LevelTree (Joined Add)) → z ≡ gathered u [] → Takes level level_at old new u → joins_factors (kind_at new) ≡ false → Takes level level_at old new z
-unary_is_sum old new u z is read ends = row_is_read old new new u [] z is read (refl, test_stops joins_factors new refl ends)
+unary_is_sum old new u z is read ends = sequence_is_read old new new u [] z is read (refl, test_stops joins_factors new refl ends)

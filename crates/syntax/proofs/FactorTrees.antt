@@ -1,4 +1,4 @@
--- A sum of terms as a row of factors: how it is spelled, by what it goes on, and the row of each sum.
+-- A sum of terms as a sequence of factors: how it is spelled, by what it goes on, and the sequence of each sum.
 use Rattle.std.proofs.Common.{◌≡◌, List, [], ◌∷◌, ◌++◌, sym, refl, ap, ◌∙◌, append_assoc}
 use Rattle.std.proofs.lemmas.List.{append-nil}
 use Rattle.std.proofs.Math.Bool.{or_assoc}
@@ -11,7 +11,7 @@ use Rattle.tree.specs.declared.expression.FactorOperator.{FactorOperator}
 use Rattle.tree.specs.declared.expression.FactorOperator.TheVariants as factors
 use Rattle.syntax.specs.OperatorReads.{joins, joins_factors}
 use Rattle.syntax.specs.ExpressionReads.{level_at}
-use Rattle.syntax.proofs.Chains.{chain, chain_at}
+use Rattle.syntax.proofs.pieces.Chains.{chain, chain_at}
 
 -- the spelling
 
@@ -50,13 +50,13 @@ factors_of_terms (More _ o (Chain _ u xs) ys) = (factors.Sum o, u) ∷ factors_o
 abbrev pub spread : LevelTree (Joined Add) → LevelTree Single × List FactorTree
 spread (Chain _ (Chain _ u xs) ys) = (u, factors_of_term xs (factors_of_terms ys))
 
-spread_row : (u : LevelTree Single) (xs : StepTrees Multiply) (ys : StepTrees Add) → gathered u (factors_of_term xs (factors_of_terms ys)) ≡ Chain Add (Chain Multiply u xs) ys
-spread_row u (More _ o v xs) ys = ap (before_sum u factors.Times) (spread_row v xs ys)
-spread_row u (Done _) (Done _) = refl
-spread_row u (Done _) (More _ o (Chain _ v xs) ys) = ap (before_sum u (factors.Sum o)) (spread_row v xs ys)
+spread_sequence : (u : LevelTree Single) (xs : StepTrees Multiply) (ys : StepTrees Add) → gathered u (factors_of_term xs (factors_of_terms ys)) ≡ Chain Add (Chain Multiply u xs) ys
+spread_sequence u (More _ o v xs) ys = ap (before_sum u factors.Times) (spread_sequence v xs ys)
+spread_sequence u (Done _) (Done _) = refl
+spread_sequence u (Done _) (More _ o (Chain _ v xs) ys) = ap (before_sum u (factors.Sum o)) (spread_sequence v xs ys)
 
 pub spread_back : (s : LevelTree (Joined Add)) → gathered (spread s).0 (spread s).1 ≡ s
-spread_back (Chain _ (Chain _ u xs) ys) = spread_row u xs ys
+spread_back (Chain _ (Chain _ u xs) ys) = spread_sequence u xs ys
 
 pub spread_spelled : (s : LevelTree (Joined Add)) → chain level factor_operator (spread s) ≡ level s
 spread_spelled s = sym (gathered_spelled (spread s).0 (spread s).1) ∙ ap level (spread_back s)

@@ -12,9 +12,9 @@ use Rattle.syntax.specs.OperatorReads.{equality_of, relation_of, joins, opens_re
 use Rattle.tree.specs.Expressions.{LevelTree, StepTrees, AtomTree, TargetTree, Unary, Chain, Done, More, Number, True, False, Target, Parens, Variable, Field, Element, StepOf, level, steps, step}
 use Rattle.syntax.specs.ExpressionReads.{level_on, level_at, steps_at, target_on, target_at, atom_at}
 use Rattle.tree.specs.Factors.{step_sequence}
-use Rattle.syntax.proofs.Pieces.{or_right, stops_with}
-use Rattle.syntax.proofs.Chains.{Joins, chain, chain_at, last_of}
-use Rattle.syntax.proofs.KindLemmas.{apart_kinds}
+use Rattle.syntax.proofs.pieces.Pieces.{or_right, stops_with}
+use Rattle.syntax.proofs.pieces.Chains.{Joins, chain, chain_at, last_of}
+use Rattle.syntax.proofs.pieces.KindLemmas.{apart_kinds}
 use Rattle.syntax.proofs.OperatorRules.{operator_piece, operator_starts}
 use Rattle.lemmas.proofs.Bools.{or_left}
 
@@ -82,23 +82,23 @@ operator_apart Multiply y h = apart_kinds opens_rest kind.Star refl y h
 pub level_joins : (l : Operators) → Joins (level {l = below l}) (operator l) (level_on (below l)) level_at (by_kind (joins l))
 level_joins l = record { operator = operator_piece l; begin = operator_starts l; apart = operator_apart l; wide = level_wide }
 
--- rows and lists
+-- sequences and lists
 
 abbrev pub step_list : {l : Operators} → StepTrees l → List (StepOf l)
 step_list (Done l) = []
 step_list (More l o x xs) = (o, x) ∷ step_list xs
 
-row_list : {l : Operators} (xs : StepTrees l) → step_sequence l (step_list xs) ≡ xs
-row_list (Done l) = refl
-row_list (More l o x xs) = ap (λ t. More l o x t) (row_list xs)
+sequence_list : {l : Operators} (xs : StepTrees l) → step_sequence l (step_list xs) ≡ xs
+sequence_list (Done l) = refl
+sequence_list (More l o x xs) = ap (λ t. More l o x t) (sequence_list xs)
 
-list_row : (l : Operators) (ps : List (StepOf l)) → step_list (step_sequence l ps) ≡ ps
-list_row l [] = refl
-list_row l (p ∷ ps) = ap (λ t. p ∷ t) (list_row l ps)
+list_sequence : (l : Operators) (ps : List (StepOf l)) → step_list (step_sequence l ps) ≡ ps
+list_sequence l [] = refl
+list_sequence l (p ∷ ps) = ap (λ t. p ∷ t) (list_sequence l ps)
 
-row_spelled : {l : Operators} (xs : StepTrees l) → flat_map (step l) (step_list xs) ≡ steps xs
-row_spelled (Done l) = refl
-row_spelled (More l o x xs) = ap (λ t. (operator l o ++ level x) ++ t) (row_spelled xs)
+sequence_spelled : {l : Operators} (xs : StepTrees l) → flat_map (step l) (step_list xs) ≡ steps xs
+sequence_spelled (Done l) = refl
+sequence_spelled (More l o x xs) = ap (λ t. (operator l o ++ level x) ++ t) (sequence_spelled xs)
 
 steps_last : {l : Operators} (first : LevelTree (below l)) (xs : StepTrees l) (y : Symbol) → steps_at (level_at first) xs y ≡ level_at (last_of first (step_list xs)) y
 steps_last first (Done l) y = refl
@@ -113,13 +113,13 @@ abbrev pub chain_from : (l : Operators) → LevelTree (below l) × List (StepOf 
 chain_from l p = Chain l p.0 (step_sequence l p.1)
 
 pub chain_back : (l : Operators) (x : LevelTree (Joined l)) → chain_from l (chain_to x) ≡ x
-chain_back l (Chain _ first others) = ap (λ t. Chain l first t) (row_list others)
+chain_back l (Chain _ first others) = ap (λ t. Chain l first t) (sequence_list others)
 
 pub chain_there : (l : Operators) (p : LevelTree (below l) × List (StepOf l)) → chain_to (chain_from l p) ≡ p
-chain_there l p = ap (λ t. (p.0, t)) (list_row l p.1)
+chain_there l p = ap (λ t. (p.0, t)) (list_sequence l p.1)
 
 pub chain_spelled : (l : Operators) (x : LevelTree (Joined l)) → chain level (operator l) (chain_to x) ≡ level x
-chain_spelled l (Chain _ first others) = ap (λ t. level first ++ t) (row_spelled others)
+chain_spelled l (Chain _ first others) = ap (λ t. level first ++ t) (sequence_spelled others)
 
 pub chain_ends : (l : Operators) (x : LevelTree (Joined l)) (y : Symbol) → level_at x y ≡ chain_at level_at (by_kind (joins l)) (chain_to x) y
 chain_ends l (Chain _ first others) y = ap (λ b. b || by_kind (joins l) y) (steps_last first others y)

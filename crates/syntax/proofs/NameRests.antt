@@ -12,17 +12,17 @@ use Rattle.syntax.specs.Types.{endpoint_end, endpoint_on, endpoint_at, pointer_t
 use Rattle.tree.specs.Expressions.{ExpressionTree, expression}
 use Rattle.tree.specs.Values.{ValueTree}
 use Rattle.syntax.specs.StatementParts.{declared, assigned, called, channel_ends}
-use Rattle.program.specs.declared.kind as tree
-use Rattle.program.specs.declared.kind.Side.TheVariants as side
+use Rattle.program.specs.declared.types as tree
+use Rattle.program.specs.declared.types.Side.TheVariants as side
 use Rattle.syntax.specs.declared.fronts as parts
 use Rattle.syntax.specs.declared.fronts.NamedTail.TheVariants as tail
 use Rattle.syntax.specs.declared.statement_ends.ChannelEnds.{ChannelEnds}
-use Rattle.syntax.proofs.Pieces.{Piece, Follows, Meets, ReadsOneWay, both, both_piece, next}
-use Rattle.syntax.proofs.Beginnings.{Begins}
-use Rattle.syntax.proofs.Choices.{Form, FormOf, Same, Other, form_way}
-use Rattle.syntax.proofs.CursorLemmas.{fixed_piece, named_piece}
-use Rattle.syntax.proofs.TypeRules.{pointer_piece}
-use Rattle.syntax.proofs.EndpointRules.{endpoint_end_piece}
+use Rattle.syntax.proofs.pieces.Pieces.{Piece, Follows, Meets, ReadsOneWay, both, both_piece, next}
+use Rattle.syntax.proofs.pieces.Beginnings.{Begins}
+use Rattle.syntax.proofs.pieces.Choices.{Form, FormOf, Same, Other, form_way}
+use Rattle.syntax.proofs.pieces.CursorLemmas.{fixed_piece, named_piece}
+use Rattle.syntax.proofs.definitions.TypeRules.{pointer_piece}
+use Rattle.syntax.proofs.definitions.EndpointRules.{endpoint_end_piece}
 use Rattle.syntax.proofs.CaseRules.{tail_meets}
 use Rattle.syntax.proofs.SimpleRules.{declared_piece, assigned_piece, called_piece, channel_ends_piece}
 use Rattle.syntax.proofs.ExpressionFails.{index_piece}

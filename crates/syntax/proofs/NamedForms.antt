@@ -14,14 +14,14 @@ use Rattle.tree.specs.StatementTrees.{StatementTree, Declare, Assign, Call, NewC
 use Rattle.tree.specs.StatementGrammar.{statement}
 use Rattle.syntax.specs.StatementFirsts.{statement_on, statement_at}
 use Rattle.tree.specs.declared.types as type_nodes
-use Rattle.program.specs.declared.kind as kind_nodes
-use Rattle.program.specs.declared.kind.Scalar.TheVariants as scalar
+use Rattle.program.specs.declared.types as kind_nodes
+use Rattle.program.specs.declared.types.Scalar.TheVariants as scalar
 use Rattle.tree.specs.declared.types.Type.TheVariants as type
 use Rattle.tree.specs.declared.types.Heap.TheVariants as heap
-use Rattle.syntax.proofs.Pieces.{ReadsOneWay, both, next, wide_way, wide_fails, fails_after, stops_never}
-use Rattle.syntax.proofs.Choices.{Form, FormOf, Same, Other, form_way, form_fails}
-use Rattle.syntax.proofs.KindLemmas.{kind_other, other_leads}
-use Rattle.syntax.proofs.CursorLemmas.{fixed_piece, named_piece}
+use Rattle.syntax.proofs.pieces.Pieces.{ReadsOneWay, both, next, wide_way, wide_fails, fails_after, stops_never}
+use Rattle.syntax.proofs.pieces.Choices.{Form, FormOf, Same, Other, form_way, form_fails}
+use Rattle.syntax.proofs.pieces.KindLemmas.{kind_other, other_leads}
+use Rattle.syntax.proofs.pieces.CursorLemmas.{fixed_piece, named_piece}
 use Rattle.syntax.proofs.NameRests.{Passed, Written, member_rest, Ended, Made, Member, dotted_rest, Called, Indexed, Assigned, NameRest, Pointed, Dotted, Plain, name_rest, member_form, dotted_form, name_rest_piece}
 use Rattle.syntax.proofs.StatementLeads.{other}
 

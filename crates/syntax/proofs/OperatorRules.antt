@@ -16,12 +16,12 @@ use Rattle.tree.specs.declared.expression.RelationOperator.TheVariants as relati
 use Rattle.tree.specs.declared.expression.SumOperator.TheVariants as sum
 use Rattle.tree.specs.declared.expression.PrefixOperator.TheVariants as prefixes
 use Rattle.tree.specs.declared.expression.FactorOperator.TheVariants as factors
-use Rattle.syntax.proofs.Pieces.{Piece, ReadsOneWay, via_piece}
-use Rattle.syntax.proofs.Beginnings.{Begins, Starts}
-use Rattle.syntax.proofs.Choices.{Form, Same, Other, form_way}
-use Rattle.syntax.proofs.Words.{Words, words_piece, words_starts, marks_piece, one_some, none_some}
-use Rattle.syntax.proofs.KindLemmas.{fixed_starts}
-use Rattle.syntax.proofs.CursorLemmas.{fixed, fixed_piece, placed_piece}
+use Rattle.syntax.proofs.pieces.Pieces.{Piece, ReadsOneWay, via_piece}
+use Rattle.syntax.proofs.pieces.Beginnings.{Begins, Starts}
+use Rattle.syntax.proofs.pieces.Choices.{Form, Same, Other, form_way}
+use Rattle.syntax.proofs.pieces.Words.{Words, words_piece, words_starts, marks_piece, one_some, none_some}
+use Rattle.syntax.proofs.pieces.KindLemmas.{fixed_starts}
+use Rattle.syntax.proofs.pieces.CursorLemmas.{fixed, fixed_piece, placed_piece}
 
 -- "==" | "!="
 

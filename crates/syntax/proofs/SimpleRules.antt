@@ -14,10 +14,10 @@ use Rattle.tree.specs.StatementGrammar.{init, exchange}
 use Rattle.syntax.specs.StatementParts.{init_on, result_on, declared, assigned, called, channel_ends, jump, delete, start, return_parts}
 use Rattle.tree.specs.declared.statement as made
 use Rattle.syntax.specs.declared.statement_ends.ChannelEnds.{ChannelEnds}
-use Rattle.syntax.proofs.Pieces.{Piece, Follows, Meets, both, both_piece, next, via_piece, or_right}
-use Rattle.syntax.proofs.Beginnings.{Starts}
-use Rattle.syntax.proofs.Options.{Opens, open_opt_piece}
-use Rattle.syntax.proofs.CursorLemmas.{fixed, fixed_piece, placed_piece, named_piece}
+use Rattle.syntax.proofs.pieces.Pieces.{Piece, Follows, Meets, both, both_piece, next, via_piece, or_right}
+use Rattle.syntax.proofs.pieces.Beginnings.{Starts}
+use Rattle.syntax.proofs.pieces.Options.{Opens, open_opt_piece}
+use Rattle.syntax.proofs.pieces.CursorLemmas.{fixed, fixed_piece, placed_piece, named_piece}
 use Rattle.syntax.proofs.ExpressionFails.{expression_piece, expression_starts, expression_apart}
 use Rattle.syntax.proofs.ValueFails.{value_piece, value_apart}
 use Rattle.syntax.proofs.ValueForms.{call_piece, maybe_dot_piece, dot_follows, dot_meets}

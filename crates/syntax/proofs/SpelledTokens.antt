@@ -20,13 +20,13 @@ use Rattle.tree.specs.declared.statement.Awaited.TheVariants as awaits
 use Rattle.tree.specs.declared.types.Type.TheVariants as type
 use Rattle.tree.specs.declared.types.Heap.TheVariants as heap
 use Rattle.tree.specs.declared.expression.SumOperator.TheVariants as sum
-use Rattle.syntax.proofs.Tops.{is_token, SpellsTokens}
+use Rattle.syntax.proofs.pieces.Tops.{is_token, SpellsTokens}
 
 -- how rules are put together
 
-row_tokens : {X : Type 0} (a : X → List Symbol) → SpellsTokens a → SpellsTokens (flat_map a)
-row_tokens a h [] = refl
-row_tokens a h (x ∷ xs) = simp (list_all-append, h, row_tokens a h xs)
+sequence_tokens : {X : Type 0} (a : X → List Symbol) → SpellsTokens a → SpellsTokens (flat_map a)
+sequence_tokens a h [] = refl
+sequence_tokens a h (x ∷ xs) = simp (list_all-append, h, sequence_tokens a h xs)
 
 optional_tokens : {X : Type 0} (a : X → List Symbol) → SpellsTokens a → SpellsTokens (optional a)
 optional_tokens a h None = refl
@@ -38,7 +38,7 @@ when_tokens a h false = refl
 
 listed_tokens : {X : Type 0} (a : X → List Symbol) → SpellsTokens a → SpellsTokens (listed a)
 listed_tokens a h [] = refl
-listed_tokens a h (x ∷ xs) = simp (list_all-append, h, row_tokens (comma a) h xs)
+listed_tokens a h (x ∷ xs) = simp (list_all-append, h, sequence_tokens (comma a) h xs)
 
 -- types and contracts
 
@@ -61,7 +61,7 @@ message_tokens : SpellsTokens message
 message_tokens m = simp (list_all-append, listed_tokens param param_tokens m.params)
 
 path_tokens : SpellsTokens path
-path_tokens p = simp (list_all-append, row_tokens edge (λ _. refl) p.others)
+path_tokens p = simp (list_all-append, sequence_tokens edge (λ _. refl) p.others)
 
 line_tokens : SpellsTokens line
 line_tokens p = simp (list_all-append, path_tokens p)
@@ -70,7 +70,7 @@ body_tokens : SpellsTokens body
 body_tokens Empty = refl
 body_tokens (Path p) = line_tokens p
 body_tokens (One paths close semicolon) =
-    simp (list_all-append, row_tokens line line_tokens paths, when_tokens (word kind.Semicolon) refl semicolon)
+    simp (list_all-append, sequence_tokens line line_tokens paths, when_tokens (word kind.Semicolon) refl semicolon)
 
 member_tokens : SpellsTokens member
 member_tokens (Message m) = message_tokens m
@@ -78,8 +78,8 @@ member_tokens (State s) = body_tokens s.body
 
 contract_tokens : SpellsTokens contract
 contract_tokens c =
-    let messages = row_tokens message message_tokens c.messages in
-    let members = row_tokens member member_tokens c.members in
+    let messages = sequence_tokens message message_tokens c.messages in
+    let members = sequence_tokens member member_tokens c.members in
     simp (list_all-append, messages, body_tokens c.state.body, members)
 
 -- expressions and values
@@ -90,7 +90,7 @@ operator_tokens l o = refl
 
 mutual
   level_tokens : {l : Level} → SpellsTokens (level {l = l})
-  level_tokens (Unary prefixes a) = simp (list_all-append, row_tokens prefix (λ _. refl) prefixes, atom_tokens a)
+  level_tokens (Unary prefixes a) = simp (list_all-append, sequence_tokens prefix (λ _. refl) prefixes, atom_tokens a)
   level_tokens (Chain l first others) = simp (list_all-append, level_tokens first, steps_tokens others)
 
   steps_tokens : {l : Operators} → SpellsTokens (steps {l = l})
@@ -198,11 +198,11 @@ method_tokens m =
 
 definition_tokens : SpellsTokens definition
 definition_tokens (defined.Contract c) = contract_tokens c
-definition_tokens (defined.Struct s) = simp (list_all-append, row_tokens field field_tokens s.fields)
-definition_tokens (defined.Class c) = simp (list_all-append, row_tokens method method_tokens c.methods)
+definition_tokens (defined.Struct s) = simp (list_all-append, sequence_tokens field field_tokens s.fields)
+definition_tokens (defined.Class c) = simp (list_all-append, sequence_tokens method method_tokens c.methods)
 
 item_tokens : SpellsTokens item
 item_tokens i = simp (list_all-append, access_tokens i.access, definition_tokens i.definition)
 
 pub program_tokens : SpellsTokens program
-program_tokens = row_tokens item item_tokens
+program_tokens = sequence_tokens item item_tokens

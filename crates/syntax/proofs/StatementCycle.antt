@@ -13,15 +13,15 @@ use Rattle.tree.specs.StatementTrees.{StatementTree, If, BlockTree, Braces, Test
 use Rattle.tree.specs.StatementGrammar.{awaited, bind, statement, block, test, others, case}
 use Rattle.syntax.specs.StatementParts.{CaseFrontTree, case_front}
 use Rattle.syntax.specs.StatementFirsts.{opens_statement, statement_on, others_at, statement_at, statements_on, statements_at, statement_list, case_at, cases_on, cases_at}
-use Rattle.syntax.proofs.Pieces.{Follows, Meets, ReadsOneWay, both, both_way, via_way, via_fails, same_fails, or_right, ends, meets}
-use Rattle.syntax.proofs.Beginnings.{Begins, Starts, Splits, Leaves}
-use Rattle.syntax.proofs.Repeats.{many_stops, row_stops}
-use Rattle.syntax.proofs.Options.{Opens}
-use Rattle.syntax.proofs.Choices.{Form, FormOf, Same, Other}
-use Rattle.syntax.proofs.Enclosed.{InBraces}
-use Rattle.syntax.proofs.KindLemmas.{kinds_apart, apart_kinds}
-use Rattle.syntax.proofs.CursorLemmas.{fixed_piece}
-use Rattle.syntax.proofs.StatementRows.{list_row, row_list, list_spelled}
+use Rattle.syntax.proofs.pieces.Pieces.{Follows, Meets, ReadsOneWay, both, both_way, via_way, via_fails, same_fails, or_right, ends, meets}
+use Rattle.syntax.proofs.pieces.Beginnings.{Begins, Starts, Splits, Leaves}
+use Rattle.syntax.proofs.pieces.Repeats.{many_stops, sequence_stops}
+use Rattle.syntax.proofs.pieces.Options.{Opens}
+use Rattle.syntax.proofs.pieces.Choices.{Form, FormOf, Same, Other}
+use Rattle.syntax.proofs.pieces.Enclosed.{InBraces}
+use Rattle.syntax.proofs.pieces.KindLemmas.{kinds_apart, apart_kinds}
+use Rattle.syntax.proofs.pieces.CursorLemmas.{fixed_piece}
+use Rattle.syntax.proofs.StatementSequences.{list_sequence, sequence_list, list_spelled}
 use Rattle.lemmas.proofs.Bools.{or_left}
 
 -- block = "{" { statement } "}" .
@@ -33,10 +33,10 @@ abbrev pub block_from : List StatementTree × Span → BlockTree
 block_from p = Braces (statement_sequence p.0) p.1
 
 pub block_back : (b : BlockTree) → block_from (block_to b) ≡ b
-block_back (Braces inner close) = ap (λ t. Braces t close) (list_row inner)
+block_back (Braces inner close) = ap (λ t. Braces t close) (list_sequence inner)
 
 pub block_there : (p : List StatementTree × Span) → block_to (block_from p) ≡ p
-block_there p = λ i. (row_list p.0 i, p.1)
+block_there p = λ i. (sequence_list p.0 i, p.1)
 
 pub block_spelled : (b : BlockTree) → braced (flat_map statement) (block_to b) ≡ block b
 block_spelled (Braces inner close) = ap (λ t. word kind.OpenBrace ++ (t ++ placed kind.CloseBrace close)) (list_spelled inner)
@@ -165,10 +165,10 @@ abbrev pub case_from : CaseFrontTree × List StatementTree → CaseTree
 case_from p = Case p.0.word p.0.endpoint p.0.message p.0.open_paren p.0.binds (statement_sequence p.1)
 
 pub case_back : (c : CaseTree) → case_from (case_to c) ≡ c
-case_back (Case span endpoint message left binds inner) = ap (λ t. Case span endpoint message left binds t) (list_row inner)
+case_back (Case span endpoint message left binds inner) = ap (λ t. Case span endpoint message left binds t) (list_sequence inner)
 
 pub case_there : (p : CaseFrontTree × List StatementTree) → case_to (case_from p) ≡ p
-case_there p = λ i. (p.0, row_list p.1 i)
+case_there p = λ i. (p.0, sequence_list p.1 i)
 
 pub case_spelled : (c : CaseTree) → case_parts (case_to c) ≡ case c
 case_spelled (Case span endpoint message left binds inner) =
@@ -189,7 +189,7 @@ case_starts = record { each = begins }
     begins : (c : CaseTree) → Begins case (is_kind kind.Case) c
     begins (Case span endpoint message left binds inner) = record { head = Placed kind.Case span; tail = _; is = refl; first = refl }
 
--- by what rows of statements and of cases go on
+-- by what sequences of statements and of cases go on
 
 others_apart : (x : OtherTrees) (y : Symbol) → statement_on y ≡ false → others_at x y ≡ false
 others_apart NoOther y h = h
@@ -201,7 +201,7 @@ statement_apart (If t more) y h = others_apart more y h
 statement_apart x y h = refl
 
 pub statements_apart : (xs : List StatementTree) (y : Symbol) → statements_on y ≡ false → statements_at xs y ≡ false
-statements_apart xs y h = row_stops (by_kind opens_statement) statement_at y (or_right (statement_on y) (by_kind opens_statement y) h) (λ x. statement_apart x y (or_left (statement_on y) (by_kind opens_statement y) h)) xs
+statements_apart xs y h = sequence_stops (by_kind opens_statement) statement_at y (or_right (statement_on y) (by_kind opens_statement y) h) (λ x. statement_apart x y (or_left (statement_on y) (by_kind opens_statement y) h)) xs
 
 pub case_apart : (c : CaseTree) (y : Symbol) → statements_on y ≡ false → case_at c y ≡ false
 case_apart (Case span endpoint message left binds inner) y h = statements_apart (statement_list inner) y h
@@ -233,7 +233,7 @@ pub cases_follow : Follows cases_on (placed kind.CloseBrace) never
 cases_follow = record { each = λ span r h. refl }
 
 pub cases_meet : Meets cases_at (placed kind.CloseBrace) (λ _. never)
-cases_meet = record { here = λ cs span r h. row_stops (is_kind kind.Case) case_at (Placed kind.CloseBrace span) refl (λ c. case_apart c (Placed kind.CloseBrace span) refl) cs }
+cases_meet = record { here = λ cs span r h. sequence_stops (is_kind kind.Case) case_at (Placed kind.CloseBrace span) refl (λ c. case_apart c (Placed kind.CloseBrace span) refl) cs }
 
 cases_stop : (p : List CaseTree × Span) (r : List Symbol) → Stops statements_on (cases_end p ++ r)
 cases_stop p r = subst (Stops statements_on) (sym (append_assoc (flat_map case p.0) (placed kind.CloseBrace p.1) r)) (many_stops case_starts case_splits case_leaves p.0 (placed kind.CloseBrace p.1 ++ r) refl)

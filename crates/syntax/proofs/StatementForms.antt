@@ -17,19 +17,19 @@ use Rattle.tree.specs.StatementGrammar.{exchange, statement, block, test, others
 use Rattle.syntax.specs.StatementParts.{if_parts, switch_parts, declared, jump, delete, start, return_parts}
 use Rattle.syntax.specs.StatementFirsts.{case_list}
 use Rattle.tree.specs.declared.types as type_nodes
-use Rattle.program.specs.declared.kind as kind_nodes
-use Rattle.program.specs.declared.kind.Scalar.TheVariants as scalar
+use Rattle.program.specs.declared.types as kind_nodes
+use Rattle.program.specs.declared.types.Scalar.TheVariants as scalar
 use Rattle.tree.specs.declared.types.Type.TheVariants as type
 use Rattle.tree.specs.declared.types.Heap.TheVariants as heap
 use Rattle.syntax.specs.declared.fronts as parts
-use Rattle.syntax.proofs.Pieces.{Piece, Follows, Meets, both, both_piece}
-use Rattle.syntax.proofs.Beginnings.{Begins, Starts}
-use Rattle.syntax.proofs.Choices.{Form, FormOf, Same, Other}
-use Rattle.syntax.proofs.KindLemmas.{apart_kinds}
-use Rattle.syntax.proofs.TypeRules.{scalar_type_piece}
-use Rattle.syntax.proofs.TypeForms.{scalar_form}
+use Rattle.syntax.proofs.pieces.Pieces.{Piece, Follows, Meets, both, both_piece}
+use Rattle.syntax.proofs.pieces.Beginnings.{Begins, Starts}
+use Rattle.syntax.proofs.pieces.Choices.{Form, FormOf, Same, Other}
+use Rattle.syntax.proofs.pieces.KindLemmas.{apart_kinds}
+use Rattle.syntax.proofs.definitions.TypeRules.{scalar_type_piece}
+use Rattle.syntax.proofs.definitions.TypeForms.{scalar_form}
 use Rattle.syntax.proofs.SimpleRules.{declared_piece}
-use Rattle.syntax.proofs.StatementRows.{case_list_row, case_row_spelled}
+use Rattle.syntax.proofs.StatementSequences.{case_list_sequence, case_sequence_spelled}
 use Rattle.syntax.proofs.StatementLeads.{assign_begins, begins_by, other}
 
 pub block_form : Form statement block Block (is_kind kind.OpenBrace)
@@ -76,12 +76,12 @@ of_switch s = Switch s.word s.first (case_sequence s.others) s.close
 pub switch_form : Form statement switch_parts of_switch (is_kind kind.Switch)
 switch_form = record {
   first = record { each = λ s. record { head = Placed kind.Switch s.word; tail = _; is = refl; first = refl } };
-  same = λ s. ap (λ t. placed kind.Switch s.word ++ (word kind.Receive ++ (word kind.OpenBrace ++ (case s.first ++ (t ++ placed kind.CloseBrace s.close))))) (case_row_spelled s.others);
+  same = λ s. ap (λ t. placed kind.Switch s.word ++ (word kind.Receive ++ (word kind.OpenBrace ++ (case s.first ++ (t ++ placed kind.CloseBrace s.close))))) (case_sequence_spelled s.others);
   each = each;
 }
   where
     each : (z : StatementTree) → FormOf statement of_switch (is_kind kind.Switch) z
-    each (Switch span first more close) = Same (record { word = span; first = first; others = case_list more; close = close }) (ap (λ m. Switch span first m close) (sym (case_list_row more)))
+    each (Switch span first more close) = Same (record { word = span; first = first; others = case_list more; close = close }) (ap (λ m. Switch span first m close) (sym (case_list_sequence more)))
     each z = other kind.Switch z refl
 
 pub break_form : Form statement (jump kind.Break) Break (is_kind kind.Break)

@@ -18,10 +18,10 @@ use Rattle.tree.specs.declared.types as tree
 use Rattle.syntax.specs.declared.leads.Lead.{Lead}
 use Rattle.syntax.specs.declared.leads.Lead.TheVariants as lead
 use Rattle.syntax.specs.declared.leads.SimpleLead.TheVariants as simple
-use Rattle.syntax.proofs.Beginnings.{Begins, Starts}
-use Rattle.syntax.proofs.Choices.{FormOf, Other}
-use Rattle.syntax.proofs.Words.{one_some, none_some}
-use Rattle.syntax.proofs.KindLemmas.{kind_only, kinds_apart, test_leads}
+use Rattle.syntax.proofs.pieces.Beginnings.{Begins, Starts}
+use Rattle.syntax.proofs.pieces.Choices.{FormOf, Other}
+use Rattle.syntax.proofs.pieces.Words.{one_some, none_some}
+use Rattle.syntax.proofs.pieces.KindLemmas.{kind_only, kinds_apart, test_leads}
 use Rattle.syntax.proofs.CaseRules.{type_starts}
 
 -- whether a statement of this lead begins with this token

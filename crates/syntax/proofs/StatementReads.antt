@@ -12,13 +12,13 @@ use Rattle.tree.specs.StatementTrees.{StatementTree, BlockTree, TestTree, Test, 
 use Rattle.tree.specs.StatementGrammar.{statement, block, test, others, case}
 use Rattle.syntax.specs.StatementParts.{if_parts, if_at, switch_parts, CaseFrontTree, case_front}
 use Rattle.syntax.specs.StatementFirsts.{statement_on, others_at, statements_at, case_at}
-use Rattle.syntax.proofs.Pieces.{Piece, ReadsOneWay, both_way, via_fails, same_fails, wide_way, fails_after, ends, meets, stops_never}
-use Rattle.syntax.proofs.Options.{open_opt_fails}
-use Rattle.syntax.proofs.Choices.{form_way, form_fails}
-use Rattle.syntax.proofs.CursorLemmas.{fixed_piece}
-use Rattle.syntax.proofs.StatementRows.{row_list}
+use Rattle.syntax.proofs.pieces.Pieces.{Piece, ReadsOneWay, both_way, via_fails, same_fails, wide_way, fails_after, ends, meets, stops_never}
+use Rattle.syntax.proofs.pieces.Options.{open_opt_fails}
+use Rattle.syntax.proofs.pieces.Choices.{form_way, form_fails}
+use Rattle.syntax.proofs.pieces.CursorLemmas.{fixed_piece}
+use Rattle.syntax.proofs.StatementSequences.{sequence_list}
 use Rattle.std.proofs.lemmas.List.{flat_map_more, map-append}
-use Rattle.syntax.proofs.Repeats.{last_more}
+use Rattle.syntax.proofs.pieces.Repeats.{last_more}
 use Rattle.syntax.proofs.StatementCycle.{block_from, block_spelled, block_there, case_from, case_spelled, case_there, case_parts, OtherTree, Last, Further, behind_else, else_part, else_to, else_from, else_if, other_at, others_to, others_from, others_there, others_spelled, else_starts, else_opens, last_form, further_form, else_way, if_to, if_from}
 use Rattle.syntax.proofs.StatementWays.{block_piece, test_piece, others_piece}
 
@@ -33,7 +33,7 @@ pub case_read : (old mid new : List Symbol) (f : CaseFrontTree) (xs : List State
 case_read old mid new f xs c is front inner =
     let spelled : case c ≡ case_parts (f, xs) = ap case is ∙ sym (case_spelled (case_from (f, xs))) ∙ ap case_parts (case_there (f, xs)) in (
       front.0 ∙ ap (λ t. case_front f ++ t) inner.0 ∙ sym (append_assoc (case_front f) (flat_map statement xs) new) ∙ ap (λ t. t ++ new) (sym spelled),
-      subst (λ c. Stops (case_at c) new) (sym is) (subst (λ l. Stops (statements_at l) new) (sym (row_list xs)) inner.1),
+      subst (λ c. Stops (case_at c) new) (sym is) (subst (λ l. Stops (statements_at l) new) (sym (sequence_list xs)) inner.1),
     )
 
 -- behind the first test of an `if`
@@ -63,34 +63,34 @@ others_fail {old} {mid} {last} {new} (t ∷ ts) read more h =
 pub if_fails : {old mid last new : List Symbol} (t : TestTree) (ts : List TestTree) → old ≡ test kind.If t ++ (flat_map else_if ts ++ mid) → mid ≡ Fixed kind.Else ∷ last → Fails behind_else statement_on last new → Fails if_parts statement_on old new
 if_fails {old} {mid} {last} {new} t ts read more h = via_fails if_to if_from (λ _. refl) (fails_after t (test_piece kind.If) (read, stops_never (flat_map else_if ts ++ mid)) (others_fail ts refl more h))
 
-row_spelled : (ts : List TestTree) (o : Option BlockTree) → others (other_sequence ts o) ≡ flat_map else_if ts ++ others (last_other o)
-row_spelled [] o = refl
-row_spelled (t ∷ ts) o = ap (λ l. word kind.Else ++ (test kind.If t ++ l)) (row_spelled ts o) ∙ ap (λ l. word kind.Else ++ l) (sym (append_assoc (test kind.If t) (flat_map else_if ts) (others (last_other o))))
+sequence_spelled : (ts : List TestTree) (o : Option BlockTree) → others (other_sequence ts o) ≡ flat_map else_if ts ++ others (last_other o)
+sequence_spelled [] o = refl
+sequence_spelled (t ∷ ts) o = ap (λ l. word kind.Else ++ (test kind.If t ++ l)) (sequence_spelled ts o) ∙ ap (λ l. word kind.Else ++ l) (sym (append_assoc (test kind.If t) (flat_map else_if ts) (others (last_other o))))
 
-row_at : (ts : List TestTree) (o : Option BlockTree) → others_at (other_sequence ts o) ≡ others_at (last_other o)
-row_at [] o = refl
-row_at (t ∷ ts) o = row_at ts o
+sequence_at : (ts : List TestTree) (o : Option BlockTree) → others_at (other_sequence ts o) ≡ others_at (last_other o)
+sequence_at [] o = refl
+sequence_at (t ∷ ts) o = sequence_at ts o
 
 pub if_read : (old mid new : List Symbol) (t : TestTree) (ts : List TestTree) (o : Option BlockTree) (i : IfTree) → i ≡ record { first = t; others = other_sequence ts o } → old ≡ test kind.If t ++ (flat_map else_if ts ++ mid) → mid ≡ others (last_other o) ++ new → Stops (others_at (last_other o)) new → (old ≡ if_parts i ++ new) × Stops (if_at i) new
 if_read old mid new t ts o i is read more ended =
     let tests : List Symbol = flat_map else_if ts in (
       read ∙ ap (λ l. test kind.If t ++ (tests ++ l)) more
-          ∙ ap (λ l. test kind.If t ++ l) (sym (append_assoc tests (others (last_other o)) new) ∙ ap (λ l. l ++ new) (sym (row_spelled ts o)))
+          ∙ ap (λ l. test kind.If t ++ l) (sym (append_assoc tests (others (last_other o)) new) ∙ ap (λ l. l ++ new) (sym (sequence_spelled ts o)))
           ∙ sym (append_assoc (test kind.If t) (others (other_sequence ts o)) new) ∙ ap (λ i. if_parts i ++ new) (sym is),
-      subst (λ i. Stops (if_at i) new) (sym is) (subst (λ at. Stops at new) (sym (row_at ts o)) ended),
+      subst (λ i. Stops (if_at i) new) (sym is) (subst (λ at. Stops at new) (sym (sequence_at ts o)) ended),
     )
 
 -- one more in a row
 
-pub row_read : {X Y : Type 0} (view : X → Y) (a : Y → List Symbol) (x : X) (xs all : List X) (old mid new : List Symbol) → all ≡ xs ++ x ∷ [] → old ≡ flat_map a (map view xs) ++ mid → mid ≡ a (view x) ++ new → old ≡ flat_map a (map view all) ++ new
-row_read {X} {Y} view a x xs all old mid new pushed read more =
-    let row : List Symbol = flat_map a (map view xs) in
-    read ∙ ap (λ t. row ++ t) more ∙ sym (append_assoc row (a (view x)) new)
+pub sequence_read : {X Y : Type 0} (view : X → Y) (a : Y → List Symbol) (x : X) (xs all : List X) (old mid new : List Symbol) → all ≡ xs ++ x ∷ [] → old ≡ flat_map a (map view xs) ++ mid → mid ≡ a (view x) ++ new → old ≡ flat_map a (map view all) ++ new
+sequence_read {X} {Y} view a x xs all old mid new pushed read more =
+    let sequence : List Symbol = flat_map a (map view xs) in
+    read ∙ ap (λ t. sequence ++ t) more ∙ sym (append_assoc sequence (a (view x)) new)
     ∙ ap (λ t. t ++ new) (flat_map_more a [] (map view xs) (view x) ∙ ap (flat_map a) (sym (map-append view xs (x ∷ []))))
     ∙ ap (λ l. flat_map a (map view l) ++ new) (sym pushed)
 
-pub row_ended : {X Y : Type 0} (view : X → Y) (at : Y → Symbol → Bool) (x : X) (xs all : List X) (r : List Symbol) → all ≡ xs ++ x ∷ [] → Stops (at (view x)) r → Stops (last_at at (map view all)) r
-row_ended {X} {Y} view at x xs all r pushed h =
+pub sequence_ended : {X Y : Type 0} (view : X → Y) (at : Y → Symbol → Bool) (x : X) (xs all : List X) (r : List Symbol) → all ≡ xs ++ x ∷ [] → Stops (at (view x)) r → Stops (last_at at (map view all)) r
+sequence_ended {X} {Y} view at x xs all r pushed h =
     let last : last_at at (map view all) ≡ at (view x) =
     ap (λ l. last_at at (map view l)) pushed ∙ ap (last_at at) (map-append view xs (x ∷ [])) ∙ last_more at (map view xs) (view x) in
     subst (λ f. Stops f r) (sym last) h
@@ -101,9 +101,9 @@ shorter_more a b c less le = omega arith
 -- a switch is read by its parts
 pub switch_read : (old a b d e f new : List Symbol) (span close : Span) (x : CaseTree) (xs : List CaseTree) (s : SwitchTree) → s ≡ record { word = span; first = x; others = xs; close = close } → old ≡ placed kind.Switch span ++ a → a ≡ Fixed kind.Receive ∷ b → b ≡ Fixed kind.OpenBrace ∷ d → d ≡ case x ++ e → e ≡ flat_map case xs ++ f → f ≡ placed kind.CloseBrace close ++ new → old ≡ switch_parts s ++ new
 switch_read old a b d e f new span close x xs s is word_is receive_is left first more right =
-    let row : List Symbol = flat_map case xs in
-    let ended : d ≡ (case x ++ (row ++ placed kind.CloseBrace close)) ++ new =
-    first ∙ ap (λ t. case x ++ t) (more ∙ ap (λ t. row ++ t) right ∙ sym (append_assoc row (placed kind.CloseBrace close) new)) ∙ sym (append_assoc (case x) (row ++ placed kind.CloseBrace close) new) in
+    let sequence : List Symbol = flat_map case xs in
+    let ended : d ≡ (case x ++ (sequence ++ placed kind.CloseBrace close)) ++ new =
+    first ∙ ap (λ t. case x ++ t) (more ∙ ap (λ t. sequence ++ t) right ∙ sym (append_assoc sequence (placed kind.CloseBrace close) new)) ∙ sym (append_assoc (case x) (sequence ++ placed kind.CloseBrace close) new) in
     word_is ∙ ap (λ t. placed kind.Switch span ++ t) (receive_is ∙ ap (λ t. Fixed kind.Receive ∷ t) (left ∙ ap (λ t. Fixed kind.OpenBrace ∷ t) ended))
     ∙ ap (λ s. switch_parts s ++ new) (sym is)
 

@@ -13,13 +13,13 @@ use Rattle.syntax.specs.StatementFirsts.{statement_on, others_at, statement_at, 
 use Rattle.tree.specs.declared.types as tree
 use Rattle.tree.specs.declared.types.Type.TheVariants as type
 use Rattle.tree.specs.declared.types.Heap.TheVariants as heap
-use Rattle.syntax.proofs.Pieces.{Piece, ReadsOneWay, both, both_way, both_piece, via_way, same_way, wide_way, ends, meets, stops_never}
-use Rattle.syntax.proofs.Repeats.{nil_open_way, cons_open_way, many_open_piece}
-use Rattle.syntax.proofs.Options.{open_none_way, open_some_way}
-use Rattle.syntax.proofs.Choices.{form_way}
-use Rattle.syntax.proofs.Enclosed.{braced_way}
-use Rattle.syntax.proofs.CursorLemmas.{fixed_piece, placed_piece, named_piece}
-use Rattle.syntax.proofs.StatementRows.{case_list_row}
+use Rattle.syntax.proofs.pieces.Pieces.{Piece, ReadsOneWay, both, both_way, both_piece, via_way, same_way, wide_way, ends, meets, stops_never}
+use Rattle.syntax.proofs.pieces.Repeats.{nil_open_way, cons_open_way, many_open_piece}
+use Rattle.syntax.proofs.pieces.Options.{open_none_way, open_some_way}
+use Rattle.syntax.proofs.pieces.Choices.{form_way}
+use Rattle.syntax.proofs.pieces.Enclosed.{braced_way}
+use Rattle.syntax.proofs.pieces.CursorLemmas.{fixed_piece, placed_piece, named_piece}
+use Rattle.syntax.proofs.StatementSequences.{case_list_sequence}
 use Rattle.syntax.proofs.StatementLeads.{statement_starts}
 use Rattle.syntax.proofs.SimpleRules.{jump_piece, delete_piece, exchange_piece, start_piece, return_piece}
 use Rattle.syntax.proofs.CaseRules.{case_front_piece}
@@ -60,7 +60,7 @@ mutual
   statement_way (Continue span) = form_way continue_form (λ _ r _. stops_never r) (wide_way (λ y h. refl) ((jump_piece kind.Continue).each span))
   statement_way (Return span e) = form_way return_form (λ _ r _. stops_never r) (wide_way (λ y h. refl) (return_piece.each (span, e)))
   statement_way (Switch span first more close) =
-      subst (λ m. ReadsOneWay statement statement_on statement_at (Switch span first m close)) (case_list_row more)
+      subst (λ m. ReadsOneWay statement statement_on statement_at (Switch span first m close)) (case_list_sequence more)
       (form_way switch_form {x = record { word = span; first = first; others = case_list more; close = close }} (λ _ r _. stops_never r) (wide_way (λ y h. refl) (via_way switch_to switch_from (λ _. refl)
       (both_way ((placed_piece kind.Switch).each span) (both_way ((fixed_piece kind.Receive).each tt) (both_way ((fixed_piece kind.OpenBrace).each tt)
       (both_way (case_way first) (both_way (cases_way more) ((placed_piece kind.CloseBrace).each close) cases_follow cases_meet) case_follows case_meets) ends meets) ends meets) ends meets))))

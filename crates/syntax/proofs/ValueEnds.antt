@@ -16,9 +16,9 @@ use Rattle.syntax.specs.ValueReads.{value_at, is_callee}
 use Rattle.tree.specs.declared.expression.Target as targets
 use Rattle.tree.specs.declared.expression.Unary.TheVariants as unary
 use Rattle.tree.specs.declared.expression.Atom.TheVariants as made
-use Rattle.syntax.proofs.Pieces.{stops_with}
-use Rattle.syntax.proofs.Choices.{form_fails}
-use Rattle.syntax.proofs.SharedFronts.{append_nil, tails}
+use Rattle.syntax.proofs.pieces.Pieces.{stops_with}
+use Rattle.syntax.proofs.pieces.Choices.{form_fails}
+use Rattle.syntax.proofs.pieces.SharedFronts.{append_nil, tails}
 use Rattle.syntax.proofs.AtomRules.{target_form}
 use Rattle.syntax.proofs.ExpressionFails.{unary_fails, atom_fails}
 use Rattle.syntax.proofs.TreeLemmas.{plain_made, target_made}

@@ -13,17 +13,17 @@ use Rattle.tree.specs.Expressions.{Target, Variable, Field, ExpressionTree, expr
 use Rattle.syntax.specs.ExpressionReads.{expression_on, opens_expression}
 use Rattle.tree.specs.Values.{CallTree, MadeTree, NewTree, ValueTree, Struct, Array, Expression, Call, New, arguments, call, made_struct, made_array, made_spelling, new_spelling, value_spelling}
 use Rattle.syntax.specs.ValueReads.{value_on, value_at, is_callee, opens_value}
-use Rattle.program.specs.declared.kind.Scalar.{Scalar}
-use Rattle.program.specs.declared.kind.Scalar.TheVariants as scalar
-use Rattle.syntax.proofs.Pieces.{Piece, ReadsOneWay, next, via_piece, via_fails, fails_first, fails_after, stops_never, or_right}
-use Rattle.syntax.proofs.Beginnings.{Begins, Starts, splits_self}
-use Rattle.syntax.proofs.Options.{opt_fails}
-use Rattle.syntax.proofs.Choices.{Form, Same, Other, form_way, form_fails}
-use Rattle.syntax.proofs.Words.{words_piece}
-use Rattle.syntax.proofs.KindLemmas.{kinds_apart, kind_leads}
-use Rattle.syntax.proofs.CursorLemmas.{fixed_piece, placed_piece, named_piece}
-use Rattle.syntax.proofs.TypeRules.{scalars}
-use Rattle.syntax.proofs.SharedFronts.{heads, front_fails, both_fail}
+use Rattle.program.specs.declared.types.Scalar.{Scalar}
+use Rattle.program.specs.declared.types.Scalar.TheVariants as scalar
+use Rattle.syntax.proofs.pieces.Pieces.{Piece, ReadsOneWay, next, via_piece, via_fails, fails_first, fails_after, stops_never, or_right}
+use Rattle.syntax.proofs.pieces.Beginnings.{Begins, Starts, splits_self}
+use Rattle.syntax.proofs.pieces.Options.{opt_fails}
+use Rattle.syntax.proofs.pieces.Choices.{Form, Same, Other, form_way, form_fails}
+use Rattle.syntax.proofs.pieces.Words.{words_piece}
+use Rattle.syntax.proofs.pieces.KindLemmas.{kinds_apart, kind_leads}
+use Rattle.syntax.proofs.pieces.CursorLemmas.{fixed_piece, placed_piece, named_piece}
+use Rattle.syntax.proofs.definitions.TypeRules.{scalars}
+use Rattle.syntax.proofs.pieces.SharedFronts.{heads, front_fails, both_fail}
 use Rattle.syntax.proofs.AtomRules.{target_form, dot_piece}
 use Rattle.syntax.proofs.ExpressionFails.{index_piece, expression_piece, expression_starts, expression_apart, unary_fails, atom_fails, dotted_fails}
 use Rattle.syntax.proofs.ValueRules.{arguments_piece}

@@ -14,12 +14,12 @@ use Rattle.tree.specs.Expressions.{AtomTree, Unary, Chain, Done, Target, Variabl
 use Rattle.syntax.specs.ExpressionReads.{expression_on, expression_at, opens_expression}
 use Rattle.tree.specs.Values.{CallTree, NewTree, ValueTree, Expression, Call, New, arguments, call, new_spelling, value_spelling}
 use Rattle.syntax.specs.ValueReads.{value_on, value_at, is_callee}
-use Rattle.syntax.proofs.Pieces.{Piece, next, via_piece, via_fails, fails_after, fails_second, stops_with, stops_never, or_right, both_piece, Follows, Meets}
-use Rattle.syntax.proofs.Beginnings.{Starts, splits_self, stops_leads}
-use Rattle.syntax.proofs.Options.{opt_piece}
-use Rattle.syntax.proofs.KindLemmas.{apart_kinds}
-use Rattle.syntax.proofs.CursorLemmas.{named_piece}
-use Rattle.syntax.proofs.SharedFronts.{append_nil, heads, tails}
+use Rattle.syntax.proofs.pieces.Pieces.{Piece, next, via_piece, via_fails, fails_after, fails_second, stops_with, stops_never, or_right, both_piece, Follows, Meets}
+use Rattle.syntax.proofs.pieces.Beginnings.{Starts, splits_self, stops_leads}
+use Rattle.syntax.proofs.pieces.Options.{opt_piece}
+use Rattle.syntax.proofs.pieces.KindLemmas.{apart_kinds}
+use Rattle.syntax.proofs.pieces.CursorLemmas.{named_piece}
+use Rattle.syntax.proofs.pieces.SharedFronts.{append_nil, heads, tails}
 use Rattle.syntax.proofs.AtomRules.{dot_piece}
 use Rattle.syntax.proofs.ExpressionRules.{level_way}
 use Rattle.syntax.proofs.ExpressionFails.{expression_piece, expression_starts, expression_apart}

@@ -9,10 +9,10 @@ use Rattle.tree.specs.Expressions.{ExpressionTree, expression}
 use Rattle.syntax.specs.ExpressionReads.{expression_on, expression_at, opens_expression}
 use Rattle.tree.specs.Values.{arguments}
 use Rattle.syntax.specs.ValueReads.{expressions_on, expressions_at}
-use Rattle.syntax.proofs.Pieces.{Piece}
-use Rattle.syntax.proofs.Enclosed.{InParens, parens_piece}
-use Rattle.syntax.proofs.KindLemmas.{apart_kinds}
-use Rattle.syntax.proofs.ListedOpen.{OpenItem, listed_open_piece}
+use Rattle.syntax.proofs.pieces.Pieces.{Piece}
+use Rattle.syntax.proofs.pieces.Enclosed.{InParens, parens_piece}
+use Rattle.syntax.proofs.pieces.KindLemmas.{apart_kinds}
+use Rattle.syntax.proofs.pieces.ListedOpen.{OpenItem, listed_open_piece}
 use Rattle.syntax.proofs.ExpressionFails.{expression_piece, expression_starts, expression_apart}
 use Rattle.syntax.specs.OperatorReads.{after_expression}
 

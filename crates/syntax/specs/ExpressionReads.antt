@@ -48,7 +48,7 @@ level_on l = by_kind (goes_on l)
 abbrev pub step_at : (l : Operators) → StepOf l → Symbol → Bool
 step_at l p = level_at p.1
 
--- by what such a row could go on
+-- by what such a sequence could go on
 abbrev pub steps_end : (l : Operators) → List (StepOf l) → Symbol → Bool
 steps_end l = many_at (by_kind (joins l)) (step_at l)
 
@@ -56,7 +56,7 @@ steps_end l = many_at (by_kind (joins l)) (step_at l)
 abbrev pub factor_at : FactorTree → Symbol → Bool
 factor_at f = level_at f.1
 
--- by what a row of these could go on
+-- by what a sequence of these could go on
 abbrev pub factors_end : List FactorTree → Symbol → Bool
 factors_end = many_at (by_kind joins_factors) factor_at
 

@@ -5,12 +5,12 @@ use Rattle.source.specs.declared.kind.Kind.TheVariants as kind
 use Rattle.tree.specs.Symbols.{kind_is}
 use Rattle.tree.specs.declared.item as item_nodes
 use Rattle.program.specs.declared.contract as sign_nodes
-use Rattle.program.specs.declared.kind as kind_nodes
+use Rattle.program.specs.declared.types as kind_nodes
 use Rattle.tree.specs.declared.item.Access.TheVariants as access
 use Rattle.program.specs.declared.contract.Direction.TheVariants as direction
 use Rattle.program.specs.declared.contract.Sign.TheVariants as sign
-use Rattle.program.specs.declared.kind.Scalar.TheVariants as scalar
-use Rattle.program.specs.declared.kind.Side.TheVariants as side
+use Rattle.program.specs.declared.types.Scalar.TheVariants as scalar
+use Rattle.program.specs.declared.types.Side.TheVariants as side
 
 -- the access word of this kind, if it is one
 abbrev pub access_of : Option Kind → Option item_nodes.Access.Access

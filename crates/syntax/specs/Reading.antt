@@ -51,7 +51,7 @@ last_at at [] = never
 last_at at (x ∷ []) = at x
 last_at at (x ∷ y ∷ xs) = last_at at (y ∷ xs)
 
--- by what a row of pieces could go on: as its last piece could, or by a further one
+-- by what a sequence of pieces could go on: as its last piece could, or by a further one
 abbrev pub many_at : {X : Type 0} → (Symbol → Bool) → (X → Symbol → Bool) → List X → Symbol → Bool
 many_at starts at xs y = last_at at xs y || starts y
 

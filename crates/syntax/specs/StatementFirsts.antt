@@ -55,7 +55,7 @@ statements_on y = statement_on y || by_kind opens_statement y
 abbrev pub statements_at : List StatementTree → Symbol → Bool
 statements_at = many_at (by_kind opens_statement) statement_at
 
--- a row as a list
+-- a sequence as a list
 abbrev pub statement_list : StatementTrees → List StatementTree
 statement_list NoStatement = []
 statement_list (MoreStatements x xs) = x ∷ statement_list xs
@@ -72,7 +72,7 @@ cases_on y = statements_on y || is_kind kind.Case y
 abbrev pub cases_at : List CaseTree → Symbol → Bool
 cases_at = many_at (is_kind kind.Case) case_at
 
--- a row as a list
+-- a sequence as a list
 abbrev pub case_list : CaseTrees → List CaseTree
 case_list NoCase = []
 case_list (MoreCases x xs) = x ∷ case_list xs

@@ -6,7 +6,7 @@ use Rattle.tree.specs.Spelling.{word, name, sequence, optional, when}
 use Rattle.syntax.specs.Reading.{never, optional_at, open_at}
 use Rattle.source.specs.declared.token.Span.{Span}
 use Rattle.tree.specs.Grammar.{scalar_word, side_word, bang_word, in_heap_words, colon_name}
-use Rattle.program.specs.declared.kind.Scalar.{Scalar}
+use Rattle.program.specs.declared.types.Scalar.{Scalar}
 use Rattle.tree.specs.declared.types as type_nodes
 use Rattle.tree.specs.declared.types.Type.TheVariants as type
 use Rattle.tree.specs.declared.types.Heap.TheVariants as heap

@@ -12,9 +12,9 @@ use Rattle.contracts.specs.Sounds.{sound_parts}
 use Rattle.contracts.specs.declared.sound.Sound.{Sound}
 use Rattle.program.specs.Parts.{ContractModel}
 use Rattle.program.specs.Programs.{ProgramModel}
-use Rattle.program.specs.declared.kind.HeapKind.{HeapKind}
-use Rattle.program.specs.declared.kind.HeapKind.TheVariants.{Endpoint}
-use Rattle.program.specs.declared.kind.Side.{Side}
+use Rattle.program.specs.declared.types.HeapType.{HeapType}
+use Rattle.program.specs.declared.types.HeapType.TheVariants.{Endpoint}
+use Rattle.program.specs.declared.types.Side.{Side}
 use Rattle.program.specs.declared.number.ContractId.{ContractId}
 use Rattle.program.specs.declared.number.StateId.{StateId}
 use Rattle.rules.specs.Endpoints.{message_name}
@@ -25,9 +25,9 @@ mapped f g d (x ∷ xs) zero = refl
 mapped f g d (x ∷ xs) (suc n) = mapped f g d xs n
 
 -- the name of a message along an endpoint is that in its contract
-pub name_along : (p : ProgramModel) (kind : Option HeapKind) (contract : ContractId) (side : Side) (state : StateId) (sounds : List Sound) (message : ℕ) → Some (Endpoint contract side state) ≡ kind → map sound_parts sounds ≡ map (λ c. c.parts) p.contracts
-    → option_map_or (λ s. name_among (sound_parts s).messages message) (slice_get sounds contract.0) [] ≡ message_name p kind message
-name_along p kind contract side state sounds message is same =
+pub name_along : (p : ProgramModel) (ty : Option HeapType) (contract : ContractId) (side : Side) (state : StateId) (sounds : List Sound) (message : ℕ) → Some (Endpoint contract side state) ≡ ty → map sound_parts sounds ≡ map (λ c. c.parts) p.contracts
+    → option_map_or (λ s. name_among (sound_parts s).messages message) (slice_get sounds contract.0) [] ≡ message_name p ty message
+name_along p ty contract side state sounds message is same =
     mapped sound_parts (λ parts. name_among parts.messages message) [] sounds contract.0
     ∙ ap (λ l. option_map_or (λ parts. name_among parts.messages message) (slice_get l contract.0) []) same
     ∙ sym (mapped (λ (c : ContractModel). c.parts) (λ parts. name_among parts.messages message) [] p.contracts contract.0)

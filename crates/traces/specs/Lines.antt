@@ -7,8 +7,8 @@ use Rattle.source.specs.declared.place.Place.{Place}
 use Rattle.program.specs.Methods.{MethodModel}
 use Rattle.program.specs.Parts.{Parts}
 use Rattle.program.specs.Programs.{ProgramModel}
-use Rattle.program.specs.declared.kind.HeapKind.{HeapKind}
-use Rattle.program.specs.declared.kind.HeapKind.TheVariants.{Endpoint}
+use Rattle.program.specs.declared.types.HeapType.{HeapType}
+use Rattle.program.specs.declared.types.HeapType.TheVariants.{Endpoint}
 use Rattle.program.specs.declared.statement.Awaited.{Awaited}
 use Rattle.program.specs.declared.statement.Awaited.TheVariants.{Message, Closed}
 use Rattle.program.specs.declared.statement.Mention.{Mention}
@@ -18,7 +18,7 @@ use Rattle.flow.specs.Graphs.{Instruction, New, Move, Delete, Exchange, NewChann
 use Rattle.flow.specs.Lowering.{graph_of}
 use Rattle.flow.specs.declared.graph.Branches.{Branches}
 use Rattle.flow.specs.declared.graph.Branches.TheVariants.{Either, Only}
-use Rattle.rules.specs.Endpoints.{edges_in, in_state, kind_of, message_name}
+use Rattle.rules.specs.Endpoints.{edges_in, in_state, type_of, message_name}
 use Rattle.rules.specs.Mentions.{name_of}
 use Rattle.rules.specs.Outcomes.{Pair}
 use Rattle.rules.specs.Rows.{is_owned, leaf_at}
@@ -52,7 +52,7 @@ abbrev pub name_of_state : Parts → ℕ → List ℕ
 name_of_state parts q = option_map_or (λ s. s.name) (slice_get parts.states (q - parts.first.0)) []
 
 -- the same of the contract of an endpoint
-abbrev pub state_name : ProgramModel → Option HeapKind → ℕ → List ℕ
+abbrev pub state_name : ProgramModel → Option HeapType → ℕ → List ℕ
 state_name p (Some (Endpoint contract side state)) q =
     option_map_or (λ c. name_of_state c.parts q) (slice_get p.contracts contract.0) []
 state_name p _ q = []
@@ -70,7 +70,7 @@ module _ (p : ProgramModel) (m : MethodModel) where
   has v Nothing = name_of m v ++ codes " has nothing"
   has v Block = name_of m v ++ codes " has a block"
   has v CutOff = name_of m v ++ codes " is cut off"
-  has v (State q) = name_of m v ++ (codes " in " ++ state_name p (kind_of m v) q)
+  has v (State q) = name_of m v ++ (codes " in " ++ state_name p (type_of m v) q)
 
   -- what an instruction does to a variable that has this behind it; of a switch it is told where its case stands
   abbrev pub change : (came : Place) → Instruction → ℕ → Leaf → List LineModel
@@ -81,7 +81,7 @@ module _ (p : ProgramModel) (m : MethodModel) where
   change came (NewChannel c next) v leaf = line c.place (has v leaf) ∷ []
   change came (Send place e message payloads next) v Nothing =
       line place (name_of m v
-      ++ (codes " sent as " ++ (message_name p (kind_of m e.variable.0) message.0 ++ (codes " on " ++ name e)))) ∷ []
+      ++ (codes " sent as " ++ (message_name p (type_of m e.variable.0) message.0 ++ (codes " on " ++ name e)))) ∷ []
   change came (Send place e message payloads next) v leaf = line place (has v leaf) ∷ []
   change came (Switch place cases) v leaf = line came (has v leaf) ∷ []
   change came (Call place method arguments target next) v Nothing = line place (takes (codes "the call") (name_of m v)) ∷ []
@@ -99,7 +99,7 @@ module _ (p : ProgramModel) (m : MethodModel) where
   -- what an endpoint has behind what is awaited there
   abbrev pub awaited_leaf : ℕ → Awaited → Leaf → Leaf
   awaited_leaf e Closed before = CutOff
-  awaited_leaf e (Message id) before = in_state before (λ q. option_map_or State (end_on (edges_in p (kind_of m e) q) id.0) Nothing) Nothing
+  awaited_leaf e (Message id) before = in_state before (λ q. option_map_or State (end_on (edges_in p (type_of m e) q) id.0) Nothing) Nothing
 
   -- Whether a step led to this pair by the case: it goes on there, its endpoint has what its message or close leaves, and the other
   -- endpoints have what they had.
@@ -112,7 +112,7 @@ module _ (p : ProgramModel) (m : MethodModel) where
 
   abbrev pub awaited_name : ℕ → Awaited → List ℕ
   awaited_name e Closed = codes "ChannelClosed"
-  awaited_name e (Message id) = message_name p (kind_of m e) id.0
+  awaited_name e (Message id) = message_name p (type_of m e) id.0
 
   abbrev pub case_line : (front : List ℕ) → EntranceModel → LineModel
   case_line front c = line c.endpoint.place (front ++ (name c.endpoint ++ (codes "." ++ awaited_name c.endpoint.variable.0 c.awaited)))

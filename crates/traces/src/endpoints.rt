@@ -10,7 +10,7 @@ ghost use Rattle.rules.specs.Programs.{model_of};
 ghost use Rattle.traces.specs.Lines as told;
 
 use crate::teller::Teller;
-use program::{Awaited, HeapKind, MessageId, Side, StateId, VarId};
+use program::{Awaited, HeapType, MessageId, Side, StateId, VarId};
 use rules::Leaf;
 
 impl Teller<'_> {
@@ -25,11 +25,11 @@ impl Teller<'_> {
     }
 
     /// What a variable holds, if there is such a variable.
-    fn kind_of(&self, variable: VarId) -> Option<HeapKind>
-        ensures { result ≡ table.kind_of (method_model self.now.method.now) variable.0 }
+    fn type_of(&self, variable: VarId) -> Option<HeapType>
+        ensures { result ≡ table.type_of (method_model self.now.method.now) variable.0 }
     {
         match self.method.variables.get(variable.0) {
-            Some(variable) => Some(variable.kind),
+            Some(variable) => Some(variable.ty),
             None => None,
         }
     }
@@ -37,9 +37,9 @@ impl Teller<'_> {
     /// The name of a message of the contract of an endpoint.
     pub(crate) fn message_name(&self, endpoint: VarId, message: MessageId) -> &[u8]
         ensures { result.now ≡ table.message_name (model_of self.now.program.now)
-            (table.kind_of (method_model self.now.method.now) endpoint.0) message.0 }
+            (table.type_of (method_model self.now.method.now) endpoint.0) message.0 }
     {
-        let Some(HeapKind::Endpoint { contract, .. }) = self.kind_of(endpoint) else {
+        let Some(HeapType::Endpoint { contract, .. }) = self.type_of(endpoint) else {
             return &[];
         };
         match self.program.sounds().get(contract.0 as usize) {
@@ -51,9 +51,9 @@ impl Teller<'_> {
     /// How a state of the contract of an endpoint is printed.
     pub(crate) fn state_name(&self, endpoint: VarId, state: u32) -> &[u8]
         ensures { result.now ≡ told.state_name (model_of self.now.program.now)
-            (table.kind_of (method_model self.now.method.now) endpoint.0) state }
+            (table.type_of (method_model self.now.method.now) endpoint.0) state }
     {
-        let Some(HeapKind::Endpoint { contract, .. }) = self.kind_of(endpoint) else {
+        let Some(HeapType::Endpoint { contract, .. }) = self.type_of(endpoint) else {
             return &[];
         };
         let Some(contract) = self.program.contracts().get(contract.0 as usize) else {
@@ -85,36 +85,36 @@ impl Teller<'_> {
     /// Where an endpoint is behind a message that it receives in a state, if it may receive it there.
     fn next_state(&self, endpoint: VarId, state: u32, message: MessageId) -> Option<StateId>
         ensures { option_map (λ q. q.0) result ≡ end_on (table.edges_in (model_of self.now.program.now)
-            (table.kind_of (method_model self.now.method.now) endpoint.0) state) message.0 }
+            (table.type_of (method_model self.now.method.now) endpoint.0) state) message.0 }
     {
         self.program
-            .state_after_send(across(self.kind_of(endpoint)), state, message)
+            .state_after_send(across(self.type_of(endpoint)), state, message)
     }
 }
 
 /// What is at the other end of an endpoint: what it sends is what this one receives.
-fn across(kind: Option<HeapKind>) -> Option<HeapKind>
-    ensures { (p : ProgramModel) (state : ℕ) → table.edges_out p result state ≡ table.edges_in p kind state }
+fn across(ty: Option<HeapType>) -> Option<HeapType>
+    ensures { (p : ProgramModel) (state : ℕ) → table.edges_out p result state ≡ table.edges_in p ty state }
 {
-    match kind? {
-        HeapKind::Endpoint {
+    match ty? {
+        HeapType::Endpoint {
             contract,
             side: Side::Imp,
             state,
-        } => Some(HeapKind::Endpoint {
+        } => Some(HeapType::Endpoint {
             contract,
             side: Side::Exp,
             state,
         }),
-        HeapKind::Endpoint {
+        HeapType::Endpoint {
             contract,
             side: Side::Exp,
             state,
-        } => Some(HeapKind::Endpoint {
+        } => Some(HeapType::Endpoint {
             contract,
             side: Side::Imp,
             state,
         }),
-        HeapKind::Struct(_) | HeapKind::Array(_) => None,
+        HeapType::Struct(_) | HeapType::Array(_) => None,
     }
 }

@@ -25,6 +25,6 @@ before_is_more u operators.Times (Chain _ (Chain _ first others) (Done _)) = ref
 before_is_more u operators.Times (Chain _ (Chain _ first others) (More _ o x xs)) = refl
 before_is_more u (operators.Sum o) (Chain _ first others) = refl
 
--- a row of factors is more than an atom
-pub row_is_more : (u : LevelTree Single) (f : FactorTree) (fs : List FactorTree) → None ≡ lone_atom (gathered u (f ∷ fs))
-row_is_more u f fs = before_is_more u f.0 (gathered f.1 fs)
+-- a sequence of factors is more than an atom
+pub sequence_is_more : (u : LevelTree Single) (f : FactorTree) (fs : List FactorTree) → None ≡ lone_atom (gathered u (f ∷ fs))
+sequence_is_more u f fs = before_is_more u f.0 (gathered f.1 fs)

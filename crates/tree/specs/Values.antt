@@ -7,7 +7,7 @@ use Rattle.tree.specs.Spelling.{word, placed, name, sequence, optional, listed, 
 use Rattle.tree.specs.Grammar.{scalar_word}
 use Rattle.tree.specs.Expressions.{ExpressionTree, expression, dot_name}
 use Rattle.tree.specs.ExpressionTrees.{expression_tree}
-use Rattle.program.specs.declared.kind.Scalar.{Scalar}
+use Rattle.program.specs.declared.types.Scalar.{Scalar}
 use Rattle.tree.specs.declared.value as values
 use Rattle.tree.specs.declared.value.Made.TheVariants as made
 use Rattle.tree.specs.declared.value.Value.TheVariants as value

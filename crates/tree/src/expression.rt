@@ -79,7 +79,7 @@ pub enum RelationOperator {
 
 /// sum = term { ( "+" | "-" ) term } . term = unary { "*" unary } .
 ///
-/// The terms are kept as one row of their factors, so that a term takes no memory of its own, and a unary alone takes no row.
+/// The terms are kept as one sequence of their factors, so that a term takes no memory of its own, and a unary alone takes no sequence.
 #[derive(Drop)]
 #[cycle(expression)]
 pub enum Sum {

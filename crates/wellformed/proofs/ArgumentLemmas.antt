@@ -7,21 +7,21 @@ use Rattle.source.specs.declared.token.Span.{Span}
 use Rattle.tree.specs.Expressions.{ExpressionTree}
 use Rattle.tree.specs.declared.class.Parameter.{Parameter}
 use Rattle.tree.specs.declared.contract.MessageParameter.{MessageParameter}
-use Rattle.names.specs.Expressions.{kind_of, place_of, held, whole_mistakes}
-use Rattle.declarations.specs.Kinds.{agree, alike, is_block, type_kind, type_unknown, unless}
+use Rattle.names.specs.Expressions.{type_of, place_of, held, whole_mistakes}
+use Rattle.declarations.specs.Types.{agree, alike, is_block, type_meant, type_unknown, unless}
 use Rattle.declarations.specs.Program.{Program}
 use Rattle.names.specs.Shapes.{shape}
-use Rattle.names.specs.Values.{argument_mistakes, asked_mistakes, parameter_kinds}
+use Rattle.names.specs.Values.{argument_mistakes, asked_mistakes, parameter_types}
 use Rattle.names.specs.Variables as names
-use Rattle.declarations.specs.declared.kinds as declared
+use Rattle.declarations.specs.declared.value_type as declared
 use Rattle.program.specs.Methods.{VariableModel}
 use Rattle.program.specs.declared.call.Argument.{Argument}
-use Rattle.program.specs.declared.kind.HeapKind.{HeapKind}
+use Rattle.program.specs.declared.types.HeapType.{HeapType}
 use Rattle.program.specs.declared.method.Role.{Role}
 use Rattle.program.specs.declared.method.Role.TheVariants as role
 use Rattle.program.specs.declared.statement.Mention.{Mention}
 use Rattle.resolving.specs.Brought.{held_listed, params_held}
-use Rattle.resolving.specs.Kinds.{type_held, state_in}
+use Rattle.resolving.specs.Types.{type_held, state_in}
 use Rattle.resolving.specs.Locals.{Frame, mention, mention_of}
 use Rattle.resolving.specs.Methods.{role_of}
 use Rattle.resolving.specs.Plain.{arguments, argument_reads, given, lone, payloads}
@@ -35,51 +35,51 @@ use Rattle.names.proofs.WholeNames.{lone_shape}
 use Rattle.wellformed.proofs.ExpressionLemmas.{block_lone, reads_within, whole_known}
 use Rattle.wellformed.proofs.FindingLemmas.{unless_none}
 use Rattle.wellformed.proofs.MentionLemmas.{scalar_not_mentioned}
-use Rattle.wellformed.proofs.KindLemmas.{type_known, agree_alike, alike_block, alike_held, scalar_holds, block_holds, Holding}
+use Rattle.wellformed.proofs.HeapTypeLemmas.{type_known, agree_alike, alike_block, alike_held, scalar_holds, block_holds, Holding}
 
 -- an argument for each of these headings, of its type, and claimed where the parameter is
-abbrev pub GivenFor : Setting → List (HeapKind × Role) → List Argument → Type 0
+abbrev pub GivenFor : Setting → List (HeapType × Role) → List Argument → Type 0
 GivenFor s [] [] = Unit {0}
 GivenFor s [] (a ∷ given) = ⊥
 GivenFor s (h ∷ headings) [] = ⊥
 GivenFor s (h ∷ headings) (a ∷ given) = (Holds s h.0 a.mention.variable × (a.claimed ≡ is_claimed h.1)) × GivenFor s headings given
 
-given_rows : (s : Setting) (vs : List VariableModel) (given : List Argument) → GivenFor s (map (λ v. (v.kind, v.role)) vs) given → AreGiven s vs given
-given_rows s [] [] h = tt
-given_rows s [] (a ∷ given) h = h
-given_rows s (v ∷ vs) [] h = h
-given_rows s (v ∷ vs) (a ∷ given) h = (h.0, given_rows s vs given h.1)
+given_sequences : (s : Setting) (vs : List VariableModel) (given : List Argument) → GivenFor s (map (λ v. (v.ty, v.role)) vs) given → AreGiven s vs given
+given_sequences s [] [] h = tt
+given_sequences s [] (a ∷ given) h = h
+given_sequences s (v ∷ vs) [] h = h
+given_sequences s (v ∷ vs) (a ∷ given) h = (h.0, given_sequences s vs given h.1)
 
 -- they are given for parameters that have these headings
-pub given_parameters : (s : Setting) (vs : List VariableModel) (headings : List (HeapKind × Role)) (given : List Argument) → map (λ v. (v.kind, v.role)) vs ≡ headings
+pub given_parameters : (s : Setting) (vs : List VariableModel) (headings : List (HeapType × Role)) (given : List Argument) → map (λ v. (v.ty, v.role)) vs ≡ headings
     → GivenFor s headings given → AreGiven s vs given
-given_parameters s vs headings given is h = given_rows s vs given (subst (λ x. GivenFor s x given) (sym is) h)
+given_parameters s vs headings given is h = given_sequences s vs given (subst (λ x. GivenFor s x given) (sym is) h)
 
 -- a name alone that is a scalar is no variable of the exchange heap
 lone_of : (p : Program) (class : ℕ) (f : Frame) (e : ExpressionTree) (o : Option Span) → lone_name e ≡ o → lone p class f e ≡ option_and_then (mention p.text f.locals) o
 lone_of p class f e o is = ap (option_and_then (mention p.text f.locals)) is
 
 scalar_name : (p : Program) (class : ℕ) (vs : List VariableModel) (f : Frame) (g : names.Frame) → AreStanding p vs f g → (e : ExpressionTree) (o : Option Span) → lone_name e ≡ o
-    → whole_mistakes (scope_of p g) (shape e) ≡ [] → is_block (kind_of (scope_of p g) (shape e)) ≡ false → lone p class f e ≡ None
+    → whole_mistakes (scope_of p g) (shape e) ≡ [] → is_block (type_of (scope_of p g) (shape e)) ≡ false → lone p class f e ≡ None
 scalar_name p class vs f g standing e None is none scalar = lone_of p class f e None is
 scalar_name p class vs f g standing e (Some name) is none scalar =
     let shaped = lone_shape e name is in
-    lone_of p class f e (Some name) is ∙ scalar_not_mentioned p vs f g name standing (subst (λ x. whole_mistakes (scope_of p g) x ≡ []) shaped none) (subst (λ x. is_block (kind_of (scope_of p g) x) ≡ false) shaped scalar)
+    lone_of p class f e (Some name) is ∙ scalar_not_mentioned p vs f g name standing (subst (λ x. whole_mistakes (scope_of p g) x ≡ []) shaped none) (subst (λ x. is_block (type_of (scope_of p g) x) ≡ false) shaped scalar)
 
 pub scalar_lone : (p : Program) (class : ℕ) (vs : List VariableModel) (f : Frame) (g : names.Frame) → AreStanding p vs f g → (e : ExpressionTree)
-    → whole_mistakes (scope_of p g) (shape e) ≡ [] → is_block (kind_of (scope_of p g) (shape e)) ≡ false → lone p class f e ≡ None
+    → whole_mistakes (scope_of p g) (shape e) ≡ [] → is_block (type_of (scope_of p g) (shape e)) ≡ false → lone p class f e ≡ None
 scalar_lone p class vs f g standing e none scalar = scalar_name p class vs f g standing e (lone_name e) refl none scalar
 
--- an expression of a kind of the exchange heap is a variable that holds what the kind says
+-- an expression of a type of the exchange heap is a variable that holds what the type says
 pub record IsGiven (p : Program) (class : ℕ) (s : Setting) (f : Frame) (g : names.Frame) (e : ExpressionTree) : Type 0 where
   pub mention : Mention
   pub variable : VariableModel
   pub is : lone p class f e ≡ Some mention
   pub there : slice_get s.variables mention.variable.0 ≡ Some variable
-  pub holds : IsHeld p (kind_of (scope_of p g) (shape e)) variable.kind
+  pub holds : IsHeld p (type_of (scope_of p g) (shape e)) variable.ty
 
 pub block_given : (p : Program) (class : ℕ) (s : Setting) (f : Frame) (g : names.Frame) → AreStanding p s.variables f g → (e : ExpressionTree)
-    → whole_mistakes (scope_of p g) (shape e) ≡ [] → is_block (kind_of (scope_of p g) (shape e)) ≡ true → IsGiven p class s f g e
+    → whole_mistakes (scope_of p g) (shape e) ≡ [] → is_block (type_of (scope_of p g) (shape e)) ≡ true → IsGiven p class s f g e
 block_given p class s f g standing e none block =
     let l = block_lone p s.variables f g standing e none block in
     record {
@@ -87,53 +87,53 @@ block_given p class s f g standing e none block =
       variable = l.mentioned.variable;
       is = lone_of p class f e (Some l.name) l.is ∙ l.mentioned.is;
       there = l.mentioned.there;
-      holds = subst (λ k. IsHeld p k l.mentioned.variable.kind) (sym l.kind) l.mentioned.holds;
+      holds = subst (λ k. IsHeld p k l.mentioned.variable.ty) (sym l.ty) l.mentioned.holds;
     }
 
 -- a variable that is there holds a block of a type
-pub holds_there : (s : Setting) (k : HeapKind) (m : Mention) (v : VariableModel) → slice_get s.variables m.variable.0 ≡ Some v → same_type v.kind k ≡ true → Holds s k m.variable
-holds_there s k m v there same = subst (λ o. IsSomeAnd o (λ x. same_type x.kind k ≡ true)) (sym there) same
+pub holds_there : (s : Setting) (k : HeapType) (m : Mention) (v : VariableModel) → slice_get s.variables m.variable.0 ≡ Some v → same_type v.ty k ≡ true → Holds s k m.variable
+holds_there s k m v there same = subst (λ o. IsSomeAnd o (λ x. same_type x.ty k ≡ true)) (sym there) same
 
--- an expression of which a kind is asked
-pub record IsAsked (p : Program) (g : names.Frame) (k : declared.ValueKind.ValueKind) (e : ExpressionTree) : Type 0 where
+-- an expression of which a type is asked
+pub record IsAsked (p : Program) (g : names.Frame) (k : declared.ValueType.ValueType) (e : ExpressionTree) : Type 0 where
   pub whole : whole_mistakes (scope_of p g) (shape e) ≡ []
-  pub like : alike (kind_of (scope_of p g) (shape e)) k ≡ true
+  pub like : alike (type_of (scope_of p g) (shape e)) k ≡ true
 
-pub asked_known : (p : Program) (vs : List VariableModel) (f : Frame) (g : names.Frame) → AreStanding p vs f g → (k : declared.ValueKind.ValueKind) (e : ExpressionTree) → IsKnown p k
+pub asked_known : (p : Program) (vs : List VariableModel) (f : Frame) (g : names.Frame) → AreStanding p vs f g → (k : declared.ValueType.ValueType) (e : ExpressionTree) → IsKnown p k
     → asked_mistakes (scope_of p g) k (shape e) ≡ [] → IsAsked p g k e
 asked_known p vs f g standing k e known none =
-    let both = both_none (whole_mistakes (scope_of p g) (shape e)) (unless (agree (kind_of (scope_of p g) (shape e)) k) (place_of (shape e)) _) none in
+    let both = both_none (whole_mistakes (scope_of p g) (shape e)) (unless (agree (type_of (scope_of p g) (shape e)) k) (place_of (shape e)) _) none in
     record {
       whole = both.0;
-      like = agree_alike p (kind_of (scope_of p g) (shape e)) k (whole_known p vs f g standing (shape e) both.0) known (unless_none _ (agree (kind_of (scope_of p g) (shape e)) k) (place_of (shape e)) both.1);
+      like = agree_alike p (type_of (scope_of p g) (shape e)) k (whole_known p vs f g standing (shape e) both.0) known (unless_none _ (agree (type_of (scope_of p g) (shape e)) k) (place_of (shape e)) both.1);
     }
 
 -- a scalar for a scalar: nothing is given
-pub asked_scalar : (p : Program) (class : ℕ) (vs : List VariableModel) (f : Frame) (g : names.Frame) → AreStanding p vs f g → (k : declared.ValueKind.ValueKind) (e : ExpressionTree)
+pub asked_scalar : (p : Program) (class : ℕ) (vs : List VariableModel) (f : Frame) (g : names.Frame) → AreStanding p vs f g → (k : declared.ValueType.ValueType) (e : ExpressionTree)
     → IsAsked p g k e → is_block k ≡ false → lone p class f e ≡ None
-asked_scalar p class vs f g standing k e asked scalar = scalar_lone p class vs f g standing e asked.whole (alike_block (kind_of (scope_of p g) (shape e)) k asked.like ∙ scalar)
+asked_scalar p class vs f g standing k e asked scalar = scalar_lone p class vs f g standing e asked.whole (alike_block (type_of (scope_of p g) (shape e)) k asked.like ∙ scalar)
 
 -- a block for a block: a variable that holds one of its type
-pub record IsBlockGiven (p : Program) (class : ℕ) (s : Setting) (f : Frame) (held : HeapKind) (e : ExpressionTree) : Type 0 where
+pub record IsBlockGiven (p : Program) (class : ℕ) (s : Setting) (f : Frame) (held : HeapType) (e : ExpressionTree) : Type 0 where
   pub mention : Mention
   pub is : lone p class f e ≡ Some mention
   pub holds : Holds s held mention.variable
 
-pub asked_block : (p : Program) (class : ℕ) (s : Setting) (f : Frame) (g : names.Frame) → AreStanding p s.variables f g → (k : declared.ValueKind.ValueKind) (held : HeapKind) (e : ExpressionTree)
+pub asked_block : (p : Program) (class : ℕ) (s : Setting) (f : Frame) (g : names.Frame) → AreStanding p s.variables f g → (k : declared.ValueType.ValueType) (held : HeapType) (e : ExpressionTree)
     → IsAsked p g k e → is_block k ≡ true → IsHeld p k held → IsBlockGiven p class s f held e
 asked_block p class s f g standing k held e asked block is =
-    let given = block_given p class s f g standing e asked.whole (alike_block (kind_of (scope_of p g) (shape e)) k asked.like ∙ block) in
+    let given = block_given p class s f g standing e asked.whole (alike_block (type_of (scope_of p g) (shape e)) k asked.like ∙ block) in
     record {
       mention = given.mention;
       is = given.is;
-      holds = holds_there s held given.mention given.variable given.there (alike_held p (kind_of (scope_of p g) (shape e)) k given.variable.kind held asked.like given.holds is);
+      holds = holds_there s held given.mention given.variable given.there (alike_held p (type_of (scope_of p g) (shape e)) k given.variable.ty held asked.like given.holds is);
     }
 
 claimed_role : (b : Bool) → b ≡ is_claimed (if b then role.Claimed else role.Lent)
 claimed_role true = refl
 claimed_role false = refl
 
-given_with : (p : Program) (class : ℕ) (s : Setting) (f : Frame) (x : Parameter) (e : ExpressionTree) (o : Option HeapKind) (m : Option Mention) (hs : List (HeapKind × Role)) (gs : List Argument)
+given_with : (p : Program) (class : ℕ) (s : Setting) (f : Frame) (x : Parameter) (e : ExpressionTree) (o : Option HeapType) (m : Option Mention) (hs : List (HeapType × Role)) (gs : List Argument)
     → type_held p x.ty ≡ o → lone p class f e ≡ m → GivenFor s (option_map_or (λ k. (k, role_of x) ∷ []) o [] ++ hs) (given x m ++ gs)
     → GivenFor s (heading p x ++ hs) (given x (lone p class f e) ++ gs)
 given_with p class s f x e o m hs gs held lone_is h =
@@ -142,24 +142,24 @@ given_with p class s f x e o m hs gs held lone_is h =
 
 -- what is given for one parameter, and then what is given for others
 one_given : (p : Program) (class : ℕ) (s : Setting) (f : Frame) (g : names.Frame) → AreStanding p s.variables f g → (x : Parameter) (e : ExpressionTree)
-    → type_unknown p x.ty ≡ [] → IsAsked p g (type_kind p x.ty) e → (b : Bool) → is_block (type_kind p x.ty) ≡ b
-    → (hs : List (HeapKind × Role)) (gs : List Argument) → GivenFor s hs gs → GivenFor s (heading p x ++ hs) (given x (lone p class f e) ++ gs)
+    → type_unknown p x.ty ≡ [] → IsAsked p g (type_meant p x.ty) e → (b : Bool) → is_block (type_meant p x.ty) ≡ b
+    → (hs : List (HeapType × Role)) (gs : List Argument) → GivenFor s hs gs → GivenFor s (heading p x ++ hs) (given x (lone p class f e) ++ gs)
 one_given p class s f g standing x e known asked false scalar hs gs rest =
-    given_with p class s f x e None None hs gs (scalar_holds p (type_kind p x.ty) (state_in x.ty) scalar) (asked_scalar p class s.variables f g standing (type_kind p x.ty) e asked scalar) rest
+    given_with p class s f x e None None hs gs (scalar_holds p (type_meant p x.ty) (state_in x.ty) scalar) (asked_scalar p class s.variables f g standing (type_meant p x.ty) e asked scalar) rest
 one_given p class s f g standing x e known asked true block hs gs rest =
-    let h : Holding p (type_kind p x.ty) (state_in x.ty) = block_holds p (type_kind p x.ty) (state_in x.ty) (type_known p x.ty known) block in
-    let b = asked_block p class s f g standing (type_kind p x.ty) h.held e asked block (record { state = state_in x.ty; is = h.is }) in
+    let h : Holding p (type_meant p x.ty) (state_in x.ty) = block_holds p (type_meant p x.ty) (state_in x.ty) (type_known p x.ty known) block in
+    let b = asked_block p class s f g standing (type_meant p x.ty) h.held e asked block (record { state = state_in x.ty; is = h.is }) in
     given_with p class s f x e (Some h.held) (Some b.mention) hs gs h.is b.is ((b.holds, claimed_role x.claims), rest)
 
 -- what is given for the parameters of a method
 pub arguments_given : (p : Program) (class : ℕ) (s : Setting) (f : Frame) (g : names.Frame) → AreStanding p s.variables f g → (params : List Parameter) (es : List ExpressionTree)
-    → Each (λ x. type_unknown p x.ty ≡ []) params → length params ≡ length es → argument_mistakes (scope_of p g) (parameter_kinds p params) (map shape es) ≡ []
+    → Each (λ x. type_unknown p x.ty ≡ []) params → length params ≡ length es → argument_mistakes (scope_of p g) (parameter_types p params) (map shape es) ≡ []
     → GivenFor s (flat_map (heading p) params) (arguments p class f params es)
 arguments_given p class s f g standing [] es known many none = tt
 arguments_given p class s f g standing (x ∷ params) [] known many none = cc
 arguments_given p class s f g standing (x ∷ params) (e ∷ es) known many none =
-    let k = type_kind p x.ty in
-    let both = both_none (asked_mistakes (scope_of p g) k (shape e)) (argument_mistakes (scope_of p g) (parameter_kinds p params) (map shape es)) none in
+    let k = type_meant p x.ty in
+    let both = both_none (asked_mistakes (scope_of p g) k (shape e)) (argument_mistakes (scope_of p g) (parameter_types p params) (map shape es)) none in
     let asked = asked_known p s.variables f g standing k e (type_known p x.ty known.0) both.0 in
     let rest = arguments_given p class s f g standing params es known.1 (omega (arith, many)) both.1 in
     one_given p class s f g standing x e known.0 asked (is_block k) refl (flat_map (heading p) params) (arguments p class f params es) rest
@@ -170,7 +170,7 @@ reads_mentioned p class s f g standing [] = tt
 reads_mentioned p class s f g standing (e ∷ es) = each_append (IsMention s) (reads p.text f.locals e) (argument_reads p class f es) (reads_within p s.variables f g standing e) (reads_mentioned p class s f g standing es)
 
 -- what is given for one parameter of a message, and then what is given for others
-payload_with : (p : Program) (class : ℕ) (s : Setting) (f : Frame) (x : MessageParameter) (e : ExpressionTree) (o : Option HeapKind) (m : Option Mention) (ks : List HeapKind) (ms : List Mention)
+payload_with : (p : Program) (class : ℕ) (s : Setting) (f : Frame) (x : MessageParameter) (e : ExpressionTree) (o : Option HeapType) (m : Option Mention) (ks : List HeapType) (ms : List Mention)
     → type_held p x.ty ≡ o → lone p class f e ≡ m → HoldAll s (held_listed o ++ ks) (map (λ y. y.variable) (listed m ++ ms))
     → HoldAll s (held_listed (type_held p x.ty) ++ ks) (map (λ y. y.variable) (listed (lone p class f e) ++ ms))
 payload_with p class s f x e o m ks ms held lone_is h =
@@ -178,25 +178,25 @@ payload_with p class s f x e o m ks ms held lone_is h =
     (subst (λ y. HoldAll s (held_listed o ++ ks) (map (λ z. z.variable) (listed y ++ ms))) (sym lone_is) h)
 
 one_payload : (p : Program) (class : ℕ) (s : Setting) (f : Frame) (g : names.Frame) → AreStanding p s.variables f g → (x : MessageParameter) (e : ExpressionTree)
-    → type_unknown p x.ty ≡ [] → IsAsked p g (type_kind p x.ty) e → (b : Bool) → is_block (type_kind p x.ty) ≡ b
-    → (ks : List HeapKind) (ms : List Mention) → HoldAll s ks (map (λ y. y.variable) ms) → HoldAll s (held_listed (type_held p x.ty) ++ ks) (map (λ y. y.variable) (listed (lone p class f e) ++ ms))
+    → type_unknown p x.ty ≡ [] → IsAsked p g (type_meant p x.ty) e → (b : Bool) → is_block (type_meant p x.ty) ≡ b
+    → (ks : List HeapType) (ms : List Mention) → HoldAll s ks (map (λ y. y.variable) ms) → HoldAll s (held_listed (type_held p x.ty) ++ ks) (map (λ y. y.variable) (listed (lone p class f e) ++ ms))
 one_payload p class s f g standing x e known asked false scalar ks ms rest =
-    payload_with p class s f x e None None ks ms (scalar_holds p (type_kind p x.ty) (state_in x.ty) scalar) (asked_scalar p class s.variables f g standing (type_kind p x.ty) e asked scalar) rest
+    payload_with p class s f x e None None ks ms (scalar_holds p (type_meant p x.ty) (state_in x.ty) scalar) (asked_scalar p class s.variables f g standing (type_meant p x.ty) e asked scalar) rest
 one_payload p class s f g standing x e known asked true block ks ms rest =
-    let h : Holding p (type_kind p x.ty) (state_in x.ty) = block_holds p (type_kind p x.ty) (state_in x.ty) (type_known p x.ty known) block in
-    let b = asked_block p class s f g standing (type_kind p x.ty) h.held e asked block (record { state = state_in x.ty; is = h.is }) in
+    let h : Holding p (type_meant p x.ty) (state_in x.ty) = block_holds p (type_meant p x.ty) (state_in x.ty) (type_known p x.ty known) block in
+    let b = asked_block p class s f g standing (type_meant p x.ty) h.held e asked block (record { state = state_in x.ty; is = h.is }) in
     payload_with p class s f x e (Some h.held) (Some b.mention) ks ms h.is b.is (b.holds, rest)
 
 -- what is given for the parameters of a message
 pub payloads_given : (p : Program) (class : ℕ) (s : Setting) (f : Frame) (g : names.Frame) → AreStanding p s.variables f g → (params : List MessageParameter) (es : List ExpressionTree)
-    → Each (λ x. type_unknown p x.ty ≡ []) params → length params ≡ length es → argument_mistakes (scope_of p g) (map (λ x. type_kind p x.ty) params) (map shape es) ≡ []
+    → Each (λ x. type_unknown p x.ty ≡ []) params → length params ≡ length es → argument_mistakes (scope_of p g) (map (λ x. type_meant p x.ty) params) (map shape es) ≡ []
     → HoldAll s (params_held p params) (map (λ y. y.variable) (payloads p class f es))
 payloads_given p class s f g standing [] [] known many none = tt
 payloads_given p class s f g standing [] (e ∷ es) known many none = cc
 payloads_given p class s f g standing (x ∷ params) [] known many none = cc
 payloads_given p class s f g standing (x ∷ params) (e ∷ es) known many none =
-    let k = type_kind p x.ty in
-    let both = both_none (asked_mistakes (scope_of p g) k (shape e)) (argument_mistakes (scope_of p g) (map (λ y. type_kind p y.ty) params) (map shape es)) none in
+    let k = type_meant p x.ty in
+    let both = both_none (asked_mistakes (scope_of p g) k (shape e)) (argument_mistakes (scope_of p g) (map (λ y. type_meant p y.ty) params) (map shape es)) none in
     let asked = asked_known p s.variables f g standing k e (type_known p x.ty known.0) both.0 in
     let rest = payloads_given p class s f g standing params es known.1 (omega (arith, many)) both.1 in
     one_payload p class s f g standing x e known.0 asked (is_block k) refl (params_held p params) (payloads p class f es) rest

@@ -8,25 +8,25 @@ use Rattle.tree.specs.declared.contract.MessageParameter.{MessageParameter}
 use Rattle.names.specs.Cases.{bind_turn, binds_turn, typed_turn}
 use Rattle.declarations.specs.declared.mistake.Demand.TheVariants as demand
 use Rattle.declarations.specs.declared.mistake.Mismatch.TheVariants.{Given}
-use Rattle.declarations.specs.Kinds.{brought_kind}
+use Rattle.declarations.specs.Types.{brought_type}
 use Rattle.declarations.specs.declared.mistake.Demand.TheVariants as demand
 use Rattle.declarations.specs.declared.mistake.Mismatch.TheVariants.{Given}
-use Rattle.declarations.specs.Kinds.{agree, is_heap, type_kind, type_unknown, unless}
+use Rattle.declarations.specs.Types.{agree, is_heap, type_meant, type_unknown, unless}
 use Rattle.declarations.specs.Program.{Program}
 use Rattle.names.specs.Variables as names
 use Rattle.names.specs.Variables.{declared_variable}
-use Rattle.declarations.specs.declared.kinds.ValueKind.{ValueKind}
+use Rattle.declarations.specs.declared.value_type.ValueType.{ValueType}
 use Rattle.program.specs.Methods.{VariableModel}
-use Rattle.program.specs.declared.kind as held
+use Rattle.program.specs.declared.types as held
 use Rattle.program.specs.declared.method.Role.TheVariants.{Local}
 use Rattle.program.specs.declared.number.VarId.{VarId}
 use Rattle.resolving.specs.Binds.{bind_told, binds_told, bound_as, one_number}
-use Rattle.resolving.specs.Kinds.{kind_held, state_in, type_held}
+use Rattle.resolving.specs.Types.{heap_type, state_in, type_held}
 use Rattle.resolving.specs.Locals.{Frame, declared, next_number}
 use Rattle.program.specs.Lists.{Each}
 use Rattle.program.specs.Scopes.{LeadsOut, InTurn}
 use Rattle.wellformed.proofs.GrowthLemmas.{binds_grow, within_before}
-use Rattle.wellformed.proofs.KindLemmas.{heap_block, held_as, type_known}
+use Rattle.wellformed.proofs.HeapTypeLemmas.{heap_block, held_as, type_known}
 use Rattle.wellformed.proofs.ListLemmas.{both_none}
 use Rattle.wellformed.proofs.LeadLemmas.{leads_here, leads_then}
 use Rattle.wellformed.proofs.ScopeLemmas.{declared_inner, declared_local, declared_stands}
@@ -39,37 +39,37 @@ pub record Binding (p : Program) (vs : List VariableModel) (f after : Frame) (be
   pub turn : InTurn vs (last_of f) bound (last_of after)
 
 -- what is bound behind a variable, with this one before it
-next_bound : (p : Program) (vs : List VariableModel) (name : Span) (kind : ValueKind) (held : Option held.HeapKind.HeapKind) (f after : Frame) (behind : names.Frame) (bound : List VarId)
-    → Within vs (declares p.text name kind held Local f) → Binding p vs (declares p.text name kind held Local f) after behind bound → Binding p vs f after behind (one_number (next_number held f) ++ bound)
-next_bound p vs name kind None f after behind bound within rest = record { standing = rest.standing; inner = rest.inner; turn = rest.turn }
-next_bound p vs name kind (Some held) f after behind bound within rest =
-    let g = declares p.text name kind (Some held) Local f in
+next_bound : (p : Program) (vs : List VariableModel) (name : Span) (ty : ValueType) (held : Option held.HeapType.HeapType) (f after : Frame) (behind : names.Frame) (bound : List VarId)
+    → Within vs (declares p.text name ty held Local f) → Binding p vs (declares p.text name ty held Local f) after behind bound → Binding p vs f after behind (one_number (next_number held f) ++ bound)
+next_bound p vs name ty None f after behind bound within rest = record { standing = rest.standing; inner = rest.inner; turn = rest.turn }
+next_bound p vs name ty (Some held) f after behind bound within rest =
+    let g = declares p.text name ty (Some held) Local f in
     record {
       standing = rest.standing;
-      inner = leads_then vs (last_of after) (last_of g) (last_of f) rest.inner (declared_inner p vs name kind (Some held) Local f within);
-      turn = (declared_local p vs name kind held f within, rest.turn);
+      inner = leads_then vs (last_of after) (last_of g) (last_of f) rest.inner (declared_inner p vs name ty (Some held) Local f within);
+      turn = (declared_local p vs name ty held f within, rest.turn);
     }
 
-bind_bound : (p : Program) (vs : List VariableModel) (param : Option MessageParameter) (name : Span) (kind : Option type_nodes.Type.Type) (f after : Frame) (behind : names.Frame) (bound : List VarId)
-    → Within vs (declared p.text (bound_as p param name kind) f) → Binding p vs (declared p.text (bound_as p param name kind) f) after behind bound
-    → Binding p vs f after behind (one_number (next_number (bound_as p param name kind).held f) ++ bound)
-bind_bound p vs param name (Some t) f after behind bound within rest = next_bound p vs name (type_kind p t) (type_held p t) f after behind bound within rest
-bind_bound p vs param name None f after behind bound within rest = next_bound p vs name (brought_kind p param) (kind_held p (brought_kind p param) None) f after behind bound within rest
+bind_bound : (p : Program) (vs : List VariableModel) (param : Option MessageParameter) (name : Span) (ty : Option type_nodes.Type.Type) (f after : Frame) (behind : names.Frame) (bound : List VarId)
+    → Within vs (declared p.text (bound_as p param name ty) f) → Binding p vs (declared p.text (bound_as p param name ty) f) after behind bound
+    → Binding p vs f after behind (one_number (next_number (bound_as p param name ty).held f) ++ bound)
+bind_bound p vs param name (Some t) f after behind bound within rest = next_bound p vs name (type_meant p t) (type_held p t) f after behind bound within rest
+bind_bound p vs param name None f after behind bound within rest = next_bound p vs name (brought_type p param) (heap_type p (brought_type p param) None) f after behind bound within rest
 
 -- A name that a case binds comes into scope. What the message brings for it counts where it is of the exchange heap.
-bind_stands : (p : Program) (vs : List VariableModel) (x : MessageParameter) (name : Span) (kind : Option type_nodes.Type.Type) (f : Frame) (g : names.Frame)
-    → type_unknown p x.ty ≡ [] → AreStanding p vs f g → Within vs (declared p.text (bound_as p (Some x) name kind) f) → (typed_turn p (Some x) name kind g).found ≡ []
-    → AreStanding p vs (declared p.text (bound_as p (Some x) name kind) f) (typed_turn p (Some x) name kind g).frame
+bind_stands : (p : Program) (vs : List VariableModel) (x : MessageParameter) (name : Span) (ty : Option type_nodes.Type.Type) (f : Frame) (g : names.Frame)
+    → type_unknown p x.ty ≡ [] → AreStanding p vs f g → Within vs (declared p.text (bound_as p (Some x) name ty) f) → (typed_turn p (Some x) name ty g).found ≡ []
+    → AreStanding p vs (declared p.text (bound_as p (Some x) name ty) f) (typed_turn p (Some x) name ty g).frame
 bind_stands p vs x name (Some t) f g brought standing within none =
-    let fits = unless (agree (type_kind p t) (brought_kind p (Some x))) name.place (Given (demand.Kind (brought_kind p (Some x))) (type_kind p t)) in
-    let entered = declared_variable p.text name (type_kind p t) (is_heap t) g in
+    let fits = unless (agree (type_meant p t) (brought_type p (Some x))) name.place (Given (demand.OfType (brought_type p (Some x))) (type_meant p t)) in
+    let entered = declared_variable p.text name (type_meant p t) (is_heap t) g in
     let clean = both_none (type_unknown p t ++ fits) entered.found none in
     let sure = both_none (type_unknown p t) fits clean.0 in
     let known = type_known p t sure.0 in
-    declared_stands p vs name (type_kind p t) (type_held p t) Local (is_heap t) f g (heap_block p t sure.0) known (held_as p (type_kind p t) (state_in t) known) standing within clean.1
+    declared_stands p vs name (type_meant p t) (type_held p t) Local (is_heap t) f g (heap_block p t sure.0) known (held_as p (type_meant p t) (state_in t) known) standing within clean.1
 bind_stands p vs x name None f g brought standing within none =
     let known = type_known p x.ty brought in
-    declared_stands p vs name (type_kind p x.ty) (kind_held p (type_kind p x.ty) None) Local (is_heap x.ty) f g (heap_block p x.ty brought) known (held_as p (type_kind p x.ty) None known) standing within none
+    declared_stands p vs name (type_meant p x.ty) (heap_type p (type_meant p x.ty) None) Local (is_heap x.ty) f g (heap_block p x.ty brought) known (held_as p (type_meant p x.ty) None known) standing within none
 
 pub binds_stand : (p : Program) (vs : List VariableModel) (params : List MessageParameter) (binds : List made.Bind.Bind) (f : Frame) (g : names.Frame)
     → AreStanding p vs f g → Within vs (binds_told p params binds f).frame → Each (λ x. type_unknown p x.ty ≡ []) params → length params ≡ length binds

@@ -12,16 +12,16 @@ use Rattle.names.specs.Expressions.{held, variable_mistakes}
 use Rattle.declarations.specs.declared.mistake.Mistake.TheVariants.{Unknown}
 use Rattle.declarations.specs.declared.mistake.NameSort.TheVariants as sort
 use Rattle.declarations.specs.declared.mistake.Mismatch.TheVariants.{Given}
-use Rattle.declarations.specs.Kinds.{unless}
+use Rattle.declarations.specs.Types.{unless}
 use Rattle.declarations.specs.Program.{Program, Numbered, as_class, class_named, item_at}
 use Rattle.names.specs.Shapes.{shape}
-use Rattle.names.specs.Values.{demand_of, result_kind, argument_mistakes, call_mistakes, class_mistakes, class_meant, front_mistakes, is_alone, member_mistakes, method_mistakes, number_of_arguments, parameter_kinds, result_fits, start_mistakes}
+use Rattle.names.specs.Values.{demand_of, result_type, argument_mistakes, call_mistakes, class_mistakes, class_meant, front_mistakes, is_alone, member_mistakes, method_mistakes, number_of_arguments, parameter_types, result_fits, start_mistakes}
 use Rattle.declarations.specs.Named.{method_named}
 use Rattle.names.specs.Variables as names
 use Rattle.names.specs.Variables.{variable_named}
 use Rattle.program.specs.declared.statement.Mention.{Mention}
 use Rattle.resolving.specs.Callees.{callee, front_callee, member_callee}
-use Rattle.resolving.specs.Kinds.{result_held}
+use Rattle.resolving.specs.Types.{result_held}
 use Rattle.resolving.specs.Locals.{Local, Frame, local_named}
 use Rattle.resolving.specs.Messages.{contract_of, end_contract, message_sent}
 use Rattle.resolving.specs.Methods.{method_told}
@@ -44,14 +44,14 @@ pub record CallsMethod (p : Program) (class : ℕ) (f : Frame) (g : names.Frame)
   pub is : callee p class f.locals c ≡ Some (record { number = number; method = method })
   pub told : IsMethod p method number
   pub many : length method.params ≡ length c.arguments
-  pub given : argument_mistakes (scope_of p g) (parameter_kinds p method.params) (map shape c.arguments) ≡ []
+  pub given : argument_mistakes (scope_of p g) (parameter_types p method.params) (map shape c.arguments) ≡ []
   pub fits : Is method
   pub no_send : send_told p class f c ≡ None
 
 -- what is known of a method that a call in this role names
 record Fitting (p : Program) (g : names.Frame) (m : MethodTree) (Is : MethodTree → Type 0) (es : List ExpressionTree) : Type 0 where
   pub many : length m.params ≡ length es
-  pub given : argument_mistakes (scope_of p g) (parameter_kinds p m.params) (map shape es) ≡ []
+  pub given : argument_mistakes (scope_of p g) (parameter_types p m.params) (map shape es) ≡ []
   pub fits : Is m
 
 fitting : (p : Program) (g : names.Frame) (front : Option Span) (role : _) (name : Span) (m : MethodTree) (es : List ExpressionTree) (Is : MethodTree → Type 0)
@@ -60,9 +60,9 @@ fitting : (p : Program) (g : names.Frame) (front : Option Span) (role : _) (name
 fitting p g front role name m es Is fits none =
     let shapes = map shape es in
     let many = number_of_arguments m.params shapes name.place in
-    let given = argument_mistakes (scope_of p g) (parameter_kinds p m.params) shapes in
+    let given = argument_mistakes (scope_of p g) (parameter_types p m.params) shapes in
     let starts = start_mistakes m role name in
-    let result = unless (result_fits p m.result role) name.place (Given (demand_of role) (result_kind p m.result)) in
+    let result = unless (result_fits p m.result role) name.place (Given (demand_of role) (result_type p m.result)) in
     let behind = both_none many (given ++ (starts ++ result)) none in
     let last = both_none given (starts ++ result) behind.1 in
     let ends = both_none starts result last.1 in
@@ -92,7 +92,7 @@ own_call p class t f g role c Is fits there member (Some m) found none =
     }
 
 no_end : (p : Program) (locals : List Local) (name : Span) → local_named p.text locals name ≡ None → end_contract p locals name ≡ None
-no_end p locals name free = ap (option_and_then (λ v. contract_of v.kind)) free
+no_end p locals name free = ap (option_and_then (λ v. contract_of v.ty)) free
 
 -- a call by the name of a class and one of a method in it
 class_call : (p : Program) (class : ℕ) (f : Frame) (g : names.Frame) (role : _) (c : CallTree) (word : Span) (Is : MethodTree → Type 0)
@@ -134,7 +134,7 @@ member_means p t class result s f g role c word Is fits around standing member (
     let meant_is = ap (λ vs. variable_named p.text vs c.name) (sym standing.same) ∙ same_named p.text f.locals c.name ∙ ap (option_map named) local in
     let found : variable_mistakes (scope_of p g) c.name ≡ [] = ap (λ o. if is_some o then [] else Unknown c.name (sort.Variable (length g.variables)) ∷ []) meant_is in
     let known = subst (IsKnown p) (ap held meant_is) (held_known p s.variables f g c.name standing found) in
-    inr (local_call p t class result s f g role c word around standing member l local meant_is known l.kind refl none)
+    inr (local_call p t class result s f g role c word around standing member l local meant_is known l.ty refl none)
 
 front_means : (p : Program) (t : ClassTree) (class : ℕ) (result : Option tree.Type.Type) (s : Setting) (f : Frame) (g : names.Frame) (role : _) (c : CallTree) (Is : MethodTree → Type 0)
     → ((n : MethodTree) (name : Span) → start_mistakes n role name ≡ [] → (F : Option tree.Type.Type → Bool) → ((r : Option tree.Type.Type) → F r ≡ result_fits p r role) → F n.result ≡ true → Is n) → Around p t class result s

@@ -10,7 +10,7 @@ use Rattle.tree.specs.StatementTrees.{Case, CaseTree, CaseTrees, MoreCases, NoCa
 use Rattle.tree.specs.declared.statement.Awaited.{Awaited}
 use Rattle.tree.specs.declared.statement.Awaited.TheVariants.{Closed, Message}
 use Rattle.names.specs.Bodies.{Surroundings, case_turn, cases_turn, head_of, heads_of, scope_in}
-use Rattle.names.specs.Cases.{Head, awaits_closed, endpoint_head_mistakes, head_mistakes, is_closed, kind_head_mistakes, lack_mistakes, names_endpoint, other_awaited_mistakes, same_name}
+use Rattle.names.specs.Cases.{Head, awaits_closed, endpoint_head_mistakes, head_mistakes, is_closed, type_head_mistakes, lack_mistakes, names_endpoint, other_awaited_mistakes, same_name}
 use Rattle.names.specs.Expressions.{InScope, held, meant, variable_mistakes}
 use Rattle.tables.specs.Firsts.{first_of}
 use Rattle.declarations.specs.declared.mistake.Mistake.{Mistake}
@@ -18,8 +18,8 @@ use Rattle.declarations.specs.declared.mistake.Mistake.TheVariants.{LacksClosed}
 use Rattle.declarations.specs.Program.{Program}
 use Rattle.names.specs.Variables as names
 use Rattle.tables.specs.Words.{same_word, word_at, words_at}
-use Rattle.declarations.specs.declared.kinds.ValueKind.{ValueKind}
-use Rattle.declarations.specs.declared.kinds.ValueKind.TheVariants as kind
+use Rattle.declarations.specs.declared.value_type.ValueType.{ValueType}
+use Rattle.declarations.specs.declared.value_type.ValueType.TheVariants as ty
 use Rattle.program.specs.Methods.{VariableModel}
 use Rattle.resolving.specs.Locals.{Frame, Local, mention_of}
 use Rattle.resolving.specs.Told.{Staying, behind_case, case_endpoint, case_told, cases_told}
@@ -72,18 +72,18 @@ named_closes text all (x ∷ before) name close named = ⊎_elim
     (λ later. named_closes text all before name close.1 later)
     (or_cases (same_name text x.endpoint name) (names_endpoint text name before) named)
 
-other_wrong : (k : ValueKind) (h : Head) (a : Awaited) → other_awaited_mistakes k h a ≡ [] → ⊥
+other_wrong : (k : ValueType) (h : Head) (a : Awaited) → other_awaited_mistakes k h a ≡ [] → ⊥
 other_wrong k h (Message word) none = cc
 other_wrong k h (Closed word) none = cc
 
 -- a head with which nothing is wrong names an endpoint, and this does not lack its close
-no_lack : (p : Program) (s : InScope) (all before : List Head) (h : Head) (k : ValueKind) → IsKnown p k → kind_head_mistakes s all before k h ≡ [] → lack_mistakes s all before h ≡ []
-no_lack p s all before h (kind.Endpoint end n) known none = (both_none (endpoint_head_mistakes s before (kind.Endpoint end n) end h) (lack_mistakes s all before h) none).1
-no_lack p s all before h (kind.Scalar t) known none = absurd (other_wrong (kind.Scalar t) h h.awaited none)
-no_lack p s all before h (kind.Array element) known none = absurd (other_wrong (kind.Array element) h h.awaited none)
-no_lack p s all before h (kind.Pointer n) known none = absurd (other_wrong (kind.Pointer n) h h.awaited none)
-no_lack p s all before h kind.Missing known none = absurd known
-no_lack p s all before h kind.Unknown known none = absurd known
+no_lack : (p : Program) (s : InScope) (all before : List Head) (h : Head) (k : ValueType) → IsKnown p k → type_head_mistakes s all before k h ≡ [] → lack_mistakes s all before h ≡ []
+no_lack p s all before h (ty.Endpoint end n) known none = (both_none (endpoint_head_mistakes s before (ty.Endpoint end n) end h) (lack_mistakes s all before h) none).1
+no_lack p s all before h (ty.Scalar t) known none = absurd (other_wrong (ty.Scalar t) h h.awaited none)
+no_lack p s all before h (ty.Array element) known none = absurd (other_wrong (ty.Array element) h h.awaited none)
+no_lack p s all before h (ty.Pointer n) known none = absurd (other_wrong (ty.Pointer n) h h.awaited none)
+no_lack p s all before h ty.Missing known none = absurd known
+no_lack p s all before h ty.Unknown known none = absurd known
 
 nothing_lacks : (b : Bool) (x : Mistake) → (if b then [] else x ∷ []) ≡ [] → b ≡ true
 nothing_lacks true x none = refl
@@ -93,7 +93,7 @@ heads_close : (p : Program) (vs : List VariableModel) (f : Frame) (g : names.Fra
     → HeadsClean p g all before heads → Each (HasClose p.text all) heads
 heads_close p vs f g all before [] standing close clean = tt
 heads_close p vs f g all before (h ∷ heads) standing close clean =
-    let parts = both_none (variable_mistakes (scope_of p g) h.endpoint) (kind_head_mistakes (scope_of p g) all before (held (meant (scope_of p g) h.endpoint)) h) clean.0 in
+    let parts = both_none (variable_mistakes (scope_of p g) h.endpoint) (type_head_mistakes (scope_of p g) all before (held (meant (scope_of p g) h.endpoint)) h) clean.0 in
     let lack = no_lack p (scope_of p g) all before h (held (meant (scope_of p g) h.endpoint)) (held_known p vs f g h.endpoint standing parts.0) parts.1 in
     let told = nothing_lacks (names_endpoint p.text h.endpoint before || awaits_closed p.text h.endpoint all) (LacksClosed h.endpoint) lack in
     let here : HasClose p.text all h = ⊎_elim

@@ -7,20 +7,20 @@ use Rattle.source.specs.declared.token.Span.{Span}
 use Rattle.tree.specs.Trees.{ClassTree, ContractTree}
 use Rattle.tree.specs.declared.statement as made
 use Rattle.tree.specs.declared.types as type_nodes
-use Rattle.program.specs.declared.kind.Side.{Side}
+use Rattle.program.specs.declared.types.Side.{Side}
 use Rattle.names.specs.Bodies.{channel_mistakes, ends_mistakes, is_end_of, new_ends_mistakes, same_end}
 use Rattle.names.specs.Expressions.{held, meant, variable_mistakes}
-use Rattle.declarations.specs.Kinds.{is_block, is_silent, unless}
-use Rattle.program.specs.Kinds.{same_side}
+use Rattle.declarations.specs.Types.{is_block, is_silent, unless}
+use Rattle.program.specs.Types.{same_side}
 use Rattle.declarations.specs.Program.{Numbered, Program}
 use Rattle.declarations.specs.Program as items
 use Rattle.names.specs.Variables as names
-use Rattle.declarations.specs.declared.kinds as declared
-use Rattle.declarations.specs.declared.kinds.ValueKind.TheVariants as kind
-use Rattle.program.specs.declared.kind.HeapKind.{HeapKind}
-use Rattle.program.specs.declared.kind.HeapKind.TheVariants.{Endpoint}
+use Rattle.declarations.specs.declared.value_type as declared
+use Rattle.declarations.specs.declared.value_type.ValueType.TheVariants as ty
+use Rattle.program.specs.declared.types.HeapType.{HeapType}
+use Rattle.program.specs.declared.types.HeapType.TheVariants.{Endpoint}
 use Rattle.program.specs.declared.statement.Action.TheVariants as does
-use Rattle.resolving.specs.Kinds.{contract_named, contract_number, number_at}
+use Rattle.resolving.specs.Types.{contract_named, contract_number, number_at}
 use Rattle.resolving.specs.Locals.{number_of, Frame, mention, mention_of}
 use Rattle.resolving.specs.Plain.{channel, channel_of, ends_of}
 use Rattle.program.specs.Scopes.{IsInScope}
@@ -28,23 +28,23 @@ use Rattle.program.specs.WellFormed.{IsAction, Setting, are_ends}
 use Rattle.wellformed.proofs.ContractLemmas.{contract_is_at}
 use Rattle.wellformed.proofs.FindingLemmas.{unless_none}
 use Rattle.wellformed.proofs.MentionLemmas.{block_mentioned, held_known}
-use Rattle.wellformed.proofs.KindLemmas.{HasContract, HoldsEnd, contract_known, end_holds}
+use Rattle.wellformed.proofs.HeapTypeLemmas.{HasContract, HoldsEnd, contract_known, end_holds}
 use Rattle.wellformed.proofs.ListLemmas.{both_none}
 use Rattle.wellformed.proofs.Standing.{AreStanding, Around, IsHeld, IsKnown, last_of, scope_of}
 use Rattle.lemmas.proofs.Bools.{both_true}
 
--- a kind that is that of an end of this contract
-record IsEndKind (n : ℕ) (k : declared.ValueKind.ValueKind) : Type 0 where
+-- a type that is that of an end of this contract
+record IsEndType (n : ℕ) (k : declared.ValueType.ValueType) : Type 0 where
   pub side : Side
-  pub is : k ≡ kind.Endpoint side n
+  pub is : k ≡ ty.Endpoint side n
 
-end_kind : (p : Program) (n : ℕ) (k : declared.ValueKind.ValueKind) → IsKnown p k → (is_silent k || is_end_of n k) ≡ true → IsEndKind n k
-end_kind p n (kind.Endpoint side m) known fits = record { side = side; is = ap (λ x. kind.Endpoint side x) (sym (eqb-true n m fits)) }
-end_kind p n (kind.Scalar x) known fits = cc
-end_kind p n (kind.Array x) known fits = cc
-end_kind p n (kind.Pointer x) known fits = cc
-end_kind p n kind.Missing known fits = absurd known
-end_kind p n kind.Unknown known fits = absurd known
+end_type : (p : Program) (n : ℕ) (k : declared.ValueType.ValueType) → IsKnown p k → (is_silent k || is_end_of n k) ≡ true → IsEndType n k
+end_type p n (ty.Endpoint side m) known fits = record { side = side; is = ap (λ x. ty.Endpoint side x) (sym (eqb-true n m fits)) }
+end_type p n (ty.Scalar x) known fits = cc
+end_type p n (ty.Array x) known fits = cc
+end_type p n (ty.Pointer x) known fits = cc
+end_type p n ty.Missing known fits = absurd known
+end_type p n ty.Unknown known fits = absurd known
 
 same_number : (n : ℕ) → (n == n) ≡ true
 same_number n = eq-eqb n n refl
@@ -60,7 +60,7 @@ right_of false true c quiet h = h
 right_of false false c quiet h = cc
 
 -- two variables that hold ends of a contract, and not the same one
-ends_fit : (p : Program) (n : ℕ) (a b : Side) (x y : HeapKind) → HoldsEnd p n a x → HoldsEnd p n b y → not (is_end_of n (kind.Endpoint a n) && same_end (kind.Endpoint a n) (kind.Endpoint b n)) ≡ true
+ends_fit : (p : Program) (n : ℕ) (a b : Side) (x y : HeapType) → HoldsEnd p n a x → HoldsEnd p n b y → not (is_end_of n (ty.Endpoint a n) && same_end (ty.Endpoint a n) (ty.Endpoint b n)) ≡ true
     → are_ends (contract_number p n).0 x y ≡ true
 ends_fit p n a b x y left right differ =
     let k = contract_number p n in
@@ -69,7 +69,7 @@ ends_fit p n a b x y left right differ =
     subst (λ z. are_ends k.0 z y ≡ true) (sym left.is) (subst (λ z. are_ends k.0 (Endpoint k a left.state) z ≡ true) (sym right.is) ends)
 
 -- the contract of an end that is known
-channel_contract : (p : Program) (contract : Span) (c : Numbered ContractTree) (side : Side) → items.contract_named p contract ≡ Some c → IsKnown p (kind.Endpoint side c.0) → contract_named p contract ≡ Some (contract_number p c.0)
+channel_contract : (p : Program) (contract : Span) (c : Numbered ContractTree) (side : Side) → items.contract_named p contract ≡ Some c → IsKnown p (ty.Endpoint side c.0) → contract_named p contract ≡ Some (contract_number p c.0)
 channel_contract p contract c side named known =
     let has : HasContract p c.0 = contract_known p c.0 side known in
     let at = contract_is_at p c.0 has.tree has.is in
@@ -87,15 +87,15 @@ found_fits p class s f g n c named here standing first second none =
     let both = both_none (unless (is_silent a || is_end_of c.0 a) n.first.place _) (unless (is_silent b || (is_end_of c.0 b && other)) n.second.place _) none in
     let fits_a = unless_none _ (is_silent a || is_end_of c.0 a) n.first.place both.0 in
     let fits_b = unless_none _ (is_silent b || (is_end_of c.0 b && other)) n.second.place both.1 in
-    let end_a = end_kind p c.0 a known_a fits_a in
-    let end_b = end_kind p c.0 b known_b (left_of (is_silent b) (is_end_of c.0 b) other fits_b) in
+    let end_a = end_type p c.0 a known_a fits_a in
+    let end_b = end_type p c.0 b known_b (left_of (is_silent b) (is_end_of c.0 b) other fits_b) in
     let differ = right_of (is_silent b) (is_end_of c.0 b) other (ap is_silent end_b.is) fits_b in
     let v = block_mentioned p s.variables f g n.first standing first (ap is_block end_a.is) in
     let w = block_mentioned p s.variables f g n.second standing second (ap is_block end_b.is) in
-    let holds_v = end_holds p c.0 end_a.side v.variable.kind (subst (λ k. IsHeld p k v.variable.kind) end_a.is v.holds) in
-    let holds_w = end_holds p c.0 end_b.side w.variable.kind (subst (λ k. IsHeld p k w.variable.kind) end_b.is w.holds) in
-    let apart = subst (λ k. not (is_end_of c.0 k && same_end k (kind.Endpoint end_b.side c.0)) ≡ true) end_a.is (subst (λ k. not (is_end_of c.0 a && same_end a k) ≡ true) end_b.is differ) in
-    let ends = ends_fit p c.0 end_a.side end_b.side v.variable.kind w.variable.kind holds_v holds_w apart in
+    let holds_v = end_holds p c.0 end_a.side v.variable.ty (subst (λ k. IsHeld p k v.variable.ty) end_a.is v.holds) in
+    let holds_w = end_holds p c.0 end_b.side w.variable.ty (subst (λ k. IsHeld p k w.variable.ty) end_b.is w.holds) in
+    let apart = subst (λ k. not (is_end_of c.0 k && same_end k (ty.Endpoint end_b.side c.0)) ≡ true) end_a.is (subst (λ k. not (is_end_of c.0 a && same_end a k) ≡ true) end_b.is differ) in
+    let ends = ends_fit p c.0 end_a.side end_b.side v.variable.ty w.variable.ty holds_v holds_w apart in
     let contract = channel_contract p n.contract c end_a.side named (subst (IsKnown p) end_a.is known_a) in
     let mentions : channel_of p class f n (contract_number p c.0) ≡ Some (ends_of p class f n.word.place (contract_number p c.0) (mention_of n.first v.number) (mention_of n.second w.number)) =
     ap (option_and_then (λ m. option_map (ends_of p class f n.word.place (contract_number p c.0) m) (mention p.text f.locals n.second))) v.is
@@ -103,8 +103,8 @@ found_fits p class s f g n c named here standing first second none =
     let found = ap (option_and_then (channel_of p class f n)) contract ∙ mentions in
     subst (λ o. IsAction s (option_map_or (λ x. x) o does.Nothing)) (sym found) (
       (subst (λ o. IsInScope s.variables o (number_of v.number)) (sym here) v.inside, subst (λ o. IsInScope s.variables o (number_of w.number)) (sym here) w.inside),
-      subst (λ o. IsSomeAnd o (λ x. IsSomeAnd (slice_get s.variables w.number) (λ y. are_ends (contract_number p c.0).0 x.kind y.kind ≡ true))) (sym v.there)
-          (subst (λ o. IsSomeAnd o (λ y. are_ends (contract_number p c.0).0 v.variable.kind y.kind ≡ true)) (sym w.there) ends),
+      subst (λ o. IsSomeAnd o (λ x. IsSomeAnd (slice_get s.variables w.number) (λ y. are_ends (contract_number p c.0).0 x.ty y.ty ≡ true))) (sym v.there)
+          (subst (λ o. IsSomeAnd o (λ y. are_ends (contract_number p c.0).0 v.variable.ty y.ty ≡ true)) (sym w.there) ends),
     )
 
 named_fits : (p : Program) (class : ℕ) (s : Setting) (f : Frame) (g : names.Frame) (n : made.NewChannel.NewChannel) (o : Option (Numbered ContractTree)) → items.contract_named p n.contract ≡ o

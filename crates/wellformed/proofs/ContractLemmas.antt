@@ -18,7 +18,7 @@ use Rattle.tables.specs.Words.{same_word, word_at, words_at}
 use Rattle.program.specs.declared.number.MessageId.{MessageId}
 use Rattle.resolving.specs.Brought.{brought, messages_told}
 use Rattle.resolving.specs.Counts.{contracts_before}
-use Rattle.resolving.specs.Kinds.{contract_at, state_of}
+use Rattle.resolving.specs.Types.{contract_at, state_of}
 use Rattle.resolving.specs.Messages.{Meant, message_named, message_number, message_sent, message_there}
 use Rattle.program.specs.WellFormed.{IsStateOf, IsMessageOf}
 use Rattle.wellformed.proofs.PlaceLemmas.{slice_behind, slice_front}

@@ -1,4 +1,4 @@
--- Expressions with which nothing is wrong: their kinds, and what they read.
+-- Expressions with which nothing is wrong: their types, and what they read.
 use Rattle.std.proofs.Common.{◌≡◌, ℕ, ◌<◌, Bool, true, false, not, ◌||◌, List, [], ◌∷◌, ◌++◌, length, if◌then◌else◌, refl, sym, ap, subst, arith}
 use Rattle.std.proofs.lemmas.Bool.{not-true}
 use Rattle.std.specs.Option.{option_map_or}
@@ -11,18 +11,18 @@ use Rattle.tree.specs.Trees.{StructTree}
 use Rattle.tree.specs.declared.class as made
 use Rattle.tree.specs.declared.types as type_nodes
 use Rattle.tree.specs.declared.types.Type.TheVariants as type
-use Rattle.program.specs.declared.kind.Scalar.TheVariants as scalar
-use Rattle.names.specs.Expressions.{kind_of, place_of, held, meant, expression_mistakes, whole_mistakes, field_kind, field_mistakes, struct_field_kind, is_length, is_owning, owns, element_kind, element_mistakes, variable_mistakes, mention_mistakes, asked_number, sign_asked, left_asked, right_asked, signed_kind, joined_kind}
+use Rattle.program.specs.declared.types.Scalar.TheVariants as scalar
+use Rattle.names.specs.Expressions.{type_of, place_of, held, meant, expression_mistakes, whole_mistakes, field_type, field_mistakes, struct_field_type, is_length, is_owning, owns, element_type, element_mistakes, variable_mistakes, mention_mistakes, asked_number, sign_asked, left_asked, right_asked, signed_type, joined_type}
 use Rattle.declarations.specs.Named.{field_named}
 use Rattle.declarations.specs.declared.mistake.Mistake.TheVariants.{Unknown}
 use Rattle.declarations.specs.declared.mistake.NameSort.TheVariants as sort
-use Rattle.declarations.specs.Kinds.{is_block, is_heap, is_number, is_truth, is_unknown, type_kind, unless}
+use Rattle.declarations.specs.Types.{is_block, is_heap, is_number, is_truth, is_unknown, type_meant, unless}
 use Rattle.declarations.specs.Program.{Program, Numbered, as_struct, item_at}
 use Rattle.names.specs.Shapes as shapes
 use Rattle.names.specs.Shapes.{Shape, Sign, shape}
 use Rattle.names.specs.Variables as names
-use Rattle.declarations.specs.declared.kinds as declared
-use Rattle.declarations.specs.declared.kinds.ValueKind.TheVariants as kind
+use Rattle.declarations.specs.declared.value_type as declared
+use Rattle.declarations.specs.declared.value_type.ValueType.TheVariants as ty
 use Rattle.program.specs.Methods.{VariableModel}
 use Rattle.program.specs.declared.statement.Mention.{Mention}
 use Rattle.resolving.specs.Locals.{Frame, mention}
@@ -30,7 +30,7 @@ use Rattle.resolving.specs.Reads.{reads, step_reads, atom_reads, target_reads, l
 use Rattle.tree.specs.Alone.{lone_name}
 use Rattle.program.specs.Lists.{Each}
 use Rattle.names.proofs.WholeNames.{not_lone}
-use Rattle.wellformed.proofs.KindLemmas.{known_certain}
+use Rattle.wellformed.proofs.HeapTypeLemmas.{known_certain}
 use Rattle.wellformed.proofs.ListLemmas.{both_none, each_append}
 use Rattle.wellformed.proofs.FindingLemmas.{none_said, unless_none}
 use Rattle.wellformed.proofs.MentionLemmas.{IsMentioned, block_mentioned, held_known, mention_within}
@@ -71,48 +71,48 @@ pub reads_within : (p : Program) (vs : List VariableModel) (f : Frame) (g : name
 reads_within p vs f g standing e = level_within p vs f g standing e
 
 -- the length of an array
-length_scalar : (p : Program) (b : Bool) → b ≡ true → IsKnown p (if b then kind.Scalar scalar.Int else kind.Unknown) × (is_block (if b then kind.Scalar scalar.Int else kind.Unknown) ≡ false)
+length_scalar : (p : Program) (b : Bool) → b ≡ true → IsKnown p (if b then ty.Scalar scalar.Int else ty.Unknown) × (is_block (if b then ty.Scalar scalar.Int else ty.Unknown) ≡ false)
 length_scalar p true is = (tt, refl)
 length_scalar p false is = absurd (cc)
 
 -- a field of a struct that does not own
-type_scalar : (p : Program) (t : type_nodes.Type.Type) → is_heap t ≡ false → IsKnown p (type_kind p t) × (is_block (type_kind p t) ≡ false)
+type_scalar : (p : Program) (t : type_nodes.Type.Type) → is_heap t ≡ false → IsKnown p (type_meant p t) × (is_block (type_meant p t) ≡ false)
 type_scalar p (type.Scalar s) own = (tt, refl)
 type_scalar p (type.Heap h) own = absurd (cc)
 
 part_scalar : (p : Program) (g : names.Frame) (o : Option made.Field.Field) → is_some o ≡ true → is_owning o ≡ false
-    → IsKnown p (struct_field_kind (scope_of p g) o) × (is_block (struct_field_kind (scope_of p g) o) ≡ false)
+    → IsKnown p (struct_field_type (scope_of p g) o) × (is_block (struct_field_type (scope_of p g) o) ≡ false)
 part_scalar p g None is own = absurd (cc)
 part_scalar p g (Some x) is own = type_scalar p x.ty own
 
 struct_scalar : (p : Program) (g : names.Frame) (n : ℕ) (o : Option (Numbered StructTree)) (field : Span) → IsSomeAnd o (λ s. Unit {0})
     → option_map_or (λ x. if is_some (field_named p.text x.1 field) then [] else Unknown field (sort.Field n) ∷ []) o [] ≡ []
     → option_map_or (λ x. is_owning (field_named p.text x.1 field)) o false ≡ false
-    → IsKnown p (option_map_or (λ x. struct_field_kind (scope_of p g) (field_named p.text x.1 field)) o kind.Unknown) × (is_block (option_map_or (λ x. struct_field_kind (scope_of p g) (field_named p.text x.1 field)) o kind.Unknown) ≡ false)
+    → IsKnown p (option_map_or (λ x. struct_field_type (scope_of p g) (field_named p.text x.1 field)) o ty.Unknown) × (is_block (option_map_or (λ x. struct_field_type (scope_of p g) (field_named p.text x.1 field)) o ty.Unknown) ≡ false)
 struct_scalar p g n None field known none own = absurd known
 struct_scalar p g n (Some x) field known none own = part_scalar p g (field_named p.text x.1 field) (none_said (is_some (field_named p.text x.1 field)) (Unknown field (sort.Field n)) none) own
 
 -- a field that does not own, or an element, is a scalar
-pub field_scalar : (p : Program) (g : names.Frame) (k : declared.ValueKind.ValueKind) (name field : Span) → IsKnown p k → field_mistakes (scope_of p g) k name field ≡ [] → owns (scope_of p g) k field ≡ false
-    → IsKnown p (field_kind (scope_of p g) k field) × (is_block (field_kind (scope_of p g) k field) ≡ false)
-field_scalar p g (kind.Scalar s) name field known none own = absurd (cc)
-field_scalar p g (kind.Array element) name field known none own = length_scalar p (is_length (scope_of p g) field) (none_said (is_length (scope_of p g) field) (Unknown field sort.Length) none)
-field_scalar p g (kind.Pointer n) name field known none own = struct_scalar p g n (item_at as_struct p n) field known none own
-field_scalar p g (kind.Endpoint side n) name field known none own = absurd (cc)
-field_scalar p g kind.Missing name field known none own = absurd known
-field_scalar p g kind.Unknown name field known none own = absurd known
+pub field_scalar : (p : Program) (g : names.Frame) (k : declared.ValueType.ValueType) (name field : Span) → IsKnown p k → field_mistakes (scope_of p g) k name field ≡ [] → owns (scope_of p g) k field ≡ false
+    → IsKnown p (field_type (scope_of p g) k field) × (is_block (field_type (scope_of p g) k field) ≡ false)
+field_scalar p g (ty.Scalar s) name field known none own = absurd (cc)
+field_scalar p g (ty.Array element) name field known none own = length_scalar p (is_length (scope_of p g) field) (none_said (is_length (scope_of p g) field) (Unknown field sort.Length) none)
+field_scalar p g (ty.Pointer n) name field known none own = struct_scalar p g n (item_at as_struct p n) field known none own
+field_scalar p g (ty.Endpoint side n) name field known none own = absurd (cc)
+field_scalar p g ty.Missing name field known none own = absurd known
+field_scalar p g ty.Unknown name field known none own = absurd known
 
-pub element_scalar : (p : Program) (k : declared.ValueKind.ValueKind) (name : Span) → IsKnown p k → element_mistakes k name ≡ []
-    → IsKnown p (element_kind k false) × (is_block (element_kind k false) ≡ false)
-element_scalar p (kind.Array element) name known none = (tt, refl)
-element_scalar p (kind.Scalar s) name known none = absurd (cc)
-element_scalar p (kind.Pointer n) name known none = absurd (cc)
-element_scalar p (kind.Endpoint side n) name known none = absurd (cc)
-element_scalar p kind.Missing name known none = absurd known
-element_scalar p kind.Unknown name known none = absurd known
+pub element_scalar : (p : Program) (k : declared.ValueType.ValueType) (name : Span) → IsKnown p k → element_mistakes k name ≡ []
+    → IsKnown p (element_type k false) × (is_block (element_type k false) ≡ false)
+element_scalar p (ty.Array element) name known none = (tt, refl)
+element_scalar p (ty.Scalar s) name known none = absurd (cc)
+element_scalar p (ty.Pointer n) name known none = absurd (cc)
+element_scalar p (ty.Endpoint side n) name known none = absurd (cc)
+element_scalar p ty.Missing name known none = absurd known
+element_scalar p ty.Unknown name known none = absurd known
 
 -- what an operator gives, where its operands are known
-gives_scalar : (p : Program) (lost : Bool) (k : declared.ValueKind.ValueKind) → lost ≡ false → IsKnown p k × (is_block k ≡ false) → IsKnown p (if lost then kind.Unknown else k) × (is_block (if lost then kind.Unknown else k) ≡ false)
+gives_scalar : (p : Program) (lost : Bool) (k : declared.ValueType.ValueType) → lost ≡ false → IsKnown p k × (is_block k ≡ false) → IsKnown p (if lost then ty.Unknown else k) × (is_block (if lost then ty.Unknown else k) ≡ false)
 gives_scalar p true k certain scalar = absurd (cc)
 gives_scalar p false k certain scalar = scalar
 
@@ -121,19 +121,19 @@ neither true b first second = cc
 neither false b first second = second
 
 -- a number or a truth value is a scalar, and operators give nothing else
-counted_scalar : (p : Program) (k : declared.ValueKind.ValueKind) → (is_number k || is_truth k) ≡ true → IsKnown p k × (is_block k ≡ false)
-counted_scalar p (kind.Scalar s) is = (tt, refl)
-counted_scalar p (kind.Pointer n) is = absurd (cc)
-counted_scalar p (kind.Array element) is = absurd (cc)
-counted_scalar p (kind.Endpoint side n) is = absurd (cc)
-counted_scalar p kind.Missing is = absurd (cc)
-counted_scalar p kind.Unknown is = absurd (cc)
+counted_scalar : (p : Program) (k : declared.ValueType.ValueType) → (is_number k || is_truth k) ≡ true → IsKnown p k × (is_block k ≡ false)
+counted_scalar p (ty.Scalar s) is = (tt, refl)
+counted_scalar p (ty.Pointer n) is = absurd (cc)
+counted_scalar p (ty.Array element) is = absurd (cc)
+counted_scalar p (ty.Endpoint side n) is = absurd (cc)
+counted_scalar p ty.Missing is = absurd (cc)
+counted_scalar p ty.Unknown is = absurd (cc)
 
-signed_counted : (sign : Sign) → (is_number (signed_kind sign) || is_truth (signed_kind sign)) ≡ true
+signed_counted : (sign : Sign) → (is_number (signed_type sign) || is_truth (signed_type sign)) ≡ true
 signed_counted shapes.Denial = refl
 signed_counted shapes.Minus = refl
 
-joined_counted : (joint : _) → (is_number (joined_kind joint) || is_truth (joined_kind joint)) ≡ true
+joined_counted : (joint : _) → (is_number (joined_type joint) || is_truth (joined_type joint)) ≡ true
 joined_counted joint = grind arith
 
 mention_scalar : (p : Program) (vs : List VariableModel) (f : Frame) (g : names.Frame) → AreStanding p vs f g → (name : Span) → mention_mistakes (scope_of p g) name ≡ []
@@ -144,7 +144,7 @@ mention_scalar p vs f g standing name none =
 
 -- so is an expression with operators, numbers, fields and the like
 pub expression_scalar : (p : Program) (vs : List VariableModel) (f : Frame) (g : names.Frame) → AreStanding p vs f g
-    → (e : Shape) → expression_mistakes (scope_of p g) e ≡ [] → IsKnown p (kind_of (scope_of p g) e) × (is_block (kind_of (scope_of p g) e) ≡ false)
+    → (e : Shape) → expression_mistakes (scope_of p g) e ≡ [] → IsKnown p (type_of (scope_of p g) e) × (is_block (type_of (scope_of p g) e) ≡ false)
 expression_scalar p vs f g standing (shapes.Number place) none = (tt, refl)
 expression_scalar p vs f g standing (shapes.Truth place) none = (tt, refl)
 expression_scalar p vs f g standing (shapes.Mention name) none = mention_scalar p vs f g standing name none
@@ -158,25 +158,25 @@ expression_scalar p vs f g standing (shapes.Field name field) none =
 expression_scalar p vs f g standing (shapes.Element name index) none =
     let s = scope_of p g in
     let k = held (meant s name) in
-    let first = both_none (expression_mistakes s index) (asked_number (kind_of s index) (place_of index) ++ (variable_mistakes s name ++ element_mistakes k name)) none in
-    let second = both_none (asked_number (kind_of s index) (place_of index)) (variable_mistakes s name ++ element_mistakes k name) first.1 in
+    let first = both_none (expression_mistakes s index) (asked_number (type_of s index) (place_of index) ++ (variable_mistakes s name ++ element_mistakes k name)) none in
+    let second = both_none (asked_number (type_of s index) (place_of index)) (variable_mistakes s name ++ element_mistakes k name) first.1 in
     let third = both_none (variable_mistakes s name) (element_mistakes k name) second.1 in
-    let certain = known_certain p (kind_of s index) (expression_scalar p vs f g standing index first.0).0 in
-    subst (λ lost. IsKnown p (element_kind k lost) × (is_block (element_kind k lost) ≡ false)) (sym certain) (element_scalar p k name (held_known p vs f g name standing third.0) third.1)
+    let certain = known_certain p (type_of s index) (expression_scalar p vs f g standing index first.0).0 in
+    subst (λ lost. IsKnown p (element_type k lost) × (is_block (element_type k lost) ≡ false)) (sym certain) (element_scalar p k name (held_known p vs f g name standing third.0) third.1)
 expression_scalar p vs f g standing (shapes.Parens place inner) none = expression_scalar p vs f g standing inner none
 expression_scalar p vs f g standing (shapes.Signed sign place inner) none =
     let s = scope_of p g in
-    let both = both_none (expression_mistakes s inner) (sign_asked sign (kind_of s inner) (place_of inner)) none in
-    gives_scalar p (is_unknown (kind_of s inner)) (signed_kind sign) (known_certain p (kind_of s inner) (expression_scalar p vs f g standing inner both.0).0) (counted_scalar p (signed_kind sign) (signed_counted sign))
+    let both = both_none (expression_mistakes s inner) (sign_asked sign (type_of s inner) (place_of inner)) none in
+    gives_scalar p (is_unknown (type_of s inner)) (signed_type sign) (known_certain p (type_of s inner) (expression_scalar p vs f g standing inner both.0).0) (counted_scalar p (signed_type sign) (signed_counted sign))
 expression_scalar p vs f g standing (shapes.Joined joint left right) none =
     let s = scope_of p g in
-    let first = both_none (expression_mistakes s left) (expression_mistakes s right ++ (left_asked joint (kind_of s left) (place_of left) ++ right_asked joint (kind_of s left) (kind_of s right) (place_of right))) none in
-    let second = both_none (expression_mistakes s right) (left_asked joint (kind_of s left) (place_of left) ++ right_asked joint (kind_of s left) (kind_of s right) (place_of right)) first.1 in
-    let certain = neither (is_unknown (kind_of s left)) (is_unknown (kind_of s right)) (known_certain p (kind_of s left) (expression_scalar p vs f g standing left first.0).0) (known_certain p (kind_of s right) (expression_scalar p vs f g standing right second.0).0) in
-    gives_scalar p (is_unknown (kind_of s left) || is_unknown (kind_of s right)) (joined_kind joint) certain (counted_scalar p (joined_kind joint) (joined_counted joint))
+    let first = both_none (expression_mistakes s left) (expression_mistakes s right ++ (left_asked joint (type_of s left) (place_of left) ++ right_asked joint (type_of s left) (type_of s right) (place_of right))) none in
+    let second = both_none (expression_mistakes s right) (left_asked joint (type_of s left) (place_of left) ++ right_asked joint (type_of s left) (type_of s right) (place_of right)) first.1 in
+    let certain = neither (is_unknown (type_of s left)) (is_unknown (type_of s right)) (known_certain p (type_of s left) (expression_scalar p vs f g standing left first.0).0) (known_certain p (type_of s right) (expression_scalar p vs f g standing right second.0).0) in
+    gives_scalar p (is_unknown (type_of s left) || is_unknown (type_of s right)) (joined_type joint) certain (counted_scalar p (joined_type joint) (joined_counted joint))
 
 pub whole_known : (p : Program) (vs : List VariableModel) (f : Frame) (g : names.Frame) → AreStanding p vs f g
-    → (e : Shape) → whole_mistakes (scope_of p g) e ≡ [] → IsKnown p (kind_of (scope_of p g) e)
+    → (e : Shape) → whole_mistakes (scope_of p g) e ≡ [] → IsKnown p (type_of (scope_of p g) e)
 whole_known p vs f g standing (shapes.Mention name) none = held_known p vs f g name standing none
 whole_known p vs f g standing e none = (expression_scalar p vs f g standing e none).0
 
@@ -184,16 +184,16 @@ whole_known p vs f g standing e none = (expression_scalar p vs f g standing e no
 pub record IsLone (p : Program) (vs : List VariableModel) (f : Frame) (g : names.Frame) (e : ExpressionTree) : Type 0 where
   pub name : Span
   pub is : lone_name e ≡ Some name
-  pub kind : kind_of (scope_of p g) (shape e) ≡ held (meant (scope_of p g) name)
+  pub ty : type_of (scope_of p g) (shape e) ≡ held (meant (scope_of p g) name)
   pub mentioned : IsMentioned p vs f g name
 
 lone_by : (p : Program) (vs : List VariableModel) (f : Frame) (g : names.Frame) → AreStanding p vs f g → (e : ExpressionTree) (x : Shape) → shape e ≡ x
-    → whole_mistakes (scope_of p g) x ≡ [] → is_block (kind_of (scope_of p g) x) ≡ true → IsLone p vs f g e
-lone_by p vs f g standing e (shapes.Mention name) is none block = record { name = name; is = not_lone e name is; kind = ap (kind_of (scope_of p g)) is; mentioned = block_mentioned p vs f g name standing none block }
+    → whole_mistakes (scope_of p g) x ≡ [] → is_block (type_of (scope_of p g) x) ≡ true → IsLone p vs f g e
+lone_by p vs f g standing e (shapes.Mention name) is none block = record { name = name; is = not_lone e name is; ty = ap (type_of (scope_of p g)) is; mentioned = block_mentioned p vs f g name standing none block }
 lone_by p vs f g standing e x is none block =
     let scalar = (expression_scalar p vs f g standing x none).1 in
     absurd (cc)
 
 pub block_lone : (p : Program) (vs : List VariableModel) (f : Frame) (g : names.Frame) → AreStanding p vs f g
-    → (e : ExpressionTree) → whole_mistakes (scope_of p g) (shape e) ≡ [] → is_block (kind_of (scope_of p g) (shape e)) ≡ true → IsLone p vs f g e
+    → (e : ExpressionTree) → whole_mistakes (scope_of p g) (shape e) ≡ [] → is_block (type_of (scope_of p g) (shape e)) ≡ true → IsLone p vs f g e
 block_lone p vs f g standing e none block = lone_by p vs f g standing e (shape e) refl none block

@@ -1,4 +1,4 @@
--- What structs have in fields that own: few kinds, which stand for something, by the numbers of structs.
+-- What structs have in fields that own: few types, which stand for something, by the numbers of structs.
 use Rattle.declarations.specs.declared.mistake.Limit.TheVariants as limit
 use Rattle.std.proofs.Common.{◌≡◌, ℕ, zero, suc, ◌+◌, ◌≤◌, List, [], ◌∷◌, ◌++◌, length, map, refl, ap, ◌∙◌, arith, length-append}
 use Rattle.std.proofs.lemmas.List.{length-map}
@@ -16,24 +16,24 @@ use Rattle.tree.specs.declared.types as type_nodes
 use Rattle.tree.specs.declared.types.Type.TheVariants as type
 use Rattle.names.specs.Findings.{definition_mistakes, program_mistakes}
 use Rattle.declarations.specs.declared.mistake.Mistake.{Mistake}
-use Rattle.declarations.specs.Kinds.{is_heap, type_kind, type_unknown}
+use Rattle.declarations.specs.Types.{is_heap, type_meant, type_unknown}
 use Rattle.declarations.proofs.ReadyLemmas.{not_past}
 use Rattle.declarations.specs.Listed.{past_limit, twice_among}
 use Rattle.declarations.specs.ItemMistakes.{struct_mistakes}
 use Rattle.declarations.specs.Program.{Program, as_struct, item_at}
 use Rattle.declarations.specs.Resolution.{resolved_contracts}
 use Rattle.declarations.specs.Owning.{owning_fields}
-use Rattle.declarations.specs.declared.kinds as names
+use Rattle.declarations.specs.declared.value_type as names
 use Rattle.program.specs.Lists.{Each}
-use Rattle.program.specs.WellFormed.{AreFields, IsKind, field_kinds}
-use Rattle.program.specs.declared.kind as held
+use Rattle.program.specs.WellFormed.{AreFields, IsType, field_types}
+use Rattle.program.specs.declared.types as held
 use Rattle.program.specs.declared.limits.TheConstants.{MOST_FIELDS}
 use Rattle.resolving.specs.Brought.{held_listed, params_held}
 use Rattle.resolving.specs.Counts.{struct_among, structs_before, structs_of}
 use Rattle.resolving.specs.Fields.{fields_held, structs_told}
-use Rattle.resolving.specs.Kinds.{type_held}
-use Rattle.wellformed.proofs.BroughtLemmas.{type_kinds}
-use Rattle.wellformed.proofs.KindLemmas.{struct_of}
+use Rattle.resolving.specs.Types.{type_held}
+use Rattle.wellformed.proofs.BroughtLemmas.{types_meant}
+use Rattle.wellformed.proofs.HeapTypeLemmas.{struct_of}
 use Rattle.wellformed.proofs.ListLemmas.{both_none, each_append}
 use Rattle.wellformed.proofs.MethodNumberLemmas.{Declares, struct_item}
 use Rattle.wellformed.proofs.PlaceLemmas.{each_none, slice_behind}
@@ -73,7 +73,7 @@ struct_is p s none =
     }
 
 -- no more hold something than are of types of the exchange heap
-listed_few : (o : Option held.HeapKind.HeapKind) (n m : ℕ) → n ≤ m → length (held_listed o) + n ≤ suc m
+listed_few : (o : Option held.HeapType.HeapType) (n m : ℕ) → n ≤ m → length (held_listed o) + n ≤ suc m
 listed_few None n m le = omega (arith, le)
 listed_few (Some h) n m le = omega (arith, le)
 
@@ -89,21 +89,21 @@ held_few p (f ∷ fields) = by f.access f.ty f.name (held_few p fields)
         omega (arith, more, length-append (held_listed (type_held p (type.Heap h))) (fields_held p fields))
 
 -- what a struct has in its fields that own stands for something
-held_kinds : (p : Program) (fields : List Field) → Each (IsKind (resolved_contracts p.text (contracts_of p.items))) (fields_held p fields)
-held_kinds p [] = tt
-held_kinds p (f ∷ fields) = each_append (IsKind (resolved_contracts p.text (contracts_of p.items))) (held_listed (type_held p f.ty)) (fields_held p fields)
-    (type_kinds p f.ty (type_held p f.ty) refl) (held_kinds p fields)
+held_types : (p : Program) (fields : List Field) → Each (IsType (resolved_contracts p.text (contracts_of p.items))) (fields_held p fields)
+held_types p [] = tt
+held_types p (f ∷ fields) = each_append (IsType (resolved_contracts p.text (contracts_of p.items))) (held_listed (type_held p f.ty)) (fields_held p fields)
+    (types_meant p f.ty (type_held p f.ty) refl) (held_types p fields)
 
-structs_kinds : (p : Program) (structs : List StructTree) → Each (λ s. struct_mistakes p s ≡ []) structs
+structs_types : (p : Program) (structs : List StructTree) → Each (λ s. struct_mistakes p s ≡ []) structs
     → Each (AreFields (resolved_contracts p.text (contracts_of p.items))) (map (λ s. fields_held p s.fields) structs)
-structs_kinds p [] none = tt
-structs_kinds p (s ∷ structs) none =
+structs_types p [] none = tt
+structs_types p (s ∷ structs) none =
     let is = struct_is p s none.0 in
     let few = is.few in
-    (record { few = omega (arith, few, held_few p s.fields); kinds_are = held_kinds p s.fields }, structs_kinds p structs none.1)
+    (record { few = omega (arith, few, held_few p s.fields); types_are = held_types p s.fields }, structs_types p structs none.1)
 
-pub fields_kinds : (p : Program) → program_mistakes p ≡ [] → Each (AreFields (resolved_contracts p.text (contracts_of p.items))) (structs_told p)
-fields_kinds p clean = structs_kinds p (structs_of p.items) (structs_none p p.items (items_clean p clean))
+pub fields_types : (p : Program) → program_mistakes p ≡ [] → Each (AreFields (resolved_contracts p.text (contracts_of p.items))) (structs_told p)
+fields_types p clean = structs_types p (structs_of p.items) (structs_none p p.items (items_clean p clean))
 
 -- the types of the fields of a struct are known
 pub fields_clean : (p : Program) (n : ℕ) (s : StructTree) → program_mistakes p ≡ [] → item_at as_struct p n ≡ Some (n, s)
@@ -125,12 +125,12 @@ struct_there (j ∷ items) (suc n) i s there is =
     ap (slice_get (own ++ structs_of items)) on ∙ slice_behind own (structs_of items) (structs_before items n) ∙ struct_there items n i s there is
 
 -- what a struct has in its fields that own, by its number
-pub kinds_of_struct : (p : Program) (n : ℕ) (s : StructTree) → item_at as_struct p n ≡ Some (n, s)
-    → field_kinds (structs_told p) (struct_of (structs_before p.items n)) ≡ fields_held p s.fields
-kinds_of_struct p n s there =
+pub types_of_struct : (p : Program) (n : ℕ) (s : StructTree) → item_at as_struct p n ≡ Some (n, s)
+    → field_types (structs_told p) (struct_of (structs_before p.items n)) ≡ fields_held p s.fields
+types_of_struct p n s there =
     let d : Declares (slice_get p.items n) (trees.Struct s) = struct_item p n s there in
     let told = struct_there p.items n d.item s d.at d.is in
-    ap (λ (o : Option (List held.HeapKind.HeapKind)). option_map_or (λ kinds. kinds) o [])
+    ap (λ (o : Option (List held.HeapType.HeapType)). option_map_or (λ types. types) o [])
     (slice_get-map (λ x. fields_held p x.fields) (structs_of p.items) (structs_before p.items n) ∙ ap (option_map (λ (x : StructTree). fields_held p x.fields)) told)
 
 -- A field as a parameter of a message: what is given for fields is what is given for these.
@@ -147,11 +147,11 @@ params_are p (f ∷ fields) = by f.access f.ty f.name (params_are p fields)
     by : (a : Option Access) (t : type_nodes.Type.Type) (n : Span) → params_held p (map as_param (filter (λ g. is_heap g.ty) fields)) ≡ fields_held p fields
         → params_held p (map as_param (filter (λ g. is_heap g.ty) (record { access = a; ty = t; name = n } ∷ fields))) ≡ held_listed (type_held p t) ++ fields_held p fields
     by a (type.Scalar s) n more = more
-    by a (type.Heap h) n more = ap (λ (ks : List held.HeapKind.HeapKind). held_listed (type_held p (type.Heap h)) ++ ks) more
+    by a (type.Heap h) n more = ap (λ (ks : List held.HeapType.HeapType). held_listed (type_held p (type.Heap h)) ++ ks) more
 
-pub asked_are : (p : Program) (fields : List Field) → map (λ x. type_kind p x.ty) (map as_param fields) ≡ map (λ f. type_kind p f.ty) fields
+pub asked_are : (p : Program) (fields : List Field) → map (λ x. type_meant p x.ty) (map as_param fields) ≡ map (λ f. type_meant p f.ty) fields
 asked_are p [] = refl
-asked_are p (f ∷ fields) = ap (λ (ks : List names.ValueKind.ValueKind). type_kind p f.ty ∷ ks) (asked_are p fields)
+asked_are p (f ∷ fields) = ap (λ (ks : List names.ValueType.ValueType). type_meant p f.ty ∷ ks) (asked_are p fields)
 
 pub params_known : (p : Program) (fields : List Field) → Each (λ f. type_unknown p f.ty ≡ []) fields
     → Each (λ x. type_unknown p x.ty ≡ []) (map as_param (filter (λ f. is_heap f.ty) fields))
@@ -164,15 +164,15 @@ params_known p (f ∷ fields) known = by f.access f.ty f.name known.0 (params_kn
     by a (type.Heap h) n known more = (known, more)
 
 -- What stands in a field of this place is told at the number of those before it that own.
-pub field_at : (p : Program) (fields : List Field) (k : ℕ) (f : Field) (h : held.HeapKind.HeapKind) → slice_get fields k ≡ Some f
+pub field_at : (p : Program) (fields : List Field) (k : ℕ) (f : Field) (h : held.HeapType.HeapType) → slice_get fields k ≡ Some f
     → type_held p f.ty ≡ Some h → slice_get (fields_held p fields) (length (fields_held p (take k fields))) ≡ Some h
 field_at p [] k f h there is = cc
 field_at p (g ∷ fields) zero f h there is =
     let same : type_held p g.ty ≡ Some h = ap (λ (o : Option Field). option_map_or (λ x. type_held p x.ty) o None) there ∙ is in
-    ap (λ (o : Option held.HeapKind.HeapKind). slice_get (held_listed o ++ fields_held p fields) 0) same
+    ap (λ (o : Option held.HeapType.HeapType). slice_get (held_listed o ++ fields_held p fields) 0) same
 field_at p (g ∷ fields) (suc k) f h there is = by (field_at p fields k f h there is) (type_held p g.ty)
   where
-    by : slice_get (fields_held p fields) (length (fields_held p (take k fields))) ≡ Some h → (o : Option held.HeapKind.HeapKind)
+    by : slice_get (fields_held p fields) (length (fields_held p (take k fields))) ≡ Some h → (o : Option held.HeapType.HeapType)
         → slice_get (held_listed o ++ fields_held p fields) (length (held_listed o ++ fields_held p (take k fields))) ≡ Some h
     by more None = more
     by more (Some x) = more

@@ -5,7 +5,7 @@ use Rattle.source.specs.declared.place.Place.{Place}
 use Rattle.declarations.specs.declared.mistake.Mismatch.{Mismatch}
 use Rattle.declarations.specs.declared.mistake.Mistake.{Mistake}
 use Rattle.declarations.specs.declared.mistake.Mistake.TheVariants.{WrongNumber}
-use Rattle.declarations.specs.Kinds.{unless}
+use Rattle.declarations.specs.Types.{unless}
 use Rattle.names.specs.Values.{number_of_arguments}
 
 pub unless_none : (mismatch : Mismatch) (well : Bool) (place : Place) → unless well place mismatch ≡ [] → well ≡ true

@@ -8,16 +8,16 @@ use Rattle.tree.specs.StatementTrees.{StatementTree, StatementTrees, BlockTree, 
 use Rattle.tree.specs.declared.statement as made
 use Rattle.tree.specs.declared.contract as contract_nodes
 use Rattle.tree.specs.declared.types as type_nodes
-use Rattle.declarations.specs.Kinds.{brought_kind}
-use Rattle.declarations.specs.Kinds.{type_kind}
+use Rattle.declarations.specs.Types.{brought_type}
+use Rattle.declarations.specs.Types.{type_meant}
 use Rattle.declarations.specs.Program.{Program}
-use Rattle.declarations.specs.declared.kinds.ValueKind.{ValueKind}
+use Rattle.declarations.specs.declared.value_type.ValueType.{ValueType}
 use Rattle.program.specs.Methods.{VariableModel}
-use Rattle.program.specs.declared.kind as held
+use Rattle.program.specs.declared.types as held
 use Rattle.program.specs.declared.method.Role.{Role}
 use Rattle.program.specs.declared.method.Role.TheVariants.{Local}
 use Rattle.resolving.specs.Binds.{bind_told, binds_told, bound_as}
-use Rattle.resolving.specs.Kinds.{kind_held, state_in, type_held}
+use Rattle.resolving.specs.Types.{heap_type, state_in, type_held}
 use Rattle.resolving.specs.Locals.{Frame, closed, declared, number_of}
 use Rattle.resolving.specs.Told.{Staying, stays_here, in_switch, behind_case, awaited_message, awaited_params, statement_told, statements_told, block_told, test_told, others_told, case_told, cases_told}
 use Rattle.program.specs.Scopes.{AreNested}
@@ -48,16 +48,16 @@ still_below xs more ys None is below = tt
 still_below xs more ys (Some k) is below = let long = ap length is in omega (arith, length-append xs more)
 
 -- a variable that is declared is the last one
-pub declared_nests : (text : List ℕ) (name : Span) (kind : ValueKind) (held : Option held.HeapKind.HeapKind) (role : Role) (f : Frame) → Nests f → Nests (declares text name kind held role f)
-declared_nests text name kind None role f n = record { nested = n.nested; last = n.last }
-declared_nests text name kind (Some held) role f n = record {
+pub declared_nests : (text : List ℕ) (name : Span) (ty : ValueType) (held : Option held.HeapType.HeapType) (role : Role) (f : Frame) → Nests f → Nests (declares text name ty held role f)
+declared_nests text name ty None role f n = record { nested = n.nested; last = n.last }
+declared_nests text name ty (Some held) role f n = record {
   nested = record { all = one_more (λ k v. IfSome v.outer (λ o. o.0 < k)) f.variables _ n.nested.all (numbered (length f.variables) f.last n.last) };
   last = omega (arith, length-append {A = VariableModel});
 }
 
-pub declared_within : (text : List ℕ) (name : Span) (kind : ValueKind) (held : Option held.HeapKind.HeapKind) (role : Role) (f : Frame) (vs : List VariableModel) → Within vs (declares text name kind held role f) → Within vs f
-declared_within text name kind None role f vs within = record { rest = within.rest; is = within.is }
-declared_within text name kind (Some held) role f vs within = record { rest = _; is = within.is ∙ append_assoc f.variables _ within.rest }
+pub declared_within : (text : List ℕ) (name : Span) (ty : ValueType) (held : Option held.HeapType.HeapType) (role : Role) (f : Frame) (vs : List VariableModel) → Within vs (declares text name ty held role f) → Within vs f
+declared_within text name ty None role f vs within = record { rest = within.rest; is = within.is }
+declared_within text name ty (Some held) role f vs within = record { rest = _; is = within.is ∙ append_assoc f.variables _ within.rest }
 
 pub grows_then : (p : Program) (f g h : Frame) → Grows p f g → Grows p g h → Grows p f h
 grows_then p f g h first second = record {
@@ -75,22 +75,22 @@ same_grows : (p : Program) (f g : Frame) → g.variables ≡ f.variables → Gro
 same_grows p f g same = record { more = []; is = same ∙ sym (append-nil f.variables); local = tt }
 
 -- one that is no parameter is declared
-held_grows : (p : Program) (name : Span) (kind : ValueKind) (state : Option Span) (held : Option held.HeapKind.HeapKind) → kind_held p kind state ≡ held → (f : Frame) → Grows p f (declares p.text name kind held Local f)
-held_grows p name kind state None is f = same_grows p f _ refl
-held_grows p name kind state (Some held) is f = record { more = _ ∷ []; is = refl; local = (record { is = refl; kind = kind; held = record { state = state; is = is } }, tt) }
+held_grows : (p : Program) (name : Span) (ty : ValueType) (state : Option Span) (held : Option held.HeapType.HeapType) → heap_type p ty state ≡ held → (f : Frame) → Grows p f (declares p.text name ty held Local f)
+held_grows p name ty state None is f = same_grows p f _ refl
+held_grows p name ty state (Some held) is f = record { more = _ ∷ []; is = refl; local = (record { is = refl; ty = ty; held = record { state = state; is = is } }, tt) }
 
-bind_grows : (p : Program) (param : Option contract_nodes.MessageParameter.MessageParameter) (name : Span) (kind : Option type_nodes.Type.Type) (f : Frame) → Grows p f (declared p.text (bound_as p param name kind) f)
-bind_grows p param name (Some t) f = held_grows p name (type_kind p t) (state_in t) (type_held p t) refl f
-bind_grows p param name None f = held_grows p name (brought_kind p param) None (kind_held p (brought_kind p param) None) refl f
+bind_grows : (p : Program) (param : Option contract_nodes.MessageParameter.MessageParameter) (name : Span) (ty : Option type_nodes.Type.Type) (f : Frame) → Grows p f (declared p.text (bound_as p param name ty) f)
+bind_grows p param name (Some t) f = held_grows p name (type_meant p t) (state_in t) (type_held p t) refl f
+bind_grows p param name None f = held_grows p name (brought_type p param) None (heap_type p (brought_type p param) None) refl f
 
 pub binds_grow : (p : Program) (params : List contract_nodes.MessageParameter.MessageParameter) (binds : List made.Bind.Bind) (f : Frame) → Grows p f (binds_told p params binds f).frame
 binds_grow p params [] f = same_grows p f f refl
 binds_grow p [] (b ∷ binds) f = grows_then p f _ _ (bind_grows p None b.name b.ty f) (binds_grow p [] binds (bind_told p None b f).frame)
 binds_grow p (x ∷ params) (b ∷ binds) f = grows_then p f _ _ (bind_grows p (Some x) b.name b.ty f) (binds_grow p params binds (bind_told p (Some x) b f).frame)
 
-bind_nests : (p : Program) (param : Option contract_nodes.MessageParameter.MessageParameter) (name : Span) (kind : Option type_nodes.Type.Type) (f : Frame) → Nests f → Nests (declared p.text (bound_as p param name kind) f)
-bind_nests p param name (Some t) f n = declared_nests p.text name (type_kind p t) (type_held p t) Local f n
-bind_nests p param name None f n = declared_nests p.text name (brought_kind p param) (kind_held p (brought_kind p param) None) Local f n
+bind_nests : (p : Program) (param : Option contract_nodes.MessageParameter.MessageParameter) (name : Span) (ty : Option type_nodes.Type.Type) (f : Frame) → Nests f → Nests (declared p.text (bound_as p param name ty) f)
+bind_nests p param name (Some t) f n = declared_nests p.text name (type_meant p t) (type_held p t) Local f n
+bind_nests p param name None f n = declared_nests p.text name (brought_type p param) (heap_type p (brought_type p param) None) Local f n
 
 binds_nest : (p : Program) (params : List contract_nodes.MessageParameter.MessageParameter) (binds : List made.Bind.Bind) (f : Frame) → Nests f → Nests (binds_told p params binds f).frame
 binds_nest p params [] f n = n
@@ -105,7 +105,7 @@ module _ (p : Program) (class : ℕ) where
   mutual
     pub statement_grows : (stays : Staying) (x : StatementTree) (f : Frame) → Grows p f (statement_told p class stays x f).frame
     statement_grows stays (trees.Block b) f = block_grows stays b f
-    statement_grows stays (trees.Declare d) f = held_grows p d.name (type_kind p d.ty) (state_in d.ty) (type_held p d.ty) refl f
+    statement_grows stays (trees.Declare d) f = held_grows p d.name (type_meant p d.ty) (state_in d.ty) (type_held p d.ty) refl f
     statement_grows stays (trees.Assign a) f = same_grows p f _ refl
     statement_grows stays (trees.Call c) f = same_grows p f _ refl
     statement_grows stays (trees.Start word c) f = same_grows p f _ refl
@@ -149,7 +149,7 @@ module _ (p : Program) (class : ℕ) where
   mutual
     statement_nests : (stays : Staying) (x : StatementTree) (f : Frame) → Nests f → Nests (statement_told p class stays x f).frame
     statement_nests stays (trees.Block b) f n = block_nests stays b f n
-    statement_nests stays (trees.Declare d) f n = declared_nests p.text d.name (type_kind p d.ty) (type_held p d.ty) Local f n
+    statement_nests stays (trees.Declare d) f n = declared_nests p.text d.name (type_meant p d.ty) (type_held p d.ty) Local f n
     statement_nests stays (trees.Assign a) f n = n
     statement_nests stays (trees.Call c) f n = n
     statement_nests stays (trees.Start word c) f n = n

@@ -7,26 +7,26 @@ use Rattle.tree.specs.Trees.{ClassTree, ContractTree, MessageTree}
 use Rattle.tree.specs.declared.statement as made
 use Rattle.tree.specs.declared.statement.Awaited.TheVariants as waits
 use Rattle.tree.specs.declared.types as type_nodes
-use Rattle.program.specs.declared.kind.Side.{Side}
+use Rattle.program.specs.declared.types.Side.{Side}
 use Rattle.names.specs.Bodies.{params_of_case}
 use Rattle.names.specs.Cases as cases
-use Rattle.names.specs.Cases.{Head, closed_mistakes, endpoint_head_mistakes, head_mistakes, kind_head_mistakes, lack_mistakes, message_case_mistakes, twice_mistakes}
+use Rattle.names.specs.Cases.{Head, closed_mistakes, endpoint_head_mistakes, head_mistakes, type_head_mistakes, lack_mistakes, message_case_mistakes, twice_mistakes}
 use Rattle.declarations.specs.Declarations.{bound_params}
 use Rattle.names.specs.Expressions.{held, meant, variable_mistakes}
-use Rattle.declarations.specs.Kinds.{is_block, type_unknown, unless}
+use Rattle.declarations.specs.Types.{is_block, type_unknown, unless}
 use Rattle.declarations.specs.Program.{Program, as_contract, item_at}
 use Rattle.program.specs.Parts.{ContractModel}
 use Rattle.declarations.specs.Named.{message_written}
 use Rattle.names.specs.Values.{number_of_arguments, receives}
 use Rattle.names.specs.Variables as names
 use Rattle.tables.specs.Words.{word_at}
-use Rattle.declarations.specs.declared.kinds as declared
-use Rattle.declarations.specs.declared.kinds.ValueKind.TheVariants as kind
+use Rattle.declarations.specs.declared.value_type as declared
+use Rattle.declarations.specs.declared.value_type.ValueType.TheVariants as ty
 use Rattle.program.specs.Methods.{VariableModel}
 use Rattle.program.specs.declared.statement.Awaited.TheVariants.{Message, Closed}
 use Rattle.program.specs.declared.number.VarId.{VarId}
 use Rattle.resolving.specs.Brought.{brought, params_held}
-use Rattle.resolving.specs.Kinds.{contract_at}
+use Rattle.resolving.specs.Types.{contract_at}
 use Rattle.resolving.specs.Locals.{Frame, mention_of}
 use Rattle.resolving.specs.Messages.{contract_of, message_named}
 use Rattle.resolving.specs.Told.{awaited_as, awaited_message, awaited_params, case_endpoint}
@@ -36,7 +36,7 @@ use Rattle.wellformed.proofs.FindingLemmas.{as_many}
 use Rattle.wellformed.proofs.MentionLemmas.{block_mentioned, held_known, meant_stands}
 use Rattle.wellformed.proofs.SendLemmas.{is_end}
 use Rattle.wellformed.proofs.ContractLemmas.{AnswersMessage, message_awaited}
-use Rattle.wellformed.proofs.KindLemmas.{contract_known}
+use Rattle.wellformed.proofs.HeapTypeLemmas.{contract_known}
 use Rattle.wellformed.proofs.ListLemmas.{both_none}
 use Rattle.wellformed.proofs.ProgramLemmas.{message_clean}
 use Rattle.wellformed.proofs.Standing.{Around, AreStanding, IsHeld, IsKnown, scope_of}
@@ -51,21 +51,21 @@ pub record HeadFits (p : Program) (s : Setting) (f : Frame) (g : names.Frame) (h
 
 -- the endpoint of a case is one of a contract that is there
 end_fits : (p : Program) (t : ClassTree) (class : ℕ) (result : Option type_nodes.Type.Type) (s : Setting) (f : Frame) (g : names.Frame) (name : Span) (n : ℕ) (side : Side) (P : ContractModel → Type 0)
-    → Around p t class result s → AreStanding p s.variables f g → variable_mistakes (scope_of p g) name ≡ [] → held (meant (scope_of p g) name) ≡ kind.Endpoint side n
+    → Around p t class result s → AreStanding p s.variables f g → variable_mistakes (scope_of p g) name ≡ [] → held (meant (scope_of p g) name) ≡ ty.Endpoint side n
     → ((r : ContractModel) → contract_at p n ≡ Some r → P r) → IsEnd s P (case_endpoint p f name)
 end_fits p t class result s f g name n side P around standing none is each =
     let c = contract_known p n side (subst (IsKnown p) is (held_known p s.variables f g name standing none)) in
     let m = block_mentioned p s.variables f g name standing none (ap is_block is) in
     let endpoint : case_endpoint p f name ≡ mention_of name m.number = ap (λ o. option_map_or (λ x. x) o (mention_of name 0)) m.is in
-    subst (IsEnd s P) (sym endpoint) (is_end p s n side c.tree P (mention_of name m.number) m.variable around.contracts_are c.is m.there (subst (λ k. IsHeld p k m.variable.kind) is m.holds) each)
+    subst (IsEnd s P) (sym endpoint) (is_end p s n side c.tree P (mention_of name m.number) m.variable around.contracts_are c.is m.there (subst (λ k. IsHeld p k m.variable.ty) is m.holds) each)
 
 -- what its case awaits is looked up in that contract
 message_looked : (p : Program) (vs : List VariableModel) (f : Frame) (g : names.Frame) (name : Span) (n : ℕ) (side : Side) (word : Span) → AreStanding p vs f g
-    → variable_mistakes (scope_of p g) name ≡ [] → held (meant (scope_of p g) name) ≡ kind.Endpoint side n → awaited_message p f name (waits.Message word) ≡ message_named p n word
+    → variable_mistakes (scope_of p g) name ≡ [] → held (meant (scope_of p g) name) ≡ ty.Endpoint side n → awaited_message p f name (waits.Message word) ≡ message_named p n word
 message_looked p vs f g name n side word standing none is =
     let m = meant_stands p vs f g name standing none in
-    let same : m.local.kind ≡ kind.Endpoint side n = ap held (sym m.meant_is) ∙ is in
-    ap (λ o. option_and_then (λ k. message_named p k word) (option_and_then (λ v. contract_of v.kind) o)) m.is ∙ ap (λ k. option_and_then (λ c. message_named p c word) (contract_of k)) same
+    let same : m.local.ty ≡ ty.Endpoint side n = ap held (sym m.meant_is) ∙ is in
+    ap (λ o. option_and_then (λ k. message_named p k word) (option_and_then (λ v. contract_of v.ty) o)) m.is ∙ ap (λ k. option_and_then (λ c. message_named p c word) (contract_of k)) same
 
 -- what it brings stands at its number
 message_brings : (p : Program) (s : Setting) (f : Frame) (name word : Span) (n : ℕ) (m : MessageTree) (a : AnswersMessage p n (message_named p n word) m) → slice_get s.messages a.meant.id.0 ≡ Some (brought p m)
@@ -74,7 +74,7 @@ message_brings : (p : Program) (s : Setting) (f : Frame) (name word : Span) (n :
     → IsBrought s (awaited_as (waits.Message word) (awaited_message p f name (waits.Message word))) bound
 message_brings p s f name word n m a bring params means bound holds =
     subst (λ x. IsBrought s (awaited_as (waits.Message word) x) bound) (sym means)
-    (subst (λ o. IsSomeAnd o (λ kinds. HoldAll s kinds bound)) (sym bring) (subst (λ ps. HoldAll s (params_held p ps) bound) params holds))
+    (subst (λ o. IsSomeAnd o (λ types. HoldAll s types bound)) (sym bring) (subst (λ ps. HoldAll s (params_held p ps) bound) params holds))
 
 -- a close brings nothing
 close_brings : (s : Setting) (bound : List VarId) → HoldAll s [] bound → bound ≡ []
@@ -84,8 +84,8 @@ close_brings s (v ∷ bound) holds = absurd holds
 -- a case on a message of that contract
 message_fits : (p : Program) (t : ClassTree) (class : ℕ) (result : Option type_nodes.Type.Type) (s : Setting) (f : Frame) (g : names.Frame) (name : Span) (word : Span) (binds : List made.Bind.Bind) (n : ℕ) (side : Side)
     (c : ContractTree) (o : Option MessageTree)
-    → Around p t class result s → AreStanding p s.variables f g → variable_mistakes (scope_of p g) name ≡ [] → held (meant (scope_of p g) name) ≡ kind.Endpoint side n
-    → item_at as_contract p n ≡ Some (n, c) → message_written p.text c (word_at p.text word) ≡ o → message_case_mistakes (scope_of p g) (kind.Endpoint side n) o side word binds ≡ []
+    → Around p t class result s → AreStanding p s.variables f g → variable_mistakes (scope_of p g) name ≡ [] → held (meant (scope_of p g) name) ≡ ty.Endpoint side n
+    → item_at as_contract p n ≡ Some (n, c) → message_written p.text c (word_at p.text word) ≡ o → message_case_mistakes (scope_of p g) (ty.Endpoint side n) o side word binds ≡ []
     → HeadFits p s f g (record { endpoint = name; awaited = waits.Message word; binds = binds })
 message_fits p t class result s f g name word binds n side c None around standing none is there written found = absurd (cc)
 message_fits p t class result s f g name word binds n side c (Some m) around standing none is there written found =
@@ -107,14 +107,14 @@ message_fits p t class result s f g name word binds n side c (Some m) around sta
       brings = message_brings p s f name word n m a bring params means;
     }
 
--- a head by the kind of its endpoint
+-- a head by the type of its endpoint
 head_by : (p : Program) (t : ClassTree) (class : ℕ) (result : Option type_nodes.Type.Type) (s : Setting) (f : Frame) (g : names.Frame) (all before : List Head) (name : Span) (awaited : made.Awaited.Awaited)
-    (binds : List made.Bind.Bind) (k : declared.ValueKind.ValueKind)
+    (binds : List made.Bind.Bind) (k : declared.ValueType.ValueType)
     → Around p t class result s → AreStanding p s.variables f g → variable_mistakes (scope_of p g) name ≡ [] → held (meant (scope_of p g) name) ≡ k → IsKnown p k
-    → kind_head_mistakes (scope_of p g) all before k (record { endpoint = name; awaited = awaited; binds = binds }) ≡ [] → HeadFits p s f g (record { endpoint = name; awaited = awaited; binds = binds })
-head_by p t class result s f g all before name (waits.Closed word) binds (kind.Endpoint side n) around standing none is known found =
+    → type_head_mistakes (scope_of p g) all before k (record { endpoint = name; awaited = awaited; binds = binds }) ≡ [] → HeadFits p s f g (record { endpoint = name; awaited = awaited; binds = binds })
+head_by p t class result s f g all before name (waits.Closed word) binds (ty.Endpoint side n) around standing none is known found =
     let h : Head = record { endpoint = name; awaited = waits.Closed word; binds = binds } in
-    let first = both_none (endpoint_head_mistakes (scope_of p g) before (kind.Endpoint side n) side h) (lack_mistakes (scope_of p g) all before h) found in
+    let first = both_none (endpoint_head_mistakes (scope_of p g) before (ty.Endpoint side n) side h) (lack_mistakes (scope_of p g) all before h) found in
     let second = both_none (closed_mistakes binds word) (twice_mistakes (scope_of p g) before h) first.0 in
     record {
       end = end_fits p t class result s f g name n side (IsAwaited s Closed) around standing none is (λ r at. tt);
@@ -123,26 +123,26 @@ head_by p t class result s f g all before name (waits.Closed word) binds (kind.E
       many = as_many {X = made.Bind.Bind} [] binds word.place second.0;
       brings = close_brings s;
     }
-head_by p t class result s f g all before name (waits.Message word) binds (kind.Endpoint side n) around standing none is known found =
+head_by p t class result s f g all before name (waits.Message word) binds (ty.Endpoint side n) around standing none is known found =
     let h : Head = record { endpoint = name; awaited = waits.Message word; binds = binds } in
-    let o = cases.awaited_message (scope_of p g) (kind.Endpoint side n) (waits.Message word) in
-    let first = both_none (endpoint_head_mistakes (scope_of p g) before (kind.Endpoint side n) side h) (lack_mistakes (scope_of p g) all before h) found in
-    let second = both_none (message_case_mistakes (scope_of p g) (kind.Endpoint side n) o side word binds) (if is_some o then twice_mistakes (scope_of p g) before h else []) first.0 in
+    let o = cases.awaited_message (scope_of p g) (ty.Endpoint side n) (waits.Message word) in
+    let first = both_none (endpoint_head_mistakes (scope_of p g) before (ty.Endpoint side n) side h) (lack_mistakes (scope_of p g) all before h) found in
+    let second = both_none (message_case_mistakes (scope_of p g) (ty.Endpoint side n) o side word binds) (if is_some o then twice_mistakes (scope_of p g) before h else []) first.0 in
     let c = contract_known p n side known in
     let same : o ≡ message_written p.text c.tree (word_at p.text word) = ap (option_and_then (λ x. message_written p.text x.1 (word_at p.text word))) c.is in
     message_fits p t class result s f g name word binds n side c.tree (message_written p.text c.tree (word_at p.text word)) around standing none is c.is refl
-    (subst (λ x. message_case_mistakes (scope_of p g) (kind.Endpoint side n) x side word binds ≡ []) same second.0)
-head_by p t class result s f g all before name (waits.Closed word) binds (kind.Scalar x) around standing none is known found = absurd (cc)
-head_by p t class result s f g all before name (waits.Message word) binds (kind.Scalar x) around standing none is known found = absurd (cc)
-head_by p t class result s f g all before name (waits.Closed word) binds (kind.Pointer n) around standing none is known found = absurd (cc)
-head_by p t class result s f g all before name (waits.Message word) binds (kind.Pointer n) around standing none is known found = absurd (cc)
-head_by p t class result s f g all before name (waits.Closed word) binds (kind.Array x) around standing none is known found = absurd (cc)
-head_by p t class result s f g all before name (waits.Message word) binds (kind.Array x) around standing none is known found = absurd (cc)
-head_by p t class result s f g all before name awaited binds kind.Missing around standing none is known found = absurd known
-head_by p t class result s f g all before name awaited binds kind.Unknown around standing none is known found = absurd known
+    (subst (λ x. message_case_mistakes (scope_of p g) (ty.Endpoint side n) x side word binds ≡ []) same second.0)
+head_by p t class result s f g all before name (waits.Closed word) binds (ty.Scalar x) around standing none is known found = absurd (cc)
+head_by p t class result s f g all before name (waits.Message word) binds (ty.Scalar x) around standing none is known found = absurd (cc)
+head_by p t class result s f g all before name (waits.Closed word) binds (ty.Pointer n) around standing none is known found = absurd (cc)
+head_by p t class result s f g all before name (waits.Message word) binds (ty.Pointer n) around standing none is known found = absurd (cc)
+head_by p t class result s f g all before name (waits.Closed word) binds (ty.Array x) around standing none is known found = absurd (cc)
+head_by p t class result s f g all before name (waits.Message word) binds (ty.Array x) around standing none is known found = absurd (cc)
+head_by p t class result s f g all before name awaited binds ty.Missing around standing none is known found = absurd known
+head_by p t class result s f g all before name awaited binds ty.Unknown around standing none is known found = absurd known
 
 pub head_fits : (p : Program) (t : ClassTree) (class : ℕ) (result : Option type_nodes.Type.Type) (s : Setting) (f : Frame) (g : names.Frame) (all before : List Head) (h : Head)
     → Around p t class result s → AreStanding p s.variables f g → head_mistakes (scope_of p g) all before h ≡ [] → HeadFits p s f g h
 head_fits p t class result s f g all before h around standing none =
-    let both = both_none (variable_mistakes (scope_of p g) h.endpoint) (kind_head_mistakes (scope_of p g) all before (held (meant (scope_of p g) h.endpoint)) h) none in
+    let both = both_none (variable_mistakes (scope_of p g) h.endpoint) (type_head_mistakes (scope_of p g) all before (held (meant (scope_of p g) h.endpoint)) h) none in
     head_by p t class result s f g all before h.endpoint h.awaited h.binds (held (meant (scope_of p g) h.endpoint)) around standing both.0 refl (held_known p s.variables f g h.endpoint standing both.0) both.1

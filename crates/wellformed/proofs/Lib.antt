@@ -7,7 +7,7 @@ pub mod LeadLemmas
 pub mod ScopeLemmas
 pub mod ContractLemmas
 pub mod TypeLemmas
-pub mod KindLemmas
+pub mod HeapTypeLemmas
 pub mod MentionLemmas
 pub mod ExpressionLemmas
 pub mod MethodNumberLemmas

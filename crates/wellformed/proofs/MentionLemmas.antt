@@ -7,17 +7,17 @@ use Rattle.declarations.specs.Declarations.{first_among}
 use Rattle.names.specs.Expressions.{held, meant, variable_mistakes}
 use Rattle.declarations.specs.declared.mistake.Mistake.TheVariants.{Unknown}
 use Rattle.declarations.specs.declared.mistake.NameSort.TheVariants as sort
-use Rattle.declarations.specs.Kinds.{is_block}
+use Rattle.declarations.specs.Types.{is_block}
 use Rattle.declarations.specs.Program.{Program}
 use Rattle.names.specs.Variables as names
 use Rattle.names.specs.Variables.{variable_named}
-use Rattle.declarations.specs.declared.kinds as declared
+use Rattle.declarations.specs.declared.value_type as declared
 use Rattle.program.specs.Methods.{VariableModel}
 use Rattle.program.specs.Scopes.{IsInScope}
 use Rattle.program.specs.declared.number.VarId.{VarId}
 use Rattle.program.specs.declared.statement.Mention.{Mention}
 use Rattle.resolving.specs.Locals.{number_of, Local, Frame, local_named, number_named, mention, mention_of}
-use Rattle.wellformed.proofs.KindLemmas.{scalar_holds}
+use Rattle.wellformed.proofs.HeapTypeLemmas.{scalar_holds}
 use Rattle.wellformed.proofs.PlaceLemmas.{each_there}
 use Rattle.wellformed.proofs.ScopeLemmas.{same_named}
 use Rattle.wellformed.proofs.Standing.{IsKnown, IsHeld, IsInside, IsNumbered, AreStanding, Stands, last_of, named, scope_of}
@@ -26,7 +26,7 @@ use Rattle.wellformed.proofs.Standing.{IsKnown, IsHeld, IsInside, IsNumbered, Ar
 pub record IsMeant (p : Program) (vs : List VariableModel) (f : Frame) (g : names.Frame) (name : Span) : Type 0 where
   pub local : Local
   pub is : local_named p.text f.locals name ≡ Some local
-  pub meant_is : meant (scope_of p g) name ≡ Some (record { name = local.name; kind = local.kind })
+  pub meant_is : meant (scope_of p g) name ≡ Some (record { name = local.name; ty = local.ty })
   pub stands : Stands p vs (last_of f) local
 
 -- what holds of each variable in scope holds of one that a name means
@@ -35,7 +35,7 @@ local_stands : (p : Program) (vs : List VariableModel) (f : Frame) (g : names.Fr
 local_stands p vs f g name l standing is =
     option_and_then_some (slice_get f.locals) (first_among p.text (map (λ x. x.name) f.locals) name) l is (λ n first at. each_there (Stands p vs (last_of f)) f.locals n l standing.locals at)
 
--- what a name means among the names and kinds in scope is what it means among the variables
+-- what a name means among the names and types in scope is what it means among the variables
 meant_as : (p : Program) (vs : List VariableModel) (f : Frame) (g : names.Frame) (name : Span) → AreStanding p vs f g
     → meant (scope_of p g) name ≡ option_map named (local_named p.text f.locals name)
 meant_as p vs f g name standing = ap (λ variables. variable_named p.text variables name) (sym standing.same) ∙ same_named p.text f.locals name
@@ -51,20 +51,20 @@ pub meant_stands : (p : Program) (vs : List VariableModel) (f : Frame) (g : name
     → variable_mistakes (scope_of p g) name ≡ [] → IsMeant p vs f g name
 meant_stands p vs f g name standing none = meant_by p vs f g name (local_named p.text f.locals name) standing refl (meant_as p vs f g name standing) none
 
--- so its kind is known
+-- so its type is known
 pub held_known : (p : Program) (vs : List VariableModel) (f : Frame) (g : names.Frame) (name : Span) → AreStanding p vs f g
     → variable_mistakes (scope_of p g) name ≡ [] → IsKnown p (held (meant (scope_of p g) name))
 held_known p vs f g name standing none =
     let m = meant_stands p vs f g name standing none in
     subst (λ o. IsKnown p (held o)) (sym m.meant_is) m.stands.known
 
--- a name of the exchange heap is a mention of a variable that holds what its kind says
+-- a name of the exchange heap is a mention of a variable that holds what its type says
 pub record IsMentioned (p : Program) (vs : List VariableModel) (f : Frame) (g : names.Frame) (name : Span) : Type 0 where
   pub number : ℕ
   pub variable : VariableModel
   pub is : mention p.text f.locals name ≡ Some (mention_of name number)
   pub there : slice_get vs number ≡ Some variable
-  pub holds : IsHeld p (held (meant (scope_of p g) name)) variable.kind
+  pub holds : IsHeld p (held (meant (scope_of p g) name)) variable.ty
   pub inside : IsInScope vs (last_of f) (number_of number)
 
 -- its number decides whether it is a mention
@@ -72,23 +72,23 @@ mention_by : (text : List ℕ) (f : Frame) (name : Span) (l : Local) (n : Option
 mention_by text f name l n is number = ap (λ o. option_map (mention_of name) (option_and_then (λ x. x.number) o)) is ∙ ap (option_map (mention_of name)) number
 
 -- the variable of a number in scope
-record NumberedBy (p : Program) (vs : List VariableModel) (k : declared.ValueKind.ValueKind) (n : ℕ) : Type 0 where
+record NumberedBy (p : Program) (vs : List VariableModel) (k : declared.ValueType.ValueType) (n : ℕ) : Type 0 where
   variable : VariableModel
   there : slice_get vs n ≡ Some variable
-  holds : IsHeld p k variable.kind
+  holds : IsHeld p k variable.ty
 
-numbered_there : (p : Program) (vs : List VariableModel) (k : declared.ValueKind.ValueKind) (n : ℕ) (o : Option VariableModel) → slice_get vs n ≡ o → IsSomeAnd o (λ v. IsHeld p k v.kind) → NumberedBy p vs k n
+numbered_there : (p : Program) (vs : List VariableModel) (k : declared.ValueType.ValueType) (n : ℕ) (o : Option VariableModel) → slice_get vs n ≡ o → IsSomeAnd o (λ v. IsHeld p k v.ty) → NumberedBy p vs k n
 numbered_there p vs k n None is holds = absurd holds
 numbered_there p vs k n (Some v) is holds = record { variable = v; there = is; holds = holds }
 
-numbered_by : {last : Option VarId} → (p : Program) (vs : List VariableModel) (l : Local) (n : ℕ) → l.number ≡ Some n → Stands p vs last l → NumberedBy p vs l.kind n
-numbered_by p vs l n number stands = numbered_there p vs l.kind n (slice_get vs n) refl (subst (IsNumbered p vs l.kind) number stands.numbered)
+numbered_by : {last : Option VarId} → (p : Program) (vs : List VariableModel) (l : Local) (n : ℕ) → l.number ≡ Some n → Stands p vs last l → NumberedBy p vs l.ty n
+numbered_by p vs l n number stands = numbered_there p vs l.ty n (slice_get vs n) refl (subst (IsNumbered p vs l.ty) number stands.numbered)
 
 mentioned_by : (p : Program) (vs : List VariableModel) (f : Frame) (g : names.Frame) (name : Span) (m : IsMeant p vs f g name) (o : Option ℕ) → m.local.number ≡ o
     → is_block (held (meant (scope_of p g) name)) ≡ true → IsMentioned p vs f g name
 mentioned_by p vs f g name m None number block =
-    let scalar : is_block m.local.kind ≡ false = subst (IsNumbered p vs m.local.kind) number m.stands.numbered in
-    let same : is_block (held (meant (scope_of p g) name)) ≡ is_block m.local.kind = ap (λ o. is_block (held o)) m.meant_is in
+    let scalar : is_block m.local.ty ≡ false = subst (IsNumbered p vs m.local.ty) number m.stands.numbered in
+    let same : is_block (held (meant (scope_of p g) name)) ≡ is_block m.local.ty = ap (λ o. is_block (held o)) m.meant_is in
     absurd (cc)
 mentioned_by p vs f g name m (Some n) number block =
     let v = numbered_by p vs m.local n number m.stands in
@@ -97,7 +97,7 @@ mentioned_by p vs f g name m (Some n) number block =
       variable = v.variable;
       is = mention_by p.text f name m.local (Some n) m.is number;
       there = v.there;
-      holds = subst (λ o. IsHeld p (held o) v.variable.kind) (sym m.meant_is) v.holds;
+      holds = subst (λ o. IsHeld p (held o) v.variable.ty) (sym m.meant_is) v.holds;
       inside = subst (IsInside vs (last_of f)) number m.stands.inside;
     }
 
@@ -107,12 +107,12 @@ block_mentioned p vs f g name standing none block =
     let m = meant_stands p vs f g name standing none in
     mentioned_by p vs f g name m m.local.number refl block
 
--- a variable of a scalar kind has no number
-scalar_numbered : {last : Option VarId} → (p : Program) (vs : List VariableModel) (l : Local) (o : Option ℕ) → l.number ≡ o → Stands p vs last l → is_block l.kind ≡ false → o ≡ None
+-- a variable of a scalar type has no number
+scalar_numbered : {last : Option VarId} → (p : Program) (vs : List VariableModel) (l : Local) (o : Option ℕ) → l.number ≡ o → Stands p vs last l → is_block l.ty ≡ false → o ≡ None
 scalar_numbered p vs l None number stands scalar = refl
 scalar_numbered p vs l (Some n) number stands scalar =
     let v = numbered_by p vs l n number stands in
-    let nothing = scalar_holds p l.kind v.holds.state scalar in
+    let nothing = scalar_holds p l.ty v.holds.state scalar in
     absurd (cc)
 
 -- a scalar is no mention

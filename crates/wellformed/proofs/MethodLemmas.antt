@@ -1,4 +1,4 @@
--- The methods of a program with whose names and kinds nothing is wrong are well formed.
+-- The methods of a program with whose names and types nothing is wrong are well formed.
 use Rattle.std.proofs.Common.{◌≡◌, ◌≢◌, ◌==◌, ℕ, zero, suc, ◌<◌, ◌≤◌, Bool, true, false, List, [], ◌∷◌, ◌++◌, length, sym, refl, subst, ap, ◌∙◌, append-nil, arith, length-append, eq-eqb, eqb-true}
 use Rattle.std.specs.Prelude.{Option, None, Some, option_map, slice_get, IfSome}
 use Rattle.source.specs.declared.token.Span.{Span}
@@ -9,32 +9,32 @@ use Rattle.tree.specs.declared.class.Parameter.{Parameter}
 use Rattle.tree.specs.declared.types as tree
 use Rattle.names.specs.Bodies.{Surroundings, block_turn}
 use Rattle.names.specs.Findings.{program_mistakes}
-use Rattle.declarations.specs.Kinds.{is_heap, type_kind, type_unknown}
+use Rattle.declarations.specs.Types.{is_heap, type_meant, type_unknown}
 use Rattle.names.specs.Methods.{parameter_turn, parameters_turn, result_unknown}
 use Rattle.declarations.specs.Program.{Program, as_class, item_at}
 use Rattle.program.specs.Parts.{ContractModel}
 use Rattle.declarations.specs.Resolution.{resolved_contracts}
 use Rattle.names.specs.Variables as names
-use Rattle.declarations.specs.declared.kinds as declared_kinds
+use Rattle.declarations.specs.declared.value_type as declared_types
 use Rattle.program.specs.Methods.{VariableModel}
-use Rattle.program.specs.declared.kind.HeapKind.{HeapKind}
+use Rattle.program.specs.declared.types.HeapType.{HeapType}
 use Rattle.program.specs.declared.method.Role.{Role}
 use Rattle.resolving.specs.Brought.{messages_told}
 use Rattle.resolving.specs.Fields.{structs_told}
-use Rattle.resolving.specs.Kinds.{kind_held, result_held, state_in, type_held}
+use Rattle.resolving.specs.Types.{heap_type, result_held, state_in, type_held}
 use Rattle.resolving.specs.Locals.{Frame, declared, declared_as, number_of}
 use Rattle.resolving.specs.Methods.{body_told, method_told, methods_told, no_variables, parameter_declaration, parameters_frame, role_of, takes_some}
 use Rattle.resolving.specs.Told.{stays_here}
 use Rattle.program.specs.Lists.{Each}
-use Rattle.program.specs.WellFormed.{AreStatements, AreWellFormed, IsKind, IsWellFormed, Setting, is_parameter, setting}
+use Rattle.program.specs.WellFormed.{AreStatements, AreWellFormed, IsType, IsWellFormed, Setting, is_parameter, setting}
 use Rattle.program.specs.Scopes.{IsInScope}
 use Rattle.program.specs.declared.limits.TheConstants.{MOST_VARIABLES}
 use Rattle.program.specs.declared.method.Role.TheVariants as role
 use Rattle.wellformed.specs.Bare.{IsBare}
-use Rattle.wellformed.proofs.FieldLemmas.{fields_kinds}
-use Rattle.wellformed.proofs.BroughtLemmas.{brought_kinds}
+use Rattle.wellformed.proofs.FieldLemmas.{fields_types}
+use Rattle.wellformed.proofs.BroughtLemmas.{brought_types}
 use Rattle.wellformed.proofs.GrowthLemmas.{Nests, declared_nests, declared_within, statements_grow, statements_nest, within_before}
-use Rattle.wellformed.proofs.KindLemmas.{heap_block, held_as, held_kind, type_known}
+use Rattle.wellformed.proofs.HeapTypeLemmas.{heap_block, held_as, held_type, type_known}
 use Rattle.wellformed.proofs.ListLemmas.{each_append, both_none}
 use Rattle.wellformed.proofs.ProgramLemmas.{every_method, method_clean}
 use Rattle.wellformed.proofs.LeadLemmas.{leads_here, leads_then}
@@ -46,11 +46,11 @@ use Rattle.wellformed.proofs.StatementLemmas.{statements_go}
 -- the parameters of a method come into scope
 params_within : (p : Program) (params : List Parameter) (f : Frame) (vs : List VariableModel) → Within vs (parameters_frame p params f) → Within vs f
 params_within p [] f vs within = within
-params_within p (x ∷ params) f vs within = declared_within p.text x.name (type_kind p x.ty) (type_held p x.ty) (role_of x) f vs (params_within p params (declared p.text (parameter_declaration p x) f) vs within)
+params_within p (x ∷ params) f vs within = declared_within p.text x.name (type_meant p x.ty) (type_held p x.ty) (role_of x) f vs (params_within p params (declared p.text (parameter_declaration p x) f) vs within)
 
 params_nest : (p : Program) (params : List Parameter) (f : Frame) → Nests f → Nests (parameters_frame p params f)
 params_nest p [] f n = n
-params_nest p (x ∷ params) f n = params_nest p params (declared p.text (parameter_declaration p x) f) (declared_nests p.text x.name (type_kind p x.ty) (type_held p x.ty) (role_of x) f n)
+params_nest p (x ∷ params) f n = params_nest p params (declared p.text (parameter_declaration p x) f) (declared_nests p.text x.name (type_meant p x.ty) (type_held p x.ty) (role_of x) f n)
 
 params_stand : (p : Program) (params : List Parameter) (vs : List VariableModel) (f : Frame) (g : names.Frame) → AreStanding p vs f g → Within vs (parameters_frame p params f)
     → (parameters_turn p params g).found ≡ [] → AreStanding p vs (parameters_frame p params f) (parameters_turn p params g).frame
@@ -59,32 +59,32 @@ params_stand p (x ∷ params) vs f g standing within none =
     let d = parameter_declaration p x in
     let next = parameter_turn p x g in
     let both = both_none next.found (parameters_turn p params next.frame).found none in
-    let unknown = both_none (type_unknown p x.ty) (names.declared_variable p.text x.name (type_kind p x.ty) (is_heap x.ty) g).found both.0 in
+    let unknown = both_none (type_unknown p x.ty) (names.declared_variable p.text x.name (type_meant p x.ty) (is_heap x.ty) g).found both.0 in
     let known = type_known p x.ty unknown.0 in
-    let after = declared_stands p vs x.name (type_kind p x.ty) (type_held p x.ty) (role_of x) (is_heap x.ty) f g (heap_block p x.ty unknown.0) known (held_as p (type_kind p x.ty) (state_in x.ty) known) standing (params_within p params (declared p.text d f) vs within) unknown.1 in
+    let after = declared_stands p vs x.name (type_meant p x.ty) (type_held p x.ty) (role_of x) (is_heap x.ty) f g (heap_block p x.ty unknown.0) known (held_as p (type_meant p x.ty) (state_in x.ty) known) standing (params_within p params (declared p.text d f) vs within) unknown.1 in
     params_stand p params vs (declared p.text d f) next.frame after within both.1
 
 -- what a program's variables hold stands for something
 abbrev contracts : Program → List ContractModel
 contracts p = resolved_contracts p.text (contracts_of p.items)
 
-abbrev AreKinds : Program → List VariableModel → Type 0
-AreKinds p vs = Each (λ v. IsKind (contracts p) v.kind) vs
+abbrev AreTypes : Program → List VariableModel → Type 0
+AreTypes p vs = Each (λ v. IsType (contracts p) v.ty) vs
 
-declared_kind : (p : Program) (name : Span) (k : declared_kinds.ValueKind.ValueKind) (role : Role) (state : Option Span) (o : Option HeapKind) (f : Frame) → kind_held p k state ≡ o → AreKinds p f.variables
-    → AreKinds p (declared_as p.text (record { name = name; kind = k; held = o; role = role }) o f).variables
-declared_kind p name k role state None f is all = all
-declared_kind p name k role state (Some held) f is all = each_append (λ v. IsKind (contracts p) v.kind) f.variables _ all (held_kind p k held (record { state = state; is = is }), tt)
+declared_type : (p : Program) (name : Span) (k : declared_types.ValueType.ValueType) (role : Role) (state : Option Span) (o : Option HeapType) (f : Frame) → heap_type p k state ≡ o → AreTypes p f.variables
+    → AreTypes p (declared_as p.text (record { name = name; ty = k; held = o; role = role }) o f).variables
+declared_type p name k role state None f is all = all
+declared_type p name k role state (Some held) f is all = each_append (λ v. IsType (contracts p) v.ty) f.variables _ all (held_type p k held (record { state = state; is = is }), tt)
 
-params_kinds : (p : Program) (params : List Parameter) (f : Frame) → AreKinds p f.variables → AreKinds p (parameters_frame p params f).variables
-params_kinds p [] f all = all
-params_kinds p (x ∷ params) f all =
+params_types : (p : Program) (params : List Parameter) (f : Frame) → AreTypes p f.variables → AreTypes p (parameters_frame p params f).variables
+params_types p [] f all = all
+params_types p (x ∷ params) f all =
     let d = parameter_declaration p x in
-    params_kinds p params (declared p.text d f) (declared_kind p x.name (type_kind p x.ty) (role_of x) (state_in x.ty) (type_held p x.ty) f refl all)
+    params_types p params (declared p.text d f) (declared_type p x.name (type_meant p x.ty) (role_of x) (state_in x.ty) (type_held p x.ty) f refl all)
 
-local_kinds : (p : Program) (vs : List VariableModel) → Each (IsLocal p) vs → AreKinds p vs
-local_kinds p [] all = tt
-local_kinds p (v ∷ vs) all = (held_kind p all.0.kind v.kind all.0.held, local_kinds p vs all.1)
+local_types : (p : Program) (vs : List VariableModel) → Each (IsLocal p) vs → AreTypes p vs
+local_types p [] all = tt
+local_types p (v ∷ vs) all = (held_type p all.0.ty v.ty all.0.held, local_types p vs all.1)
 
 -- the body of a method
 record BodyFits (s : Setting) (p : Program) (class : ℕ) (b : BlockTree) (f : Frame) : Type 0 where
@@ -115,27 +115,27 @@ body_fits p c class result s (trees.Braces statements close) f g around staying 
 abbrev AllInScope : List VariableModel → Frame → Type 0
 AllInScope vs f = (n : ℕ) → n < length f.variables → IsInScope vs (last_of f) (number_of n)
 
-newest_or : (p : Program) (vs : List VariableModel) (name : Span) (kind : declared_kinds.ValueKind.ValueKind) (held : HeapKind) (role : Role) (f : Frame) → Within vs (declares p.text name kind (Some held) role f)
-    → AllInScope vs f → (n : ℕ) (b : Bool) → (n == length f.variables) ≡ b → n < length (declares p.text name kind (Some held) role f).variables
-    → IsInScope vs (last_of (declares p.text name kind (Some held) role f)) (number_of n)
-newest_or p vs name kind held role f within all n true newest below =
+newest_or : (p : Program) (vs : List VariableModel) (name : Span) (ty : declared_types.ValueType.ValueType) (held : HeapType) (role : Role) (f : Frame) → Within vs (declares p.text name ty (Some held) role f)
+    → AllInScope vs f → (n : ℕ) (b : Bool) → (n == length f.variables) ≡ b → n < length (declares p.text name ty (Some held) role f).variables
+    → IsInScope vs (last_of (declares p.text name ty (Some held) role f)) (number_of n)
+newest_or p vs name ty held role f within all n true newest below =
     let same = eqb-true n (length f.variables) newest in
-    subst (λ k. IsInScope vs (last_of (declares p.text name kind (Some held) role f)) (number_of k)) (sym same) (leads_here vs (last_of (declares p.text name kind (Some held) role f)))
-newest_or p vs name kind held role f within all n false older below =
+    subst (λ k. IsInScope vs (last_of (declares p.text name ty (Some held) role f)) (number_of k)) (sym same) (leads_here vs (last_of (declares p.text name ty (Some held) role f)))
+newest_or p vs name ty held role f within all n false older below =
     let differ : n ≢ length f.variables = λ same. (let equal = eq-eqb n (length f.variables) same in cc) in
     let before : n < length f.variables = omega (arith, length-append {A = VariableModel}) in
-    leads_then vs (last_of (declares p.text name kind (Some held) role f)) (last_of f) (Some (number_of n)) (declared_inner p vs name kind (Some held) role f within) (all n before)
+    leads_then vs (last_of (declares p.text name ty (Some held) role f)) (last_of f) (Some (number_of n)) (declared_inner p vs name ty (Some held) role f within) (all n before)
 
-declared_in_scope : (p : Program) (vs : List VariableModel) (name : Span) (kind : declared_kinds.ValueKind.ValueKind) (held : Option HeapKind) (role : Role) (f : Frame) → Within vs (declares p.text name kind held role f)
-    → AllInScope vs f → AllInScope vs (declares p.text name kind held role f)
-declared_in_scope p vs name kind None role f within all = all
-declared_in_scope p vs name kind (Some held) role f within all = λ n below. newest_or p vs name kind held role f within all n (n == length f.variables) refl below
+declared_in_scope : (p : Program) (vs : List VariableModel) (name : Span) (ty : declared_types.ValueType.ValueType) (held : Option HeapType) (role : Role) (f : Frame) → Within vs (declares p.text name ty held role f)
+    → AllInScope vs f → AllInScope vs (declares p.text name ty held role f)
+declared_in_scope p vs name ty None role f within all = all
+declared_in_scope p vs name ty (Some held) role f within all = λ n below. newest_or p vs name ty held role f within all n (n == length f.variables) refl below
 
 params_in_scope : (p : Program) (params : List Parameter) (vs : List VariableModel) (f : Frame) → Within vs (parameters_frame p params f) → AllInScope vs f → AllInScope vs (parameters_frame p params f)
 params_in_scope p [] vs f within all = all
 params_in_scope p (x ∷ params) vs f within all =
     let d = parameter_declaration p x in
-    let next = declared_in_scope p vs x.name (type_kind p x.ty) (type_held p x.ty) (role_of x) f (params_within p params (declared p.text d f) vs within) all in
+    let next = declared_in_scope p vs x.name (type_meant p x.ty) (type_held p x.ty) (role_of x) f (params_within p params (declared p.text d f) vs within) all in
     params_in_scope p params vs (declared p.text d f) within next
 
 -- what stands behind the parameters of a method is none
@@ -162,10 +162,10 @@ no_parameters p class [] b n v true none there is =
 pub all_bare : (p : Program) → Each IsBare (methods_told p)
 all_bare p = every_method IsBare p (λ class c m place there at. λ none n v is. no_parameters p class m.params m.body n v (is_parameter v.role) none is refl)
 
-result_kind : (p : Program) (t : Option tree.Type.Type) (o : Option HeapKind) → result_held p t ≡ o → IfSome o (IsKind (contracts p))
-result_kind p t None is = tt
-result_kind p None (Some held) is = cc
-result_kind p (Some t) (Some held) is = held_kind p (type_kind p t) held (record { state = state_in t; is = is })
+result_type : (p : Program) (t : Option tree.Type.Type) (o : Option HeapType) → result_held p t ≡ o → IfSome o (IsType (contracts p))
+result_type p t None is = tt
+result_type p None (Some held) is = cc
+result_type p (Some t) (Some held) is = held_type p (type_meant p t) held (record { state = state_in t; is = is })
 
 -- a method of a class
 method_fits : (p : Program) (class : ℕ) (c : ClassTree) (m : MethodTree) (place : ℕ) → program_mistakes p ≡ [] → item_at as_class p class ≡ Some (class, c) → slice_get c.methods place ≡ Some m
@@ -193,12 +193,12 @@ method_fits p class c m place clean there at =
     let around : Around p c class m.result s = record { clean = clean; class_is = there; contracts_are = refl; messages_are = refl; structs_are = refl; methods_are = refl; result_is = refl; result_known = both.0; nested = nests.nested } in
     let staying : AreStaying s opened (stays_here opened) = record { scope = refl; break_is = refl; continue_is = refl; at_break = leads_here vs begins; at_continue = leads_here vs begins } in
     let fits = body_fits p c class m.result s m.body opened next.frame around staying standing all halves.1 in
-    let kinds = each_append (λ v. IsKind (contracts p) v.kind) opened.variables grows.more (params_kinds p m.params no_variables tt) (local_kinds p grows.more grows.local) in
+    let types = each_append (λ v. IsType (contracts p) v.ty) opened.variables grows.more (params_types p m.params no_variables tt) (local_types p grows.more grows.local) in
     let in_scope = params_in_scope p m.params vs no_variables within (λ n below. absurd (omega arith)) in
     record {
-      result = result_kind p m.result (result_held p m.result) refl;
+      result = result_type p m.result (result_held p m.result) refl;
       void = void_gives p m.result;
-      kinds = subst (AreKinds p) (sym grows.is) kinds;
+      types = subst (AreTypes p) (sym grows.is) types;
       few = fits.few;
       nested = nests.nested;
       begins = begins;
@@ -209,7 +209,7 @@ method_fits p class c m place clean there at =
 
 pub well_formed : (p : Program) → program_mistakes p ≡ [] → AreWellFormed (resolved_contracts p.text (contracts_of p.items)) (messages_told p) (structs_told p) (methods_told p)
 well_formed p clean = record {
-  messages_are = brought_kinds p;
-  structs_are = fields_kinds p clean;
+  messages_are = brought_types p;
+  structs_are = fields_types p clean;
   methods_are = every_method (IsWellFormed (contracts p) (messages_told p) (structs_told p) (methods_told p)) p (λ class c m place there at. method_fits p class c m place clean there at);
 }

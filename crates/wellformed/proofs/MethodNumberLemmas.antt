@@ -29,16 +29,16 @@ abbrev numbered_as : {X : Type 0} → ℕ → Option X → Option (Numbered X)
 numbered_as n o = option_map (λ x. (n, x)) o
 
 abbrev looked_up : {X : Type 0} → (DefinitionTree → Option X) → ℕ → Option ItemTree → Option (Numbered X)
-looked_up kind n o = option_and_then (λ i. numbered_as n (kind i.definition)) o
+looked_up ty n o = option_and_then (λ i. numbered_as n (ty i.definition)) o
 
 -- the place that is answered is the one that was asked for
 same_number : {X : Type 0} → (m n : ℕ) (x : X) (o : Option X) → numbered_as m o ≡ Some (n, x) → m ≡ n
 same_number m n x None h = cc
 same_number m n x (Some y) h = (some_pair_parts m n y x h).0
 
-same_place : {X : Type 0} → (kind : DefinitionTree → Option X) (m n : ℕ) (x : X) (o : Option ItemTree) → looked_up kind m o ≡ Some (n, x) → m ≡ n
-same_place kind m n x None h = cc
-same_place kind m n x (Some i) h = same_number m n x (kind i.definition) h
+same_place : {X : Type 0} → (ty : DefinitionTree → Option X) (m n : ℕ) (x : X) (o : Option ItemTree) → looked_up ty m o ≡ Some (n, x) → m ≡ n
+same_place ty m n x None h = cc
+same_place ty m n x (Some i) h = same_number m n x (ty i.definition) h
 
 -- what is found as a class is one, and what is found as a contract is one
 declares_class : (n : ℕ) (c : ClassTree) (d : DefinitionTree) → numbered_as n (as_class d) ≡ Some (n, c) → d ≡ Class c

@@ -11,14 +11,14 @@ use Rattle.tree.specs.Trees.{MethodTree}
 use Rattle.tree.specs.declared.class.Parameter.{Parameter}
 use Rattle.tree.specs.declared.types as tree
 use Rattle.tree.specs.declared.types.Type.TheVariants as type
-use Rattle.declarations.specs.Kinds.{is_heap, type_unknown}
+use Rattle.declarations.specs.Types.{is_heap, type_unknown}
 use Rattle.declarations.specs.Program.{Program}
 use Rattle.declarations.specs.Owning.{any_lent, is_lent}
 use Rattle.program.specs.Methods.{VariableModel}
-use Rattle.program.specs.declared.kind.HeapKind.{HeapKind}
+use Rattle.program.specs.declared.types.HeapType.{HeapType}
 use Rattle.program.specs.declared.method.Role.{Role}
 use Rattle.program.specs.declared.method.Role.TheVariants as role
-use Rattle.resolving.specs.Kinds.{type_held}
+use Rattle.resolving.specs.Types.{type_held}
 use Rattle.resolving.specs.Locals.{Frame, declared, declared_as}
 use Rattle.resolving.specs.Methods.{body_told, method_told, no_variables, parameter_declaration, parameters_frame, role_of}
 use Rattle.resolving.specs.Told.{stays_here}
@@ -33,31 +33,31 @@ use Rattle.wellformed.proofs.Standing.{IsLocal, heading}
 abbrev passed : List VariableModel → List VariableModel
 passed vs = filter (λ v. is_parameter v.role) vs
 
-abbrev headed : List VariableModel → List (HeapKind × Role)
-headed vs = map (λ v. (v.kind, v.role)) (passed vs)
+abbrev headed : List VariableModel → List (HeapType × Role)
+headed vs = map (λ v. (v.ty, v.role)) (passed vs)
 
 headed_append : (vs ws : List VariableModel) → headed (vs ++ ws) ≡ headed vs ++ headed ws
-headed_append vs ws = ap (map (λ v. (v.kind, v.role))) (filter-append (λ v. is_parameter v.role) vs ws) ∙ map-append (λ v. (v.kind, v.role)) (passed vs) (passed ws)
+headed_append vs ws = ap (map (λ v. (v.ty, v.role))) (filter-append (λ v. is_parameter v.role) vs ws) ∙ map-append (λ v. (v.ty, v.role)) (passed vs) (passed ws)
 
 -- the role of a parameter
 abbrev as_role : Bool → Role
 as_role claims = if claims then role.Claimed else role.Lent
 
 -- a variable of such a role is a parameter
-abbrev held_by : HeapKind → Role → List (HeapKind × Role)
+abbrev held_by : HeapType → Role → List (HeapType × Role)
 held_by k r = (k, r) ∷ []
 
-headed_one : (claims : Bool) (v : VariableModel) → v.role ≡ as_role claims → headed (v ∷ []) ≡ held_by v.kind (as_role claims)
-headed_one true v is = ap (λ r. map (λ w. (w.kind, w.role)) (cond (is_parameter r) (v ∷ []) [])) is ∙ ap (held_by v.kind) is
-headed_one false v is = ap (λ r. map (λ w. (w.kind, w.role)) (cond (is_parameter r) (v ∷ []) [])) is ∙ ap (held_by v.kind) is
+headed_one : (claims : Bool) (v : VariableModel) → v.role ≡ as_role claims → headed (v ∷ []) ≡ held_by v.ty (as_role claims)
+headed_one true v is = ap (λ r. map (λ w. (w.ty, w.role)) (cond (is_parameter r) (v ∷ []) [])) is ∙ ap (held_by v.ty) is
+headed_one false v is = ap (λ r. map (λ w. (w.ty, w.role)) (cond (is_parameter r) (v ∷ []) [])) is ∙ ap (held_by v.ty) is
 
 -- those of variables that are no parameters
 headed_none : (p : Program) (vs : List VariableModel) → Each (IsLocal p) vs → headed vs ≡ []
 headed_none p [] all = refl
-headed_none p (v ∷ vs) all = ap (λ r. map (λ w. (w.kind, w.role)) (cond (is_parameter r) (v ∷ passed vs) (passed vs))) all.0.is ∙ headed_none p vs all.1
+headed_none p (v ∷ vs) all = ap (λ r. map (λ w. (w.ty, w.role)) (cond (is_parameter r) (v ∷ passed vs) (passed vs))) all.0.is ∙ headed_none p vs all.1
 
 -- one parameter more
-headed_declared : (p : Program) (x : Parameter) (f : Frame) (o : Option HeapKind)
+headed_declared : (p : Program) (x : Parameter) (f : Frame) (o : Option HeapType)
     → headed (declared_as p.text (parameter_declaration p x) o f).variables ≡ headed f.variables ++ option_map_or (λ k. (k, role_of x) ∷ []) o []
 headed_declared p x f None = sym (append-nil (headed f.variables))
 headed_declared p x f (Some held) = headed_append f.variables _ ∙ ap (λ l. headed f.variables ++ l) (headed_one x.claims _ refl)
@@ -76,14 +76,14 @@ headed_body p class (trees.Braces statements close) f =
     let grows = statements_grow p class (stays_here f) statements f in
     ap headed grows.is ∙ headed_append f.variables grows.more ∙ ap (λ l. headed f.variables ++ l) (headed_none p grows.more grows.local) ∙ append-nil (headed f.variables)
 
-pub parameters_are : (p : Program) (class : ℕ) (m : MethodTree) → map (λ v. (v.kind, v.role)) (parameters (method_told p class m)) ≡ flat_map (heading p) m.params
+pub parameters_are : (p : Program) (class : ℕ) (m : MethodTree) → map (λ v. (v.ty, v.role)) (parameters (method_told p class m)) ≡ flat_map (heading p) m.params
 parameters_are p class m = headed_body p class m.body (parameters_frame p m.params no_variables) ∙ headed_all p m.params no_variables
 
 -- a parameter that is not lent is claimed
-abbrev AreClaimed : List (HeapKind × Role) → Type 0
+abbrev AreClaimed : List (HeapType × Role) → Type 0
 AreClaimed list = Each (λ q. is_claimed q.1 ≡ true) list
 
-claimed_held : (claims : Bool) (o : Option HeapKind) → not claims ≡ false → AreClaimed (option_map_or (λ k. (k, as_role claims) ∷ []) o [])
+claimed_held : (claims : Bool) (o : Option HeapType) → not claims ≡ false → AreClaimed (option_map_or (λ k. (k, as_role claims) ∷ []) o [])
 claimed_held false o none = cc
 claimed_held true None none = tt
 claimed_held true (Some k) none = (refl, tt)
@@ -106,4 +106,4 @@ claimed_all p (x ∷ params) none =
 pub all_claimed : (p : Program) (class : ℕ) (m : MethodTree) → Each (λ x. type_unknown p x.ty ≡ []) m.params → any_lent m.params ≡ false
     → Each (λ v. is_claimed v.role ≡ true) (parameters (method_told p class m))
 all_claimed p class m known none =
-    mapped_each (λ q. is_claimed q.1 ≡ true) (λ v. (v.kind, v.role)) (parameters (method_told p class m)) (subst AreClaimed (sym (parameters_are p class m)) (claimed_all p m.params none))
+    mapped_each (λ q. is_claimed q.1 ≡ true) (λ v. (v.ty, v.role)) (parameters (method_told p class m)) (subst AreClaimed (sym (parameters_are p class m)) (claimed_all p m.params none))

@@ -1,4 +1,4 @@
--- What is known of the methods of a program with whose names and kinds nothing is wrong.
+-- What is known of the methods of a program with whose names and types nothing is wrong.
 use Rattle.std.proofs.Common.{◌≡◌, ℕ, List, [], ◌∷◌, ◌++◌, map, sym, refl, ap, ◌∙◌}
 use Rattle.std.specs.List.{flat_map}
 use Rattle.std.specs.Prelude.{Option, None, Some, option_and_then, slice_get}
@@ -9,7 +9,7 @@ use Rattle.declarations.specs.Declarations.{messages_of, names_of_messages, name
 use Rattle.declarations.specs.ItemMistakes.{counted_mistakes}
 use Rattle.names.specs.Findings.{definition_mistakes, program_mistakes}
 use Rattle.tables.specs.Firsts.{first_of}
-use Rattle.declarations.specs.Kinds.{is_heap, type_kind, type_unknown}
+use Rattle.declarations.specs.Types.{is_heap, type_meant, type_unknown}
 use Rattle.declarations.specs.Listed.{twice_among}
 use Rattle.declarations.specs.ItemMistakes.{items_mistakes}
 use Rattle.names.specs.Methods.{method_turn, parameter_turn, parameters_turn, result_unknown}
@@ -53,7 +53,7 @@ params_known p [] f none = tt
 params_known p (x ∷ params) f none =
     let next = parameter_turn p x f in
     let both = both_none next.found (parameters_turn p params next.frame).found none in
-    let unknown = both_none (type_unknown p x.ty) (declared_variable p.text x.name (type_kind p x.ty) (is_heap x.ty) f).found both.0 in
+    let unknown = both_none (type_unknown p x.ty) (declared_variable p.text x.name (type_meant p x.ty) (is_heap x.ty) f).found both.0 in
     (unknown.0, params_known p params next.frame both.1)
 
 pub parameters_clean : (p : Program) (m : MethodTree) (number : ℕ) → program_mistakes p ≡ [] → IsMethod p m number → Each (λ x. type_unknown p x.ty ≡ []) m.params

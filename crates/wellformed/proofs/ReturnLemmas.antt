@@ -12,7 +12,7 @@ use Rattle.names.specs.Bodies.{return_mistakes, statement_turn}
 use Rattle.names.specs.Expressions.{whole_mistakes}
 use Rattle.declarations.specs.declared.mistake.Mismatch.TheVariants.{ValueReturned}
 use Rattle.declarations.specs.declared.mistake.Mistake.TheVariants.{WrongType}
-use Rattle.declarations.specs.Kinds.{is_block, type_kind}
+use Rattle.declarations.specs.Types.{is_block, type_meant}
 use Rattle.names.specs.Methods.{result_unknown}
 use Rattle.declarations.specs.Program.{Program}
 use Rattle.names.specs.Shapes.{shape}
@@ -20,7 +20,7 @@ use Rattle.declarations.specs.Owning.{any_lent, can_start}
 use Rattle.names.specs.Variables as names
 use Rattle.program.specs.Statements as seen
 use Rattle.program.specs.declared.statement.Action.TheVariants as does
-use Rattle.resolving.specs.Kinds.{result_held, state_in, type_held}
+use Rattle.resolving.specs.Types.{result_held, state_in, type_held}
 use Rattle.resolving.specs.Locals.{Frame}
 use Rattle.resolving.specs.Methods.{method_told}
 use Rattle.resolving.specs.Plain.{call_of, called, lone, returned, started, stated_call, told}
@@ -30,7 +30,7 @@ use Rattle.wellformed.proofs.CallLemmas.{CallsMethod, call_means, call_of_fits, 
 use Rattle.wellformed.proofs.ExpressionLemmas.{reads_within}
 use Rattle.wellformed.proofs.FindingLemmas.{none_said}
 use Rattle.wellformed.proofs.SendLemmas.{SendsMessage}
-use Rattle.wellformed.proofs.KindLemmas.{Holding, block_holds, scalar_holds, type_known}
+use Rattle.wellformed.proofs.HeapTypeLemmas.{Holding, block_holds, scalar_holds, type_known}
 use Rattle.wellformed.proofs.ProgramLemmas.{all_claimed, parameters_clean}
 use Rattle.wellformed.proofs.ListLemmas.{both_none}
 use Rattle.wellformed.proofs.Standing.{AreStanding, Around, IsKnown, last_of, scope_of}
@@ -75,13 +75,13 @@ empty_fits p s g None word is none = subst (λ o. IsTaken s o None) (sym is) tt
 empty_fits p s g (Some t) word is none = cc
 
 -- a return of a value
-given_fits : (p : Program) (class : ℕ) (s : Setting) (f : Frame) (g : names.Frame) (t : tree.Type.Type) (e : ExpressionTree) (b : Bool) → is_block (type_kind p t) ≡ b → AreStanding p s.variables f g → IsKnown p (type_kind p t)
-    → IsAsked p g (type_kind p t) e → IsTaken s (type_held p t) (lone p class f e)
+given_fits : (p : Program) (class : ℕ) (s : Setting) (f : Frame) (g : names.Frame) (t : tree.Type.Type) (e : ExpressionTree) (b : Bool) → is_block (type_meant p t) ≡ b → AreStanding p s.variables f g → IsKnown p (type_meant p t)
+    → IsAsked p g (type_meant p t) e → IsTaken s (type_held p t) (lone p class f e)
 given_fits p class s f g t e false scalar standing known asked =
-    subst (λ o. IsTaken s o (lone p class f e)) (sym (scalar_holds p (type_kind p t) (state_in t) scalar)) (subst (λ o. IsTaken s None o) (sym (asked_scalar p class s.variables f g standing (type_kind p t) e asked scalar)) tt)
+    subst (λ o. IsTaken s o (lone p class f e)) (sym (scalar_holds p (type_meant p t) (state_in t) scalar)) (subst (λ o. IsTaken s None o) (sym (asked_scalar p class s.variables f g standing (type_meant p t) e asked scalar)) tt)
 given_fits p class s f g t e true block standing known asked =
-    let h : Holding p (type_kind p t) (state_in t) = block_holds p (type_kind p t) (state_in t) known block in
-    let x = asked_block p class s f g standing (type_kind p t) h.held e asked block (record { state = state_in t; is = h.is }) in
+    let h : Holding p (type_meant p t) (state_in t) = block_holds p (type_meant p t) (state_in t) known block in
+    let x = asked_block p class s f g standing (type_meant p t) h.held e asked block (record { state = state_in t; is = h.is }) in
     subst (λ o. IsTaken s o (lone p class f e)) (sym h.is) (subst (λ o. IsTaken s (Some h.held) o) (sym x.is) x.holds)
 
 value_returned : (p : Program) (class : ℕ) (s : Setting) (f : Frame) (g : names.Frame) (result : Option tree.Type.Type) (word : Span) (e : ExpressionTree) → s.result ≡ result_held p result → result_unknown p result ≡ []
@@ -91,7 +91,7 @@ value_returned p class s f g None word e is known standing none =
     cc
 value_returned p class s f g (Some t) word e is known standing none =
     let sure = type_known p t known in
-    subst (λ o. IsTaken s o (lone p class f e)) (sym is) (given_fits p class s f g t e (is_block (type_kind p t)) refl standing sure (asked_known p s.variables f g standing (type_kind p t) e sure none))
+    subst (λ o. IsTaken s o (lone p class f e)) (sym is) (given_fits p class s f g t e (is_block (type_meant p t)) refl standing sure (asked_known p s.variables f g standing (type_meant p t) e sure none))
 
 pub return_fits : (p : Program) (t : ClassTree) (class : ℕ) (result : Option tree.Type.Type) (s : Setting) (f : Frame) (g : names.Frame) (word : Span) (value : Option ExpressionTree)
     → Around p t class result s → AreStanding p s.variables f g → s.scope ≡ last_of f → return_mistakes (scope_of p g) result word value ≡ []

@@ -8,12 +8,12 @@ use Rattle.declarations.specs.Program.{Program}
 use Rattle.names.specs.Variables as names
 use Rattle.declarations.specs.Listed.{limit_passed}
 use Rattle.declarations.specs.declared.mistake.Limit.TheVariants as limit
-use Rattle.declarations.specs.Kinds.{is_block}
+use Rattle.declarations.specs.Types.{is_block}
 use Rattle.names.specs.Variables.{variable_named, declared_variable, past_heap}
-use Rattle.declarations.specs.declared.kinds.ValueKind.TheVariants as kinds
-use Rattle.declarations.specs.declared.kinds.ValueKind.{ValueKind}
+use Rattle.declarations.specs.declared.value_type.ValueType.TheVariants as types
+use Rattle.declarations.specs.declared.value_type.ValueType.{ValueType}
 use Rattle.program.specs.Methods.{VariableModel}
-use Rattle.program.specs.declared.kind as held
+use Rattle.program.specs.declared.types as held
 use Rattle.program.specs.declared.method.Role.{Role}
 use Rattle.program.specs.declared.number.VarId.{VarId}
 use Rattle.resolving.specs.Locals.{Local, Frame, local_named, number_of, closed}
@@ -27,7 +27,7 @@ use Rattle.wellformed.proofs.LeadLemmas.{grows_none, leads_here, leads_then}
 use Rattle.wellformed.proofs.ListLemmas.{both_none, each_append}
 use Rattle.wellformed.proofs.Standing.{IsInside, IsKnown, IsHeldAs, IsHeld, Stands, AreStanding, Grows, Within, declares, named, last_of}
 
--- the names of variables are those of their names and kinds
+-- the names of variables are those of their names and types
 names_same : (locals : List Local) → map (λ v. v.name) (map named locals) ≡ map (λ l. l.name) locals
 names_same [] = refl
 names_same (l ∷ locals) = ap (λ ns. l.name ∷ ns) (names_same locals)
@@ -36,7 +36,7 @@ at_same : (locals : List Local) (place : Option ℕ) → option_and_then (slice_
 at_same locals None = refl
 at_same locals (Some n) = slice_get-map named locals n
 
--- a name means the same among variables and among their names and kinds
+-- a name means the same among variables and among their names and types
 pub same_named : (text : List ℕ) (locals : List Local) (name : Span) → variable_named text (map named locals) name ≡ option_map named (local_named text locals name)
 same_named text locals name = ap (λ ns. option_and_then (slice_get (map named locals)) (first_among text ns name)) (names_same locals) ∙ at_same locals (first_among text (map (λ l. l.name) locals) name)
 
@@ -50,30 +50,30 @@ declared_there : (vs xs : List VariableModel) (x : VariableModel) (rest : List V
 declared_there vs xs x rest is = ap (λ ys. slice_get ys (length xs)) (is ∙ append_assoc xs (x ∷ []) rest) ∙ here_get xs x rest
 
 -- the one before it in scope is the last one that was there
-pub declared_outer : (p : Program) (vs : List VariableModel) (name : Span) (kind : ValueKind) (held : held.HeapKind.HeapKind) (role : Role) (f : Frame) → Within vs (declares p.text name kind (Some held) role f)
+pub declared_outer : (p : Program) (vs : List VariableModel) (name : Span) (ty : ValueType) (held : held.HeapType.HeapType) (role : Role) (f : Frame) → Within vs (declares p.text name ty (Some held) role f)
     → outer_of vs (number_of (length f.variables)) ≡ last_of f
-declared_outer p vs name kind held role f within = ap (λ x. option_and_then (λ v. v.outer) x) (declared_there vs f.variables _ within.rest within.is)
+declared_outer p vs name ty held role f within = ap (λ x. option_and_then (λ v. v.outer) x) (declared_there vs f.variables _ within.rest within.is)
 
 -- one that is no parameter
-pub declared_local : (p : Program) (vs : List VariableModel) (name : Span) (kind : ValueKind) (held : held.HeapKind.HeapKind) (f : Frame) → Within vs (declares p.text name kind (Some held) roles.Local f)
+pub declared_local : (p : Program) (vs : List VariableModel) (name : Span) (ty : ValueType) (held : held.HeapType.HeapType) (f : Frame) → Within vs (declares p.text name ty (Some held) roles.Local f)
     → IsLocalBehind vs (number_of (length f.variables)) (λ outer. outer ≡ last_of f)
-declared_local p vs name kind held f within =
+declared_local p vs name ty held f within =
     subst (λ o. IsSomeAnd o (λ x. (x.role ≡ roles.Local) × (x.outer ≡ last_of f))) (sym (declared_there vs f.variables _ within.rest within.is)) (refl, refl)
 
 -- the scope grows by it
-pub declared_grows : (p : Program) (vs : List VariableModel) (name : Span) (kind : ValueKind) (held : Option held.HeapKind.HeapKind) (f : Frame) → Within vs (declares p.text name kind held roles.Local f)
-    → scopes.Grows vs (last_of f) (last_of (declares p.text name kind held roles.Local f))
-declared_grows p vs name kind None f within = grows_none vs (last_of f) (last_of f) refl
-declared_grows p vs name kind (Some held) f within = record {
+pub declared_grows : (p : Program) (vs : List VariableModel) (name : Span) (ty : ValueType) (held : Option held.HeapType.HeapType) (f : Frame) → Within vs (declares p.text name ty held roles.Local f)
+    → scopes.Grows vs (last_of f) (last_of (declares p.text name ty held roles.Local f))
+declared_grows p vs name ty None f within = grows_none vs (last_of f) (last_of f) refl
+declared_grows p vs name ty (Some held) f within = record {
   count = 1;
   by = subst (λ o. IsSomeAnd o (λ x. (x.role ≡ roles.Local) × (last_of f ≡ x.outer))) (sym (declared_there vs f.variables _ within.rest within.is)) (refl, refl);
 }
 
 -- it stands right before those that were in scope
-pub declared_inner : (p : Program) (vs : List VariableModel) (name : Span) (kind : ValueKind) (held : Option held.HeapKind.HeapKind) (role : Role) (f : Frame) → Within vs (declares p.text name kind held role f)
-    → LeadsOut vs (last_of (declares p.text name kind held role f)) (last_of f)
-declared_inner p vs name kind None role f within = leads_here vs (last_of f)
-declared_inner p vs name kind (Some held) role f within = record { steps = 1; is = declared_outer p vs name kind held role f within }
+pub declared_inner : (p : Program) (vs : List VariableModel) (name : Span) (ty : ValueType) (held : Option held.HeapType.HeapType) (role : Role) (f : Frame) → Within vs (declares p.text name ty held role f)
+    → LeadsOut vs (last_of (declares p.text name ty held role f)) (last_of f)
+declared_inner p vs name ty None role f within = leads_here vs (last_of f)
+declared_inner p vs name ty (Some held) role f within = record { steps = 1; is = declared_outer p vs name ty held role f within }
 
 -- a variable comes into scope unless its name is there already
 same_entered : (b : Bool) (ls : List Local) (l : Local) → map named (if b then ls else ls ++ l ∷ []) ≡ (if b then map named ls else map named ls ++ named l ∷ [])
@@ -107,14 +107,14 @@ stands_then p vs a b [] leads all = tt
 stands_then p vs a b (l ∷ ls) leads all =
     (record { known = all.0.known; numbered = all.0.numbered; inside = inside_then vs a b l.number leads all.0.inside }, stands_then p vs a b ls leads all.1)
 
--- a kind is that of a block where a variable of it holds something
-pub block_held : (p : Program) (k : ValueKind) (held : held.HeapKind.HeapKind) → IsHeld p k held → is_block k ≡ true
-block_held p (kinds.Pointer n) held is = refl
-block_held p (kinds.Array element) held is = refl
-block_held p (kinds.Endpoint side n) held is = refl
-block_held p (kinds.Scalar x) held is = let none = is.is in cc
-block_held p kinds.Missing held is = let none = is.is in cc
-block_held p kinds.Unknown held is = let none = is.is in cc
+-- a type is that of a block where a variable of it holds something
+pub block_held : (p : Program) (k : ValueType) (held : held.HeapType.HeapType) → IsHeld p k held → is_block k ≡ true
+block_held p (types.Pointer n) held is = refl
+block_held p (types.Array element) held is = refl
+block_held p (types.Endpoint side n) held is = refl
+block_held p (types.Scalar x) held is = let none = is.is in cc
+block_held p types.Missing held is = let none = is.is in cc
+block_held p types.Unknown held is = let none = is.is in cc
 
 not_most : (name : Span) (heap : ℕ) (n : ℕ) (b : Bool) → (heap == MOST_VARIABLES) ≡ b → (if b then limit_passed limit.Variables name else []) ≡ [] → heap ≡ n → n ≤ MOST_VARIABLES → n < MOST_VARIABLES
 not_most name heap n true is none same few = cc
@@ -124,32 +124,32 @@ not_past : (name : Span) (heap : ℕ) (n : ℕ) → past_heap name heap ≡ [] �
 not_past name heap n none is few = not_most name heap n (heap == MOST_VARIABLES) refl none is few
 
 -- a variable that is declared comes into scope
-pub declared_stands : (p : Program) (vs : List VariableModel) (name : Span) (kind : ValueKind) (held : Option held.HeapKind.HeapKind) (role : Role) (heap : Bool) (f : Frame) (g : names.Frame)
-    → heap ≡ is_block kind → IsKnown p kind → IsHeldAs p kind held → AreStanding p vs f g → Within vs (declares p.text name kind held role f)
-    → (declared_variable p.text name kind heap g).found ≡ [] → AreStanding p vs (declares p.text name kind held role f) (declared_variable p.text name kind heap g).frame
-declared_stands p vs name kind None role heap f g block known holds standing within none = record {
-  same = entered_same p.text name f.locals g.variables (record { name = name; kind = kind; number = None }) standing.same;
-  locals = each_entered (Stands p vs (last_of f)) (is_some (local_named p.text f.locals name)) f.locals (record { name = name; kind = kind; number = None }) standing.locals
+pub declared_stands : (p : Program) (vs : List VariableModel) (name : Span) (ty : ValueType) (held : Option held.HeapType.HeapType) (role : Role) (heap : Bool) (f : Frame) (g : names.Frame)
+    → heap ≡ is_block ty → IsKnown p ty → IsHeldAs p ty held → AreStanding p vs f g → Within vs (declares p.text name ty held role f)
+    → (declared_variable p.text name ty heap g).found ≡ [] → AreStanding p vs (declares p.text name ty held role f) (declared_variable p.text name ty heap g).frame
+declared_stands p vs name ty None role heap f g block known holds standing within none = record {
+  same = entered_same p.text name f.locals g.variables (record { name = name; ty = ty; number = None }) standing.same;
+  locals = each_entered (Stands p vs (last_of f)) (is_some (local_named p.text f.locals name)) f.locals (record { name = name; ty = ty; number = None }) standing.locals
       (record { known = known; numbered = holds; inside = tt });
   last = standing.last;
   ends = standing.ends;
   counted = ap (λ (b : Bool). if b then g.heap + 1 else g.heap) (block ∙ holds) ∙ standing.counted;
   few = standing.few;
 }
-declared_stands p vs name kind (Some held) role heap f g block known holds standing within none =
-    let l : Local = record { name = name; kind = kind; number = Some (length f.variables) } in
-    let there = subst (λ o. IsSomeAnd o (λ v. IsHeld p kind v.kind)) (sym (declared_there vs f.variables _ within.rest within.is)) holds in
-    let heaped : heap ≡ true = block ∙ block_held p kind held holds in
+declared_stands p vs name ty (Some held) role heap f g block known holds standing within none =
+    let l : Local = record { name = name; ty = ty; number = Some (length f.variables) } in
+    let there = subst (λ o. IsSomeAnd o (λ v. IsHeld p ty v.ty)) (sym (declared_there vs f.variables _ within.rest within.is)) holds in
+    let heaped : heap ≡ true = block ∙ block_held p ty held holds in
     let past = both_none (if heap then past_heap name g.heap else []) _ none in
     let below = not_past name g.heap (length f.variables) (subst (λ (b : Bool). (if b then past_heap name g.heap else []) ≡ []) heaped past.0) standing.counted standing.few in
-    let last = last_of (declares p.text name kind (Some held) role f) in
+    let last = last_of (declares p.text name ty (Some held) role f) in
     record {
       same = entered_same p.text name f.locals g.variables l standing.same;
       locals = each_entered (Stands p vs last) (is_some (local_named p.text f.locals name)) f.locals l
-          (stands_then p vs (last_of f) last f.locals (declared_inner p vs name kind (Some held) role f within) standing.locals)
+          (stands_then p vs (last_of f) last f.locals (declared_inner p vs name ty (Some held) role f within) standing.locals)
           (record { known = known; numbered = there; inside = leads_here vs last });
       last = omega (arith, length-append {A = VariableModel});
-      ends = leads_then vs _ (last_of f) None (declared_inner p vs name kind (Some held) role f within) standing.ends;
+      ends = leads_then vs _ (last_of f) None (declared_inner p vs name ty (Some held) role f within) standing.ends;
       counted = let same = standing.counted in ap (λ (b : Bool). if b then g.heap + 1 else g.heap) heaped ∙ omega (arith, length-append {A = VariableModel});
       few = omega (arith, length-append {A = VariableModel});
     }

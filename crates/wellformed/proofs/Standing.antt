@@ -1,4 +1,4 @@
--- What holds of the variables in scope at a place of a program with whose names and kinds nothing is wrong.
+-- What holds of the variables in scope at a place of a program with whose names and types nothing is wrong.
 use Rattle.std.proofs.Common.{◌≡◌, ℕ, ◌<◌, ◌≤◌, false, List, [], ◌∷◌, ◌++◌, length, map}
 use Rattle.std.specs.Option.{option_map_or}
 use Rattle.std.specs.Prelude.{Option, None, Some, option_map, slice_get, IfSome, IsSomeAnd}
@@ -8,21 +8,21 @@ use Rattle.tree.specs.declared.class.Parameter.{Parameter}
 use Rattle.tree.specs.declared.types as tree
 use Rattle.names.specs.Expressions.{InScope}
 use Rattle.names.specs.Findings.{program_mistakes}
-use Rattle.declarations.specs.Kinds.{is_block}
+use Rattle.declarations.specs.Types.{is_block}
 use Rattle.names.specs.Methods.{result_unknown}
 use Rattle.declarations.specs.Program.{Program, as_class, as_contract, as_struct, item_at}
 use Rattle.declarations.specs.Resolution.{resolved_contracts}
 use Rattle.names.specs.Variables as names
-use Rattle.declarations.specs.declared.kinds as declared
-use Rattle.declarations.specs.declared.kinds.ValueKind.TheVariants as kind
+use Rattle.declarations.specs.declared.value_type as declared
+use Rattle.declarations.specs.declared.value_type.ValueType.TheVariants as ty
 use Rattle.program.specs.Methods.{VariableModel}
-use Rattle.program.specs.declared.kind.HeapKind.{HeapKind}
+use Rattle.program.specs.declared.types.HeapType.{HeapType}
 use Rattle.program.specs.declared.method.Role.{Role}
 use Rattle.program.specs.declared.method.Role.TheVariants as role
 use Rattle.program.specs.declared.number.VarId.{VarId}
 use Rattle.resolving.specs.Brought.{messages_told}
 use Rattle.resolving.specs.Fields.{structs_told}
-use Rattle.resolving.specs.Kinds.{kind_held, result_held, type_held}
+use Rattle.resolving.specs.Types.{heap_type, result_held, type_held}
 use Rattle.resolving.specs.Locals as locals
 use Rattle.resolving.specs.Locals.{Local, Frame, number_of}
 use Rattle.resolving.specs.Callees.{Callee}
@@ -34,29 +34,29 @@ use Rattle.program.specs.Scopes.{LeadsOut, AreNested, IsInScope}
 use Rattle.program.specs.declared.limits.TheConstants.{MOST_VARIABLES}
 use Rattle.program.specs.WellFormed.{Setting}
 
--- a kind whose names are declared
-abbrev pub IsKnown : Program → declared.ValueKind.ValueKind → Type 0
-IsKnown p (kind.Scalar s) = Unit {0}
-IsKnown p (kind.Array element) = Unit {0}
-IsKnown p (kind.Pointer n) = IsSomeAnd (item_at as_struct p n) (λ s. Unit {0})
-IsKnown p (kind.Endpoint side n) = IsSomeAnd (item_at as_contract p n) (λ c. Unit {0})
-IsKnown p kind.Missing = ⊥
-IsKnown p kind.Unknown = ⊥
+-- a type whose names are declared
+abbrev pub IsKnown : Program → declared.ValueType.ValueType → Type 0
+IsKnown p (ty.Scalar s) = Unit {0}
+IsKnown p (ty.Array element) = Unit {0}
+IsKnown p (ty.Pointer n) = IsSomeAnd (item_at as_struct p n) (λ s. Unit {0})
+IsKnown p (ty.Endpoint side n) = IsSomeAnd (item_at as_contract p n) (λ c. Unit {0})
+IsKnown p ty.Missing = ⊥
+IsKnown p ty.Unknown = ⊥
 
--- what a variable of this kind holds, in some state
-pub record IsHeld (p : Program) (k : declared.ValueKind.ValueKind) (held : HeapKind) : Type 0 where
+-- what a variable of this type holds, in some state
+pub record IsHeld (p : Program) (k : declared.ValueType.ValueType) (held : HeapType) : Type 0 where
   pub state : Option Span
-  pub is : kind_held p k state ≡ Some held
+  pub is : heap_type p k state ≡ Some held
 
--- what a variable of this kind holds, if it is of the exchange heap
-abbrev pub IsHeldAs : Program → declared.ValueKind.ValueKind → Option HeapKind → Type 0
+-- what a variable of this type holds, if it is of the exchange heap
+abbrev pub IsHeldAs : Program → declared.ValueType.ValueType → Option HeapType → Type 0
 IsHeldAs p k None = is_block k ≡ false
 IsHeldAs p k (Some held) = IsHeld p k held
 
--- a variable in scope has a number where it is of the exchange heap, and of this number the method has one that holds what its kind says
-abbrev pub IsNumbered : Program → List VariableModel → declared.ValueKind.ValueKind → Option ℕ → Type 0
+-- a variable in scope has a number where it is of the exchange heap, and of this number the method has one that holds what its type says
+abbrev pub IsNumbered : Program → List VariableModel → declared.ValueType.ValueType → Option ℕ → Type 0
 IsNumbered p vs k None = is_block k ≡ false
-IsNumbered p vs k (Some n) = IsSomeAnd (slice_get vs n) (λ v. IsHeld p k v.kind)
+IsNumbered p vs k (Some n) = IsSomeAnd (slice_get vs n) (λ v. IsHeld p k v.ty)
 
 -- it is in scope where this one is the last
 abbrev pub IsInside : List VariableModel → Option VarId → Option ℕ → Type 0
@@ -64,13 +64,13 @@ IsInside vs last None = Unit {0}
 IsInside vs last (Some n) = IsInScope vs last (number_of n)
 
 pub record Stands (p : Program) (vs : List VariableModel) (last : Option VarId) (l : Local) : Type 0 where
-  pub known : IsKnown p l.kind
-  pub numbered : IsNumbered p vs l.kind l.number
+  pub known : IsKnown p l.ty
+  pub numbered : IsNumbered p vs l.ty l.number
   pub inside : IsInside vs last l.number
 
--- a variable in scope as its name and kind
+-- a variable in scope as its name and type
 abbrev pub named : Local → names.Variable
-named l = record { name = l.name; kind = l.kind }
+named l = record { name = l.name; ty = l.ty }
 
 -- the last variable in scope
 abbrev pub last_of : Frame → Option VarId
@@ -86,11 +86,11 @@ pub record AreStanding (p : Program) (vs : List VariableModel) (f : Frame) (g : 
   pub counted : g.heap ≡ length f.variables
   pub few : length f.variables ≤ MOST_VARIABLES
 
--- a variable that is no parameter, and holds what some kind says
+-- a variable that is no parameter, and holds what some type says
 pub record IsLocal (p : Program) (v : VariableModel) : Type 0 where
   pub is : v.role ≡ role.Local
-  pub kind : declared.ValueKind.ValueKind
-  pub held : IsHeld p kind v.kind
+  pub ty : declared.ValueType.ValueType
+  pub held : IsHeld p ty v.ty
 
 -- the first frame's variables, and others behind them that are no parameters
 pub record Grows (p : Program) (f g : Frame) : Type 0 where
@@ -112,7 +112,7 @@ pub record AreStaying (s : Setting) (f : Frame) (stays : Staying) : Type 0 where
   pub at_continue : LeadsOut s.variables (last_of f) (option_map number_of stays.at_continue)
 
 -- Where a statement stands: in a method of the class that is the item at this place, which gives this result, of a program with
--- whose names and kinds nothing is wrong.
+-- whose names and types nothing is wrong.
 pub record Around (p : Program) (c : ClassTree) (class : ℕ) (result : Option tree.Type.Type) (s : Setting) : Type 0 where
   pub clean : program_mistakes p ≡ []
   pub class_is : item_at as_class p class ≡ Some (class, c)
@@ -124,9 +124,9 @@ pub record Around (p : Program) (c : ClassTree) (class : ℕ) (result : Option t
   pub result_known : result_unknown p result ≡ []
   pub nested : AreNested s.variables
 
--- a variable of this name and kind comes into scope
-abbrev pub declares : List ℕ → Span → declared.ValueKind.ValueKind → Option HeapKind → Role → Frame → Frame
-declares text name kind held role f = locals.declared text (record { name = name; kind = kind; held = held; role = role }) f
+-- a variable of this name and type comes into scope
+abbrev pub declares : List ℕ → Span → declared.ValueType.ValueType → Option HeapType → Role → Frame → Frame
+declares text name ty held role f = locals.declared text (record { name = name; ty = ty; held = held; role = role }) f
 
 -- what a frame brings into scope
 abbrev pub scope_of : Program → names.Frame → InScope
@@ -145,7 +145,7 @@ pub record Passes (p : Program) (vs : List VariableModel) (X : Type 0) (f after 
   pub same : last_of after ≡ last_of f
 
 -- what a parameter holds, where it is of the exchange heap, and how the method comes to it
-abbrev pub heading : Program → Parameter → List (HeapKind × Role)
+abbrev pub heading : Program → Parameter → List (HeapType × Role)
 heading p x = option_map_or (λ k. (k, role_of x) ∷ []) (type_held p x.ty) []
 
 -- a method of a class, which has this number in the program

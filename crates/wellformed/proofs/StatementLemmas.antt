@@ -5,16 +5,16 @@ use Rattle.source.specs.declared.place.Place.{Place}
 use Rattle.tree.specs.StatementTrees as trees
 use Rattle.tree.specs.StatementTrees.{StatementTree, StatementTrees, BlockTree, TestTree, OtherTrees, CaseTree, CaseTrees, DeclareTree}
 use Rattle.names.specs.Bodies as bodies
-use Rattle.declarations.specs.Kinds.{is_heap, type_kind, type_unknown}
+use Rattle.declarations.specs.Types.{is_heap, type_meant, type_unknown}
 use Rattle.names.specs.Shapes.{shape}
 use Rattle.names.specs.Bodies.{Surroundings, block_turn, case_turn, cases_turn, others_turn, statement_turn, statements_turn, test_turn, head_of, heads_of}
 use Rattle.names.specs.Cases.{Head, binds_turn, head_mistakes}
 use Rattle.names.specs.Expressions.{truth_mistakes}
 use Rattle.declarations.specs.Program.{Program}
-use Rattle.names.specs.Values.{target_mistakes, target_kind, value_mistakes}
+use Rattle.names.specs.Values.{target_mistakes, target_type, value_mistakes}
 use Rattle.names.specs.Variables as names
 use Rattle.resolving.specs.Binds.{binds_told}
-use Rattle.resolving.specs.Kinds.{state_in, type_held}
+use Rattle.resolving.specs.Types.{state_in, type_held}
 use Rattle.resolving.specs.Locals.{Frame, closed, declared, forget, next_number, number_of}
 use Rattle.resolving.specs.Plain.{declaration_of, first_value}
 use Rattle.resolving.specs.Told.{Staying, awaited_message, awaited_params, behind_case, block_told, case_told, cases_told, in_switch, others_told, statement_told, statements_told, stays_here, test_told}
@@ -32,7 +32,7 @@ use Rattle.wellformed.proofs.CaseLemmas.{all_close, heads_clean}
 use Rattle.wellformed.proofs.ExpressionLemmas.{reads_within}
 use Rattle.wellformed.proofs.GrowthLemmas.{binds_grow, grows_then, cases_grow, others_grow, statements_grow, within_before}
 use Rattle.wellformed.proofs.HeadLemmas.{head_fits}
-use Rattle.wellformed.proofs.KindLemmas.{heap_block, held_as, type_known}
+use Rattle.wellformed.proofs.HeapTypeLemmas.{heap_block, held_as, type_known}
 use Rattle.wellformed.proofs.ListLemmas.{both_none}
 use Rattle.wellformed.proofs.ChannelLemmas.{channel_fits}
 use Rattle.wellformed.proofs.ExchangeLemmas.{exchange_fits}
@@ -126,15 +126,15 @@ declaration_goes m class s around d f g standing within none =
     let p = m.program in
     let after = declared m.program.text (declaration_of m.program d) f in
     let unknown = type_unknown p d.ty in
-    let given = bodies.given_mistakes (bodies.inside_of m g) (type_kind p d.ty) d.value in
-    let enters = names.declared_variable p.text d.name (type_kind p d.ty) (is_heap d.ty) g in
+    let given = bodies.given_mistakes (bodies.inside_of m g) (type_meant p d.ty) d.value in
+    let enters = names.declared_variable p.text d.name (type_meant p d.ty) (is_heap d.ty) g in
     let parts = both_none (unknown ++ given) enters.found none in
     let first = both_none unknown given parts.0 in
     let known = type_known p d.ty first.0 in
     record {
       fits = declare_fits p m.class class m.result (reached s (last_of after)) f g d refl (around_behind m class s (last_of after) around) standing within first.0 first.1;
-      standing = declared_stands p s.variables d.name (type_kind p d.ty) (type_held p d.ty) role.Local (is_heap d.ty) f g (heap_block p d.ty first.0) known (held_as p (type_kind p d.ty) (state_in d.ty) known) standing within parts.1;
-      grows = declared_grows p s.variables d.name (type_kind p d.ty) (type_held p d.ty) f within;
+      standing = declared_stands p s.variables d.name (type_meant p d.ty) (type_held p d.ty) role.Local (is_heap d.ty) f g (heap_block p d.ty first.0) known (held_as p (type_meant p d.ty) (state_in d.ty) known) standing within parts.1;
+      grows = declared_grows p s.variables d.name (type_meant p d.ty) (type_held p d.ty) f within;
     }
 
 -- a scope that has grown, from where a statement stands
@@ -160,7 +160,7 @@ mutual
       statement_passes m.program s (statement_told m.program class stays (trees.Block b) f).what f (block_told m.program class stays b f).frame _ staying.scope (record { fits = r.fits; standing = r.standing; same = r.same })
   statement_goes m class s around stays (trees.Declare d) f g standing staying within none = declaration_goes m class s around d f g standing within none
   statement_goes m class s around stays (trees.Assign a) f g standing staying within none =
-      let both = both_none (target_mistakes (scope_of m.program g) a.target) (value_mistakes (bodies.inside_of m g) (target_kind (scope_of m.program g) a.target) a.value) none in
+      let both = both_none (target_mistakes (scope_of m.program g) a.target) (value_mistakes (bodies.inside_of m g) (target_type (scope_of m.program g) a.target) a.value) none in
       stands_still m.program s (statement_told m.program class stays (trees.Assign a) f).what f g staying.scope (assign_fits m.program m.class class m.result s f g a.target a.value around staying.scope standing both.0 both.1) standing
   statement_goes m class s around stays (trees.Call c) f g standing staying within none = stands_still m.program s (statement_told m.program class stays (trees.Call c) f).what f g staying.scope (call_stated_fits m.program m.class class m.result s f g c around standing none) standing
   statement_goes m class s around stays (trees.Start word c) f g standing staying within none = stands_still m.program s (statement_told m.program class stays (trees.Start word c) f).what f g staying.scope (start_fits m.program m.class class m.result s f g c word around standing none) standing

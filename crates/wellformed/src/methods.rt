@@ -20,7 +20,7 @@ use source::Memory;
 use std::alloc::Global;
 use tree::Tree;
 
-/// The methods of a program with whose names and kinds nothing is wrong, and of which these are the contracts.
+/// The methods of a program with whose names and types nothing is wrong, and of which these are the contracts.
 ///
 /// A method that takes nothing has no parameter of the exchange heap either. `Memory` is answered where a growth was refused; the contracts
 /// are lost then.

@@ -14,8 +14,8 @@ use Rattle.tree.specs.Trees.{ItemTree, contracts_of}
 use Rattle.syntax.specs.Parsing.{IsFirstWrong}
 use Rattle.program.specs.Parts.{ContractModel, IsWhole, Parts}
 use Rattle.program.specs.Programs.{ProgramModel}
-use Rattle.program.specs.declared.kind.Side.{Side}
-use Rattle.program.specs.declared.kind.Side.TheVariants.{Exp, Imp}
+use Rattle.program.specs.declared.types.Side.{Side}
+use Rattle.program.specs.declared.types.Side.TheVariants.{Exp, Imp}
 use Rattle.declarations.specs.Mistakes.{finding_in}
 use Rattle.names.specs.Findings.{program_findings, program_mistakes}
 use Rattle.declarations.specs.declared.mistake.Mistake.{Mistake}

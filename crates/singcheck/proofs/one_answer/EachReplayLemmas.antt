@@ -4,7 +4,7 @@ use Rattle.std.proofs.Math.Path.{fun_ext}
 use Rattle.std.specs.Option.{option_map}
 use Rattle.program.specs.Parts.{ContractModel}
 use Rattle.program.specs.Programs.{ProgramModel}
-use Rattle.program.specs.declared.kind.Side.{Side}
+use Rattle.program.specs.declared.types.Side.{Side}
 use Rattle.declarations.specs.Program.{Program}
 use Rattle.resolving.specs.Brought.{messages_told}
 use Rattle.resolving.specs.Fields.{structs_told}

@@ -7,15 +7,15 @@ use Rattle.program.specs.Lists.{Each, is_among}
 use Rattle.program.specs.Programs.{ProgramModel}
 use Rattle.program.specs.WellFormed.{is_end}
 use Rattle.program.specs.declared.call.Argument.{Argument}
-use Rattle.program.specs.declared.kind.HeapKind.TheVariants.{Struct, Array, Endpoint}
-use Rattle.program.specs.declared.kind.HeapKind.{HeapKind}
-use Rattle.program.specs.declared.kind.Side.{Side}
+use Rattle.program.specs.declared.types.HeapType.TheVariants.{Struct, Array, Endpoint}
+use Rattle.program.specs.declared.types.HeapType.{HeapType}
+use Rattle.program.specs.declared.types.Side.{Side}
 use Rattle.contracts.specs.Leaving.{end_on}
 use Rattle.rules.specs.Endpoints.{edges_out}
 use Rattle.machine.specs.Blocks.{is_own_still, exchanged_block, goes_with, handed, sent_block, freed_block}
 use Rattle.machine.specs.Frames.{address, addresses}
 use Rattle.machine.specs.Outcomes.{Outcome, Moved, Faulty, Bounds, Test, test, tested}
-use Rattle.machine.specs.World.{no_kind, MessageHeld, Block, Frame, World, block_at, read, owns}
+use Rattle.machine.specs.World.{no_type, MessageHeld, Block, Frame, World, block_at, read, owns}
 use Rattle.machine.specs.World.{is_inside, is_queue, is_freed, changed, no_block}
 use Rattle.machine.specs.declared.halts.Fault.TheVariants.{F1, F3, F6}
 use Rattle.machine.specs.declared.halts.Fault.{Fault}
@@ -37,7 +37,7 @@ use Rattle.machine.proofs.Holding.{owned_there}
 
 -- ---- the invariant of the blocks: beside channels and what stands in queues, what is no end has nothing in its queue
 abbrev pub ArePlain : List Block → Type 0
-ArePlain bs = (a : ℕ) → is_end (block_at bs a).kind ≡ false → (block_at bs a).queue ≡ []
+ArePlain bs = (a : ℕ) → is_end (block_at bs a).ty ≡ false → (block_at bs a).queue ≡ []
 
 pub record RunFits (p : ProgramModel) (bs : List Block) : Type 0 where
   pub fits : BlocksFit p bs
@@ -72,20 +72,20 @@ pub some_is : (x : Option ℕ) → is_some x ≡ true → (t : ℕ) × (x ≡ So
 some_is None e = absurd (cc)
 some_is (Some t) e = (t, refl)
 
-pub no_edges : (p : ProgramModel) (k : HeapKind) (q message : ℕ) → is_end k ≡ false → end_on (edges_out p (Some k) q) message ≡ None
+pub no_edges : (p : ProgramModel) (k : HeapType) (q message : ℕ) → is_end k ≡ false → end_on (edges_out p (Some k) q) message ≡ None
 no_edges p (Struct n) q message e = refl
 no_edges p (Array n) q message e = refl
 no_edges p (Endpoint c side state) q message e = absurd (true≢false refl e)
 
-pub end_of_kind : (k : HeapKind) (c : ℕ) (side : Side) → stateless k ≡ Endpoint record { 0 = c } side record { 0 = 0 } → is_end k ≡ true
-end_of_kind (Struct n) c side e = absurd (cc)
-end_of_kind (Array n) c side e = absurd (cc)
-end_of_kind (Endpoint d s q) c side e = refl
+pub end_of_type : (k : HeapType) (c : ℕ) (side : Side) → stateless k ≡ Endpoint record { 0 = c } side record { 0 = 0 } → is_end k ≡ true
+end_of_type (Struct n) c side e = absurd (cc)
+end_of_type (Array n) c side e = absurd (cc)
+end_of_type (Endpoint d s q) c side e = refl
 
 -- ---- blocks behind the others
 pub plain_append : (self : ℕ) (bs more : List Block) → AreFresh self more → ArePlain bs → ArePlain (bs ++ more)
 plain_append self bs more fresh h a no_end = queue_append self bs more a fresh ∙ ⊎_elim
-    (λ short. h a (ap (λ (b : Block). is_end b.kind) (sym (block_append bs more a short)) ∙ no_end))
+    (λ short. h a (ap (λ (b : Block). is_end b.ty) (sym (block_append bs more a short)) ∙ no_end))
     (λ past. ap (λ (b : Block). b.queue) (block_past bs a past)) (cases_lt a (length bs))
 
 module _ (p : ProgramModel) (bound : Bounds) (w : World) (self : ℕ) (f : Frame) (rest : List Frame) (h : RunFits p w.blocks) where
@@ -168,7 +168,7 @@ module _ (p : ProgramModel) (bound : Bounds) (w : World) (self : ℕ) (f : Frame
     };
     plain = λ j no_end. ⊎_elim (λ e. deleting.queue_it p w self h.fits a owned j e)
         (λ n. deleting.queue_other p w self h.fits a owned j n
-        ∙ h.plain j (sym (ap (λ (b : Block). is_end b.kind) (deleting.at p w self h.fits a owned j)) ∙ no_end))
+        ∙ h.plain j (sym (ap (λ (b : Block). is_end b.ty) (deleting.at p w self h.fits a owned j)) ∙ no_end))
         (cases_Bool (goes_with w.blocks a j));
   }
 
@@ -180,7 +180,7 @@ module _ (p : ProgramModel) (bound : Bounds) (w : World) (self : ℕ) (f : Frame
     fits = exchanging.fits_now p w self h.fits at field given held own_at own_given apart found;
     plain = λ j no_end.
         let is = exchanging.is_at p w self h.fits at field given held own_at own_given apart found j in
-        ap (λ (b : Block). b.queue) is ∙ h.plain j (sym (ap (λ (b : Block). is_end b.kind) is) ∙ no_end);
+        ap (λ (b : Block). b.queue) is ∙ h.plain j (sym (ap (λ (b : Block). is_end b.ty) is) ∙ no_end);
   }
 
   -- ---- blocks that are handed on
@@ -189,7 +189,7 @@ module _ (p : ProgramModel) (bound : Bounds) (w : World) (self : ℕ) (f : Frame
       → ((j : ℕ) → block_at bs' j ≡ handed to given j (block_at w.blocks j)) → RunFits p bs'
   handed_run bs' given to mine lives no_queue no_block_more long at = record {
     fits = handed_fits p w.blocks bs' self given to h.fits mine lives no_queue long at no_block_more;
-    plain = λ j no_end. ap (λ (b : Block). b.queue) (at j) ∙ h.plain j (sym (ap (λ (b : Block). is_end b.kind) (at j)) ∙ no_end);
+    plain = λ j no_end. ap (λ (b : Block). b.queue) (at j) ∙ h.plain j (sym (ap (λ (b : Block). is_end b.ty) (at j)) ∙ no_end);
   }
 
   pub start_fits : (given : List ℕ) → ((x : ℕ) → is_among given x ≡ true → owns w.blocks self x ≡ true)
@@ -198,7 +198,7 @@ module _ (p : ProgramModel) (bound : Bounds) (w : World) (self : ℕ) (f : Frame
       let to = Process (length w.processes) in
       handed_run (changed (handed to given) w.blocks) given to mine refl (λ a. refl) (λ a. refl) (changed_length (handed to given) w.blocks)
       (λ j. changed_all (handed to given) w.blocks j (λ past.
-      ap (λ (b : Bool). record { kind = no_kind; owner = if b then to else Channel; peer = 0; state = 0; queue = []; fields = [] })
+      ap (λ (b : Bool). record { ty = no_type; owner = if b then to else Channel; peer = 0; state = 0; queue = []; fields = [] })
       (⊎_elim (λ t. absurd (let k = owned_there w.blocks self j (mine j t) in omega arith)) (λ e. e) (cases_Bool (is_among given j)))))
 
   -- a message whose sender's peer is gone
@@ -207,7 +207,7 @@ module _ (p : ProgramModel) (bound : Bounds) (w : World) (self : ℕ) (f : Frame
   sent_lost a state' to g m j b gone same =
       ap (λ (x : Bool). sent_block a state' to x m j b) gone
       ∙ (ap (λ (q : List MessageHeld). record {
-        kind = b.kind;
+        ty = b.ty;
         owner = if is_among m.payload j then Channel else b.owner;
         peer =
             b.peer;
@@ -216,7 +216,7 @@ module _ (p : ProgramModel) (bound : Bounds) (w : World) (self : ℕ) (f : Frame
         fields = b.fields;
       }) (no_more (j == to))
       ∙ ap (λ (n : ℕ). record {
-        kind = b.kind;
+        ty = b.ty;
         owner = if is_among m.payload j then Channel else b.owner;
         peer = b.peer;
         state =
@@ -240,7 +240,7 @@ module _ (p : ProgramModel) (bound : Bounds) (w : World) (self : ℕ) (f : Frame
       (changed_length (sent_block a state' to g m) w.blocks)
       (λ j. changed_all (sent_block a state' to g m) w.blocks j
       (λ past. sent_lost a state' to g m j no_block gone (λ e. absurd (omega arith))
-      ∙ ap (λ (o : Owner). record { kind = no_kind; owner = o; peer = 0; state = 0; queue = []; fields = [] })
+      ∙ ap (λ (o : Owner). record { ty = no_type; owner = o; peer = 0; state = 0; queue = []; fields = [] })
       (always_channel (is_among m.payload j)))
       ∙ sent_lost a state' to g m j (block_at w.blocks j) gone (λ e. same ∙ ap (λ (n : ℕ). (block_at w.blocks n).state) (sym e)))
     where

@@ -8,15 +8,15 @@ use Rattle.std.specs.Prelude.{Option, slice_get}
 use Rattle.program.specs.Methods.{MethodModel, VariableModel}
 use Rattle.program.specs.Programs.{ProgramModel}
 use Rattle.program.specs.WellFormed.{is_end}
-use Rattle.program.specs.declared.kind.HeapKind.TheVariants.{Endpoint}
-use Rattle.program.specs.declared.kind.HeapKind.{HeapKind}
-use Rattle.program.specs.declared.kind.Side.TheVariants.{Imp, Exp}
-use Rattle.program.specs.declared.kind.Side.{Side}
+use Rattle.program.specs.declared.types.HeapType.TheVariants.{Endpoint}
+use Rattle.program.specs.declared.types.HeapType.{HeapType}
+use Rattle.program.specs.declared.types.Side.TheVariants.{Imp, Exp}
+use Rattle.program.specs.declared.types.Side.{Side}
 use Rattle.contracts.specs.TwoEnds.{Ends}
 use Rattle.machine.specs.Blocks.{new_block}
-use Rattle.machine.specs.Frames.{method_at, kind_at, variables_of}
+use Rattle.machine.specs.Frames.{method_at, type_at, variables_of}
 use Rattle.machine.specs.Heaps.{IsHeld}
-use Rattle.machine.specs.World.{no_kind, MessageHeld, Block, block_at, owns, freed, is_inside, is_process, is_queue, is_freed}
+use Rattle.machine.specs.World.{no_type, MessageHeld, Block, block_at, owns, freed, is_inside, is_process, is_queue, is_freed}
 use Rattle.machine.proofs.Holding.{held_same}
 use Rattle.machine.specs.World.{is_empty}
 use Rattle.machine.specs.declared.worlds.Owner.TheVariants.{Process}
@@ -33,7 +33,7 @@ use Rattle.rules.proofs.RepeatLemmas.{suc_suc}
 -- ---- channels where ends stay
 -- an end that lives now lived before, and is as it was
 pub record SameEnd (b b' : Block) : Type 0 where
-  pub kind : b'.kind ≡ b.kind
+  pub ty : b'.ty ≡ b.ty
   pub peer : b'.peer ≡ b.peer
   pub lives : is_freed b'.owner ≡ false → is_freed b.owner ≡ false
   pub state : is_freed b'.owner ≡ false → b'.state ≡ b.state
@@ -48,25 +48,25 @@ end_same ends side b b' same lives h = record {
 
 pub channels_same : (p : ProgramModel) (bs bs' : List Block) → length bs ≤ length bs'
     → ((a : ℕ) → a < length bs → SameEnd (block_at bs a) (block_at bs' a))
-    → ((a : ℕ) → length bs ≤ a → is_end (block_at bs' a).kind ≡ false) → ChannelsFit p bs → ChannelsFit p bs'
+    → ((a : ℕ) → length bs ≤ a → is_end (block_at bs' a).ty ≡ false) → ChannelsFit p bs → ChannelsFit p bs'
 channels_same p bs bs' more same fresh h = record {
   imp = λ a c within is. ⊎_elim (λ old. imp a c old is) (λ new. absurd (not_new a c Imp new is)) (cases_lt a (length bs));
   exp = λ a c within is. ⊎_elim (λ old. exp a c old is) (λ new. absurd (not_new a c Exp new is)) (cases_lt a (length bs));
 }
   where
-    not_new : (a c : ℕ) (side : Side) → length bs ≤ a → stateless (block_at bs' a).kind ≡ Endpoint record { 0 = c } side record { 0 = 0 }
+    not_new : (a c : ℕ) (side : Side) → length bs ≤ a → stateless (block_at bs' a).ty ≡ Endpoint record { 0 = c } side record { 0 = 0 }
         → ⊥
-    not_new a c side new is = true≢false (ap is_end is) (sym (end_stateless (block_at bs' a).kind) ∙ fresh a new)
+    not_new a c side new is = true≢false (ap is_end is) (sym (end_stateless (block_at bs' a).ty) ∙ fresh a new)
 
-    imp : (a c : ℕ) → a < length bs → stateless (block_at bs' a).kind ≡ Endpoint record { 0 = c } Imp record { 0 = 0 }
+    imp : (a c : ℕ) → a < length bs → stateless (block_at bs' a).ty ≡ Endpoint record { 0 = c } Imp record { 0 = 0 }
         → ChannelFits p bs' a c
     imp a c old is =
-        let k = h.imp a c old (sym (ap stateless (same a old).kind) ∙ is) in
+        let k = h.imp a c old (sym (ap stateless (same a old).ty) ∙ is) in
         record {
           peer = k.peer;
           peer_is = (same a old).peer ∙ k.peer_is;
           peer_there = let t = k.peer_there in omega arith;
-          peer_kind = ap stateless (same k.peer k.peer_there).kind ∙ k.peer_kind;
+          peer_type = ap stateless (same k.peer k.peer_there).ty ∙ k.peer_type;
           back = (same k.peer k.peer_there).peer ∙ k.back;
           contract = k.contract;
           contract_there = k.contract_there;
@@ -78,20 +78,20 @@ channels_same p bs bs' more same fresh h = record {
               (k.theirs ((same k.peer k.peer_there).lives lives));
         }
 
-    exp : (a c : ℕ) → a < length bs → stateless (block_at bs' a).kind ≡ Endpoint record { 0 = c } Exp record { 0 = 0 } → IsPeer bs' a c
+    exp : (a c : ℕ) → a < length bs → stateless (block_at bs' a).ty ≡ Endpoint record { 0 = c } Exp record { 0 = 0 } → IsPeer bs' a c
     exp a c old is =
-        let k = h.exp a c old (sym (ap stateless (same a old).kind) ∙ is) in
+        let k = h.exp a c old (sym (ap stateless (same a old).ty) ∙ is) in
         record {
           peer = k.peer;
           peer_is = (same a old).peer ∙ k.peer_is;
           peer_there = let t = k.peer_there in omega arith;
-          peer_kind = ap stateless (same k.peer k.peer_there).kind ∙ k.peer_kind;
+          peer_type = ap stateless (same k.peer k.peer_there).ty ∙ k.peer_type;
           back = (same k.peer k.peer_there).peer ∙ k.back;
         }
 
 pub same_end : (b b' : Block) → b' ≡ b → SameEnd b b'
 same_end b b' e = record {
-  kind = ap (λ (x : Block). x.kind) e;
+  ty = ap (λ (x : Block). x.ty) e;
   peer = ap (λ (x : Block). x.peer) e;
   lives =
       λ l. sym (ap (λ (x : Block). is_freed x.owner) e)
@@ -168,7 +168,7 @@ cut_append bs more = record {
 pub kept_append : (bs more : List Block) (P : ℕ → Type 0) → AreKept bs (bs ++ more) P
 kept_append bs more P a some within = record {
   there = simp length-append (omega arith);
-  kind = ap (λ (b : Block). b.kind) (block_append bs more a within);
+  ty = ap (λ (b : Block). b.ty) (block_append bs more a within);
   state = inl (ap (λ (b : Block). b.state) (block_append bs more a within));
 }
 
@@ -177,7 +177,7 @@ pub same_append : (p : ProgramModel) (bs more : List Block) → SameFields p bs 
 same_append p bs more = record {
   cut = cut_append bs more;
   kept = kept_append bs more (LiesInside bs);
-  kinds = λ a short. ap (λ (b : Block). b.kind) (block_append bs more a short);
+  types = λ a short. ap (λ (b : Block). b.ty) (block_append bs more a short);
   lives = λ a short l. sym (ap (λ (b : Block). is_freed b.owner) (block_append bs more a short)) ∙ l;
   fields = λ a short l. ap (λ (b : Block). b.fields) (block_append bs more a short);
 }
@@ -208,7 +208,7 @@ new_counts self (x ∷ bs) b (suc a) own =
     let k = new_counts self bs b a own in
     omega arith
 
-pub fresh_one : (self : ℕ) (k : HeapKind) (fields : List ℕ) → AreFresh self (new_block k self 0 0 fields ∷ [])
+pub fresh_one : (self : ℕ) (k : HeapType) (fields : List ℕ) → AreFresh self (new_block k self 0 0 fields ∷ [])
 fresh_one self k fields = record { queue = queue; no_queue = no_queue; theirs = theirs }
   where
     queue : (n : ℕ) → (block_at (new_block k self 0 0 fields ∷ []) n).queue ≡ []
@@ -223,21 +223,21 @@ fresh_one self k fields = record { queue = queue; no_queue = no_queue; theirs = 
     theirs zero q n = eqb_apart self q (λ e. n (sym e))
     theirs (suc m) q n = refl
 
-new_kind : (bs : List Block) (b : Block) (a : ℕ) → length bs ≤ a → is_end b.kind ≡ false → is_end (block_at (bs ++ b ∷ []) a).kind ≡ false
-new_kind [] b zero past e = e
-new_kind [] b (suc a) past e = refl
-new_kind (x ∷ bs) b zero past e = absurd (omega arith)
-new_kind (x ∷ bs) b (suc a) past e = let short : length bs ≤ a = omega arith in new_kind bs b a short e
+new_type : (bs : List Block) (b : Block) (a : ℕ) → length bs ≤ a → is_end b.ty ≡ false → is_end (block_at (bs ++ b ∷ []) a).ty ≡ false
+new_type [] b zero past e = e
+new_type [] b (suc a) past e = refl
+new_type (x ∷ bs) b zero past e = absurd (omega arith)
+new_type (x ∷ bs) b (suc a) past e = let short : length bs ≤ a = omega arith in new_type bs b a short e
 
 -- a block behind the others that is no end
-pub channels_new : (p : ProgramModel) (bs : List Block) (b : Block) → is_end b.kind ≡ false → ChannelsFit p bs → ChannelsFit p (bs ++ b ∷ [])
+pub channels_new : (p : ProgramModel) (bs : List Block) (b : Block) → is_end b.ty ≡ false → ChannelsFit p bs → ChannelsFit p (bs ++ b ∷ [])
 channels_new p bs b plain h =
     channels_same p bs (bs ++ b ∷ []) (simp length-append (omega arith))
     (λ a within. same_end (block_at bs a) (block_at (bs ++ b ∷ []) a) (block_append bs (b ∷ []) a within))
-    (λ a past. new_kind bs b a past plain) h
+    (λ a past. new_type bs b a past plain) h
 
-pub kind_of_variable : (p : ProgramModel) (n : ℕ) (m : MethodModel) (v : ℕ) (x : VariableModel) → method_at p n ≡ Some m
-    → slice_get m.variables v ≡ Some x → kind_at (variables_of p n) v ≡ x.kind
-kind_of_variable p n m v x there at =
-    ap (λ (o : Option MethodModel). kind_at (option_map_or (λ y. y.variables) o []) v) there
-    ∙ ap (λ (o : Option VariableModel). option_map_or (λ y. y.kind) o no_kind) at
+pub type_of_variable : (p : ProgramModel) (n : ℕ) (m : MethodModel) (v : ℕ) (x : VariableModel) → method_at p n ≡ Some m
+    → slice_get m.variables v ≡ Some x → type_at (variables_of p n) v ≡ x.ty
+type_of_variable p n m v x there at =
+    ap (λ (o : Option MethodModel). type_at (option_map_or (λ y. y.variables) o []) v) there
+    ∙ ap (λ (o : Option VariableModel). option_map_or (λ y. y.ty) o no_type) at

@@ -4,8 +4,8 @@ use Rattle.std.proofs.Common.{arith, inl, inr, ⊎_elim, set}
 use Rattle.std.proofs.lemmas.Bool.{cases_eq}
 use Rattle.std.specs.Prelude.{Option, ◌⊎◌, slice_get}
 use Rattle.program.specs.Programs.{ProgramModel}
-use Rattle.program.specs.WellFormed.{field_kinds, is_end}
-use Rattle.program.specs.declared.kind.HeapKind.{HeapKind}
+use Rattle.program.specs.WellFormed.{field_types, is_end}
+use Rattle.program.specs.declared.types.HeapType.{HeapType}
 use Rattle.machine.specs.Blocks.{exchanged_block}
 use Rattle.machine.specs.Heaps.{IsHeld}
 use Rattle.machine.specs.World.{Block, MessageHeld, World, block_at, changed, freed, is_empty, is_freed, is_process, is_queue, owns, read}
@@ -24,24 +24,24 @@ use Rattle.rules.specs.Endpoints.{declared_leaf}
 use Rattle.machine.proofs.ChangeLemmas.{changed_length, eqb_same, eqb_apart}
 
 -- addresses are still as declared where one of them is another that is declared so too
-declared_set : (bs : List Block) (kinds : List HeapKind) (xs : List ℕ) (i x : ℕ) (k : HeapKind) → slice_get kinds i ≡ Some k
-    → HasLeaf bs k x (declared_leaf k) → AreDeclared bs kinds xs → AreDeclared bs kinds (set xs i x)
+declared_set : (bs : List Block) (types : List HeapType) (xs : List ℕ) (i x : ℕ) (k : HeapType) → slice_get types i ≡ Some k
+    → HasLeaf bs k x (declared_leaf k) → AreDeclared bs types xs → AreDeclared bs types (set xs i x)
 declared_set bs [] xs i x k e leaf h = absurd (cc)
-declared_set bs (y ∷ kinds) [] i x k e leaf h = absurd h
-declared_set bs (y ∷ kinds) (z ∷ xs) zero x k e leaf h =
+declared_set bs (y ∷ types) [] i x k e leaf h = absurd h
+declared_set bs (y ∷ types) (z ∷ xs) zero x k e leaf h =
     let s : y ≡ k = cc in
-    (subst (λ (t : HeapKind). HasLeaf bs t x (declared_leaf t)) (sym s) leaf, h.1)
-declared_set bs (y ∷ kinds) (z ∷ xs) (suc i) x k e leaf h = (h.0, declared_set bs kinds xs i x k e leaf h.1)
+    (subst (λ (t : HeapType). HasLeaf bs t x (declared_leaf t)) (sym s) leaf, h.1)
+declared_set bs (y ∷ types) (z ∷ xs) (suc i) x k e leaf h = (h.0, declared_set bs types xs i x k e leaf h.1)
 
 -- how one of them is declared
-pub declared_get : (bs : List Block) (kinds : List HeapKind) (xs : List ℕ) (i : ℕ) (k : HeapKind) → slice_get kinds i ≡ Some k
-    → AreDeclared bs kinds xs → (x : ℕ) × (slice_get xs i ≡ Some x) × HasLeaf bs k x (declared_leaf k)
+pub declared_get : (bs : List Block) (types : List HeapType) (xs : List ℕ) (i : ℕ) (k : HeapType) → slice_get types i ≡ Some k
+    → AreDeclared bs types xs → (x : ℕ) × (slice_get xs i ≡ Some x) × HasLeaf bs k x (declared_leaf k)
 declared_get bs [] xs i k e h = absurd (cc)
-declared_get bs (y ∷ kinds) [] i k e h = absurd h
-declared_get bs (y ∷ kinds) (z ∷ xs) zero k e h =
+declared_get bs (y ∷ types) [] i k e h = absurd h
+declared_get bs (y ∷ types) (z ∷ xs) zero k e h =
     let s : y ≡ k = cc in
-    (z, refl, subst (λ (t : HeapKind). HasLeaf bs t z (declared_leaf t)) s h.0)
-declared_get bs (y ∷ kinds) (z ∷ xs) (suc i) k e h = declared_get bs kinds xs i k e h.1
+    (z, refl, subst (λ (t : HeapType). HasLeaf bs t z (declared_leaf t)) s h.0)
+declared_get bs (y ∷ types) (z ∷ xs) (suc i) k e h = declared_get bs types xs i k e h.1
 
 module _ (p : ProgramModel) (w : World) (self : ℕ) (h : BlocksFit p w.blocks) (at field given held : ℕ)
     (owned_at : owns w.blocks self at ≡ true) (owned_given : owns w.blocks self given ≡ true) (apart : given ≢ at)
@@ -104,7 +104,7 @@ module _ (p : ProgramModel) (w : World) (self : ℕ) (h : BlocksFit p w.blocks) 
   pub kept_now : (P : ℕ → Type 0) → AreKept w.blocks bs' P
   kept_now P j some short = record {
     there = let e = long in omega arith;
-    kind = ap (λ (b : Block). b.kind) (is_at j);
+    ty = ap (λ (b : Block). b.ty) (is_at j);
     state = inl (ap (λ (b : Block). b.state) (is_at j));
   }
 
@@ -112,13 +112,13 @@ module _ (p : ProgramModel) (w : World) (self : ℕ) (h : BlocksFit p w.blocks) 
   fits_now = record {
     channels = channels_same p w.blocks bs' (let e = long in omega arith)
         (λ j short. record {
-          kind = ap (λ (b : Block). b.kind) (is_at j);
+          ty = ap (λ (b : Block). b.ty) (is_at j);
           peer = ap (λ (b : Block). b.peer) (is_at j);
           lives = λ l. sym (freed_now j) ∙ l;
           state = λ l. ap (λ (b : Block). b.state) (is_at j);
           queue = λ l. ap (λ (b : Block). b.queue) (is_at j);
         })
-        (λ j past. ap (λ (b : Block). is_end b.kind) (block_past bs' j (let e = long in omega arith))) h.channels;
+        (λ j past. ap (λ (b : Block). is_end b.ty) (block_past bs' j (let e = long in omega arith))) h.channels;
     queues = λ j x. ap (λ (b : Block). in_queue x b.queue) (is_at j) ∙ (h.queues j x ∙ sym (ap one_if (queue_now x j)));
     held = held_now;
   }
@@ -128,26 +128,26 @@ module _ (p : ProgramModel) (w : World) (self : ℕ) (h : BlocksFit p w.blocks) 
       (brought_kept p w.blocks bs' (block_at w.blocks j).queue cut_now (kept_now (λ x. 0 < in_queue x (block_at w.blocks j).queue))
       (were j))
 
-  kind_now : (j : ℕ) → (block_at bs' j).kind ≡ (block_at w.blocks j).kind
-  kind_now j = ap (λ (b : Block). b.kind) (is_at j)
+  type_now : (j : ℕ) → (block_at bs' j).ty ≡ (block_at w.blocks j).ty
+  type_now j = ap (λ (b : Block). b.ty) (is_at j)
 
   old_declared : FieldsDeclared p w.blocks → (a : ℕ) → a < length w.blocks → freed bs' a ≡ false
-      → AreDeclared bs' (field_kinds p.structs (block_at w.blocks a).kind) (block_at w.blocks a).fields
-  old_declared were a short lives = declared_kept w.blocks bs' (field_kinds p.structs (block_at w.blocks a).kind)
+      → AreDeclared bs' (field_types p.structs (block_at w.blocks a).ty) (block_at w.blocks a).fields
+  old_declared were a short lives = declared_kept w.blocks bs' (field_types p.structs (block_at w.blocks a).ty)
       (block_at w.blocks a).fields cut_now (kept_now _) (were a short (sym (freed_now a) ∙ lives))
 
-  pub declared_now : (k : HeapKind) → slice_get (field_kinds p.structs (block_at w.blocks at).kind) field ≡ Some k
+  pub declared_now : (k : HeapType) → slice_get (field_types p.structs (block_at w.blocks at).ty) field ≡ Some k
       → HasLeaf bs' k given (declared_leaf k) → FieldsDeclared p w.blocks → FieldsDeclared p bs'
   declared_now k is leaf were a within lives =
       let short : a < length w.blocks = let e = long in omega arith in
-      subst (λ (t : HeapKind). AreDeclared bs' (field_kinds p.structs t) (block_at bs' a).fields) (sym (kind_now a))
+      subst (λ (t : HeapType). AreDeclared bs' (field_types p.structs t) (block_at bs' a).fields) (sym (type_now a))
       (⊎_elim
-      (λ e. subst (λ (xs : List ℕ). AreDeclared bs' (field_kinds p.structs (block_at w.blocks a).kind) xs)
+      (λ e. subst (λ (xs : List ℕ). AreDeclared bs' (field_types p.structs (block_at w.blocks a).ty) xs)
       (sym (held_exchange.fields_at w.blocks self at field given held h.held owned_at owned_given apart found a e))
-      (declared_set bs' (field_kinds p.structs (block_at w.blocks a).kind) (block_at w.blocks a).fields field given k
-      (ap (λ (n : ℕ). slice_get (field_kinds p.structs (block_at w.blocks n).kind) field) e ∙ is) leaf
+      (declared_set bs' (field_types p.structs (block_at w.blocks a).ty) (block_at w.blocks a).fields field given k
+      (ap (λ (n : ℕ). slice_get (field_types p.structs (block_at w.blocks n).ty) field) e ∙ is) leaf
       (old_declared were a short lives)))
-      (λ n. subst (λ (xs : List ℕ). AreDeclared bs' (field_kinds p.structs (block_at w.blocks a).kind) xs)
+      (λ n. subst (λ (xs : List ℕ). AreDeclared bs' (field_types p.structs (block_at w.blocks a).ty) xs)
       (sym (held_exchange.fields_other w.blocks self at field given held h.held owned_at owned_given apart found a n))
       (old_declared were a short lives)) (cases_eq a at))
 

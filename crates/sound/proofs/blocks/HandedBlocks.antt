@@ -43,14 +43,14 @@ module _ (p : ProgramModel) (bs bs' : List Block) (self : ℕ) (given : List ℕ
   pub kept_handed : (P : ℕ → Type 0) → AreKept bs bs' P
   kept_handed P j some short = record {
     there = omega arith;
-    kind = ap (λ (b : Block). b.kind) (at j);
+    ty = ap (λ (b : Block). b.ty) (at j);
     state = inl (ap (λ (b : Block). b.state) (at j));
   }
 
   pub handed_channels : ChannelsFit p bs'
   handed_channels = channels_same p bs bs' (omega arith)
       (λ j short. record {
-        kind = ap (λ (b : Block). b.kind) (at j);
+        ty = ap (λ (b : Block). b.ty) (at j);
         peer = ap (λ (b : Block). b.peer) (at j);
         lives =
             λ l. sym (freed_handed j) ∙ l;
@@ -58,7 +58,7 @@ module _ (p : ProgramModel) (bs bs' : List Block) (self : ℕ) (given : List ℕ
         queue = λ l. ap (λ (b : Block). b.queue)
             (at j);
       })
-      (λ j past. ap (λ (b : Block). is_end b.kind) (block_past bs' j (omega arith))) h.channels
+      (λ j past. ap (λ (b : Block). is_end b.ty) (block_past bs' j (omega arith))) h.channels
 
   pub handed_queues : (j x : ℕ) → in_queue x (block_at bs' j).queue ≡ one_if (is_queue (block_at bs' x).owner j)
   handed_queues j x = ap (λ (b : Block). in_queue x b.queue) (at j)
@@ -76,7 +76,7 @@ module _ (p : ProgramModel) (bs bs' : List Block) (self : ℕ) (given : List ℕ
   handed_same = record {
     cut = cut_handed;
     kept = kept_handed (LiesInside bs);
-    kinds = λ j short. ap (λ (b : Block). b.kind) (at j);
+    types = λ j short. ap (λ (b : Block). b.ty) (at j);
     lives = λ j short l. sym (freed_handed j) ∙ l;
     fields = λ j short l. ap (λ (b : Block). b.fields) (at j);
   }

@@ -6,8 +6,8 @@ use Rattle.std.proofs.lemmas.List.{length-append}
 use Rattle.std.specs.Prelude.{if◌then◌else◌}
 use Rattle.program.specs.Lists.{is_among}
 use Rattle.program.specs.Programs.{ProgramModel}
-use Rattle.program.specs.WellFormed.{field_kinds, is_end}
-use Rattle.program.specs.declared.kind.HeapKind.{HeapKind}
+use Rattle.program.specs.WellFormed.{field_types, is_end}
+use Rattle.program.specs.declared.types.HeapType.{HeapType}
 use Rattle.machine.specs.Blocks.{handed}
 use Rattle.machine.specs.Heaps.{IsHeld}
 use Rattle.machine.specs.World.{Block, World, block_at, is_freed, is_process, owns}
@@ -20,7 +20,7 @@ use Rattle.sound.proofs.blocks.HandedBlocks as handing
 use Rattle.sound.proofs.Invariant.{one_if, one_at, standing_in, AreBrought, AreDeclared, BlocksFit, FieldsDeclared, StaysCutOff}
 use Rattle.sound.proofs.Kept.{AreKept, LiesInside, SameFields, fields_kept, occurs_standing}
 
-module _ (p : ProgramModel) (w : World) (self : ℕ) (h : BlocksFit p w.blocks) (given : List ℕ) (k : HeapKind)
+module _ (p : ProgramModel) (w : World) (self : ℕ) (h : BlocksFit p w.blocks) (given : List ℕ) (k : HeapType)
     (mine : (x : ℕ) → is_among given x ≡ true → owns w.blocks self x ≡ true)
     (once : (x : ℕ) → standing_in x given ≡ one_if (is_among given x)) (plain : is_end k ≡ false) where
   abbrev pub n : ℕ
@@ -80,7 +80,7 @@ module _ (p : ProgramModel) (w : World) (self : ℕ) (h : BlocksFit p w.blocks) 
       let old = block_append put (b ∷ []) a one.there in
       record {
         there = let more = length-append put (b ∷ []) in let t = one.there in omega arith;
-        kind = ap (λ (x : Block). x.kind) old ∙ one.kind;
+        ty = ap (λ (x : Block). x.ty) old ∙ one.ty;
         state = inl (ap (λ (x : Block). x.state) old ∙ ap (λ (x : Block). x.state) (at a));
       }
 
@@ -95,19 +95,19 @@ module _ (p : ProgramModel) (w : World) (self : ℕ) (h : BlocksFit p w.blocks) 
   fields_now = record {
     cut = cut_now;
     kept = kept_now (LiesInside w.blocks);
-    kinds = λ j short. ap (λ (x : Block). x.kind) (old j short);
+    types = λ j short. ap (λ (x : Block). x.ty) (old j short);
     lives = λ j short l.
         sym (handing.freed_handed p w.blocks put self given (Inside n) h mine refl (λ a. refl) long at j)
         ∙ (ap (λ (x : Block). is_freed x.owner) (at j ∙ sym (old j short)) ∙ l);
     fields = λ j short l. ap (λ (x : Block). x.fields) (old j short);
   }
 
-  pub declared_now : AreDeclared grown (field_kinds p.structs k) given → FieldsDeclared p w.blocks → FieldsDeclared p grown
+  pub declared_now : AreDeclared grown (field_types p.structs k) given → FieldsDeclared p w.blocks → FieldsDeclared p grown
   declared_now typed were j within lives = ⊎_elim
       (λ short. fields_kept p w.blocks grown j h.held fields_now were short lives)
       (λ past.
       let e : j ≡ n = let l = length-append put (b ∷ []) in let l2 = long in omega arith in
-      subst (λ (x : Block). AreDeclared grown (field_kinds p.structs x.kind) x.fields) (sym (ap (block_at grown) e ∙ last)) typed)
+      subst (λ (x : Block). AreDeclared grown (field_types p.structs x.ty) x.fields) (sym (ap (block_at grown) e ∙ last)) typed)
       (cases_lt j n)
 
   owns_put : (q j : ℕ) → owns put q j ≡ not (is_among given j) && owns w.blocks q j
@@ -147,8 +147,8 @@ module _ (p : ProgramModel) (w : World) (self : ℕ) (h : BlocksFit p w.blocks) 
           omega arith
 
   -- what is no end has nothing in its queue
-  pub plain_now : ((j : ℕ) → is_end (block_at w.blocks j).kind ≡ false → (block_at w.blocks j).queue ≡ [])
-      → (j : ℕ) → is_end (block_at grown j).kind ≡ false → (block_at grown j).queue ≡ []
+  pub plain_now : ((j : ℕ) → is_end (block_at w.blocks j).ty ≡ false → (block_at w.blocks j).queue ≡ [])
+      → (j : ℕ) → is_end (block_at grown j).ty ≡ false → (block_at grown j).queue ≡ []
   plain_now were j no_end = queue_append self put (b ∷ []) j fresh ∙ (ap (λ (x : Block). x.queue) (at j) ∙ ⊎_elim
-      (λ short. were j (sym (ap (λ (x : Block). is_end x.kind) (old j short)) ∙ no_end))
+      (λ short. were j (sym (ap (λ (x : Block). is_end x.ty) (old j short)) ∙ no_end))
       (λ past. ap (λ (x : Block). x.queue) (block_past w.blocks j past)) (cases_lt j n))

@@ -7,14 +7,14 @@ use Rattle.std.specs.Option.{option_map_or}
 use Rattle.std.specs.Prelude.{Option, ◌⊎◌, slice_get}
 use Rattle.program.specs.Parts.{ContractModel}
 use Rattle.program.specs.Programs.{ProgramModel}
-use Rattle.program.specs.declared.kind.HeapKind.TheVariants.{Endpoint}
-use Rattle.program.specs.declared.kind.Side.TheVariants.{Imp, Exp}
+use Rattle.program.specs.declared.types.HeapType.TheVariants.{Endpoint}
+use Rattle.program.specs.declared.types.Side.TheVariants.{Imp, Exp}
 use Rattle.program.specs.declared.statement.Channel as made
 use Rattle.contracts.specs.TwoEnds.{begun}
 use Rattle.rules.specs.Endpoints.{first_state}
-use Rattle.machine.specs.Blocks.{new_block, end_kind}
-use Rattle.program.specs.WellFormed.{field_kinds}
-use Rattle.program.specs.declared.kind.HeapKind.{HeapKind}
+use Rattle.machine.specs.Blocks.{new_block, end_type}
+use Rattle.program.specs.WellFormed.{field_types}
+use Rattle.program.specs.declared.types.HeapType.{HeapType}
 use Rattle.machine.specs.Heaps.{IsHeld}
 use Rattle.machine.specs.World.{Block, block_at, is_inside, is_process, is_queue, is_freed}
 use Rattle.sound.specs.Operands.{stateless}
@@ -23,7 +23,7 @@ use Rattle.sound.proofs.blocks.Blocks.{AreBare, AreFresh, held_append, same_appe
 use Rattle.sound.proofs.Kept.{fields_kept}
 use Rattle.sound.proofs.Invariant.{IsEndOf, ChannelFits, IsPeer, ChannelsFit, AreDeclared, FieldsDeclared}
 use Rattle.sound.proofs.Lists.{add_zero}
-use Rattle.sound.proofs.events.Moving.{kind_apart, same_contract}
+use Rattle.sound.proofs.events.Moving.{type_apart, same_contract}
 use Rattle.machine.proofs.ChangeLemmas.{eqb_apart}
 
 -- ---- old ends
@@ -37,7 +37,7 @@ old_imp p bs bs' j d more same old k =
       peer = k.peer;
       peer_is = ap (λ (b : Block). b.peer) sj ∙ k.peer_is;
       peer_there = omega arith;
-      peer_kind = ap (λ (b : Block). stateless b.kind) sp ∙ k.peer_kind;
+      peer_type = ap (λ (b : Block). stateless b.ty) sp ∙ k.peer_type;
       back = ap (λ (b : Block). b.peer) sp ∙ k.back;
       contract = k.contract;
       contract_there = k.contract_there;
@@ -58,8 +58,8 @@ old_exp bs bs' j d more same old k =
       peer = k.peer;
       peer_is = ap (λ (b : Block). b.peer) sj ∙ k.peer_is;
       peer_there = omega arith;
-      peer_kind =
-          ap (λ (b : Block). stateless b.kind) sp ∙ k.peer_kind;
+      peer_type =
+          ap (λ (b : Block). stateless b.ty) sp ∙ k.peer_type;
       back = ap (λ (b : Block). b.peer) sp ∙ k.back;
     }
 
@@ -72,10 +72,10 @@ module _ (p : ProgramModel) (bs : List Block) (self : ℕ) (c : made.Channel) (h
   start = first_state p c.contract.0
 
   abbrev pub b1 : Block
-  b1 = new_block (end_kind c Imp) self (n + 1) start []
+  b1 = new_block (end_type c Imp) self (n + 1) start []
 
   abbrev pub b2 : Block
-  b2 = new_block (end_kind c Exp) self n start []
+  b2 = new_block (end_type c Exp) self n start []
 
   abbrev pub bs' : List Block
   bs' = bs ++ b1 ∷ b2 ∷ []
@@ -137,7 +137,7 @@ module _ (p : ProgramModel) (bs : List Block) (self : ℕ) (c : made.Channel) (h
     peer = n + 1;
     peer_is = ap (λ (b : Block). b.peer) at1;
     peer_there = let l = long_now in omega arith;
-    peer_kind = ap (λ (b : Block). stateless b.kind) at2;
+    peer_type = ap (λ (b : Block). stateless b.ty) at2;
     back = ap (λ (b : Block). b.peer) at2;
     contract = held;
     contract_there = held_there;
@@ -155,44 +155,44 @@ module _ (p : ProgramModel) (bs : List Block) (self : ℕ) (c : made.Channel) (h
     peer = n;
     peer_is = ap (λ (b : Block). b.peer) at2;
     peer_there = let l = long_now in omega arith;
-    peer_kind =
-        ap (λ (b : Block). stateless b.kind) at1;
+    peer_type =
+        ap (λ (b : Block). stateless b.ty) at1;
     back = ap (λ (b : Block). b.peer) at1;
   }
 
-  pub kind1 : stateless (block_at bs' n).kind ≡ Endpoint record { 0 = c.contract.0 } Imp record { 0 = 0 }
-  kind1 = ap (λ (b : Block). stateless b.kind) at1
+  pub type1 : stateless (block_at bs' n).ty ≡ Endpoint record { 0 = c.contract.0 } Imp record { 0 = 0 }
+  type1 = ap (λ (b : Block). stateless b.ty) at1
 
-  pub kind2 : stateless (block_at bs' (n + 1)).kind ≡ Endpoint record { 0 = c.contract.0 } Exp record { 0 = 0 }
-  kind2 = ap (λ (b : Block). stateless b.kind) at2
+  pub type2 : stateless (block_at bs' (n + 1)).ty ≡ Endpoint record { 0 = c.contract.0 } Exp record { 0 = 0 }
+  type2 = ap (λ (b : Block). stateless b.ty) at2
 
   pub channels_now : ChannelsFit p bs'
   channels_now = record {
     imp = λ j d within is. ⊎_elim
         (λ short. old_imp p bs bs' j d (let l = long_now in omega arith) old short
-        (channels.imp j d short (sym (ap (λ (b : Block). stateless b.kind) (old j short)) ∙ is)))
+        (channels.imp j d short (sym (ap (λ (b : Block). stateless b.ty) (old j short)) ∙ is)))
         (λ past. ⊎_elim
         (λ e. subst (λ (i : ℕ). ChannelFits p bs' i d) (sym e)
         (subst (λ (i : ℕ). ChannelFits p bs' n i) (same_contract c.contract.0 d Imp
-        (sym kind1 ∙ (ap (λ (i : ℕ). stateless (block_at bs' i).kind) (sym e) ∙ is))) first_fits))
-        (λ e. absurd (kind_apart (block_at bs' (n + 1)).kind d c.contract.0
-        (ap (λ (i : ℕ). stateless (block_at bs' i).kind) (sym e) ∙ is) kind2)) (places j past within)) (cases_lt j n);
+        (sym type1 ∙ (ap (λ (i : ℕ). stateless (block_at bs' i).ty) (sym e) ∙ is))) first_fits))
+        (λ e. absurd (type_apart (block_at bs' (n + 1)).ty d c.contract.0
+        (ap (λ (i : ℕ). stateless (block_at bs' i).ty) (sym e) ∙ is) type2)) (places j past within)) (cases_lt j n);
     exp = λ j d within is. ⊎_elim
         (λ short. old_exp bs bs' j d (let l = long_now in omega arith) old short
-        (channels.exp j d short (sym (ap (λ (b : Block). stateless b.kind) (old j short)) ∙ is)))
+        (channels.exp j d short (sym (ap (λ (b : Block). stateless b.ty) (old j short)) ∙ is)))
         (λ past. ⊎_elim
-        (λ e. absurd (kind_apart (block_at bs' n).kind c.contract.0 d kind1 (ap (λ (i : ℕ). stateless (block_at bs' i).kind) (sym e) ∙ is)))
+        (λ e. absurd (type_apart (block_at bs' n).ty c.contract.0 d type1 (ap (λ (i : ℕ). stateless (block_at bs' i).ty) (sym e) ∙ is)))
         (λ e. subst (λ (i : ℕ). IsPeer bs' i d) (sym e) (subst (λ (i : ℕ). IsPeer bs' (n + 1) i)
-        (same_contract c.contract.0 d Exp (sym kind2 ∙ (ap (λ (i : ℕ). stateless (block_at bs' i).kind) (sym e) ∙ is))) second_fits))
+        (same_contract c.contract.0 d Exp (sym type2 ∙ (ap (λ (i : ℕ). stateless (block_at bs' i).ty) (sym e) ∙ is))) second_fits))
         (places j past within)) (cases_lt j n);
   }
 
   -- an end holds nothing
-  empty_end : (j : ℕ) (b : Block) → block_at bs' j ≡ b → field_kinds p.structs b.kind ≡ [] → b.fields ≡ []
-      → AreDeclared bs' (field_kinds p.structs (block_at bs' j).kind) (block_at bs' j).fields
-  empty_end j b is kinds fields =
-      subst (λ (x : Block). AreDeclared bs' (field_kinds p.structs x.kind) x.fields) (sym is)
-      (subst (λ (ks : List HeapKind). AreDeclared bs' ks b.fields) (sym kinds)
+  empty_end : (j : ℕ) (b : Block) → block_at bs' j ≡ b → field_types p.structs b.ty ≡ [] → b.fields ≡ []
+      → AreDeclared bs' (field_types p.structs (block_at bs' j).ty) (block_at bs' j).fields
+  empty_end j b is types fields =
+      subst (λ (x : Block). AreDeclared bs' (field_types p.structs x.ty) x.fields) (sym is)
+      (subst (λ (ks : List HeapType). AreDeclared bs' ks b.fields) (sym types)
       (subst (λ (xs : List ℕ). AreDeclared bs' [] xs) (sym fields) tt))
 
   pub declared_now : IsHeld bs → FieldsDeclared p bs → FieldsDeclared p bs'

@@ -13,7 +13,7 @@ use Rattle.program.specs.declared.method.Role.{Role}
 use Rattle.flow.specs.Graphs.{Instruction, Call}
 use Rattle.flow.specs.Lowering.{graph_of}
 use Rattle.rules.specs.Arguments.{claimed, given_before, all_arguments, target_checks, given_leaf}
-use Rattle.rules.specs.Endpoints.{parameter_kinds, result_of}
+use Rattle.rules.specs.Endpoints.{parameter_types, result_of}
 use Rattle.rules.specs.Mentions.{is_lent_role}
 use Rattle.rules.specs.Rows.{leaf_at}
 use Rattle.sound.proofs.Parameters.{each_argument}
@@ -56,7 +56,7 @@ lent_holds bs q mine before (x ∷ xs) (y ∷ ys) arguments h own =
   where
     by : (r : Role) → (as' : List Argument)
         → by_role r (AreLent bs mine before xs ys as')
-        (with_first (λ a. (a.claimed ≡ false) × IsLent bs x.kind (read mine a.mention.variable.0) y (leaf_at before a.mention.variable.0))
+        (with_first (λ a. (a.claimed ≡ false) × IsLent bs x.ty (read mine a.mention.variable.0) y (leaf_at before a.mention.variable.0))
         (AreLent bs mine before xs ys) as')
         (with_first (λ a. (a.claimed ≡ true) × (read mine a.mention.variable.0 ≡ None)) (AreLent bs mine before xs ys) as')
         → ((more : List Argument) → AreLent bs mine before xs ys more
@@ -130,7 +130,7 @@ lent_sum a bs mine before (x ∷ xs) (y ∷ ys) arguments h = by x.role argument
   where
     by : (r : Role) → (as' : List Argument)
         → by_role r (AreLent bs mine before xs ys as')
-        (with_first (λ a. (a.claimed ≡ false) × IsLent bs x.kind (read mine a.mention.variable.0) y (leaf_at before a.mention.variable.0))
+        (with_first (λ a. (a.claimed ≡ false) × IsLent bs x.ty (read mine a.mention.variable.0) y (leaf_at before a.mention.variable.0))
         (AreLent bs mine before xs ys) as')
         (with_first (λ a. (a.claimed ≡ true) × (read mine a.mention.variable.0 ≡ None)) (AreLent bs mine before xs ys) as')
         → ((more : List Argument) → AreLent bs mine before xs ys more → lent_in a xs ys ≡ standing_of a mine more)
@@ -158,13 +158,13 @@ waits_apart p bs g above w clean =
     let at : slice_get (graph_of w.m).instructions g.point ≡ Some i =
     sym (ap (λ (x : Option MethodModel). point_instruction x g.point) w.there) ∙ w.call in
     let same = outcome_at p g w.m i w.before w.there at in
-    let kinds = parameter_kinds p above.method in
+    let types = parameter_types p above.method in
     let left = claimed w.before w.arguments in
-    let all = all_arguments w.m w.before kinds w.arguments in
+    let all = all_arguments w.m w.before types w.arguments in
     let after = (w.next, given_leaf left (result_of p above.method) w.target) ∷ [] in
     let passed = all_pass (all ++ target_checks w.m left w.target) after
     (λ finding e. clean finding (record { at = (g.point, w.before); reached = w.reached; fails = same ∙ e })) in
-    pair_apart p w.m [] w.arguments (passed_left (given_before w.m [] w.arguments) (each_argument w.m w.before kinds w.arguments)
+    pair_apart p w.m [] w.arguments (passed_left (given_before w.m [] w.arguments) (each_argument w.m w.before types w.arguments)
     (passed_left all (target_checks w.m left w.target) passed))
 
 variables_are : (p : ProgramModel) (n : ℕ) (m : MethodModel) → method_at p n ≡ Some m → variables_of p n ≡ m.variables

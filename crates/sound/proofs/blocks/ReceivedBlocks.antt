@@ -6,14 +6,14 @@ use Rattle.std.specs.Prelude.{◌⊎◌, slice_get, if◌then◌else◌}
 use Rattle.program.specs.Lists.{is_among}
 use Rattle.program.specs.Parts.{ContractModel}
 use Rattle.program.specs.Programs.{ProgramModel}
-use Rattle.program.specs.declared.kind.HeapKind.TheVariants.{Endpoint}
-use Rattle.program.specs.declared.kind.Side.{Side}
+use Rattle.program.specs.declared.types.HeapType.TheVariants.{Endpoint}
+use Rattle.program.specs.declared.types.Side.{Side}
 use Rattle.contracts.specs.Bounds.{sign_to}
 use Rattle.contracts.specs.TwoEnds.{Leads}
 use Rattle.rules.specs.Endpoints.{brought}
 use Rattle.machine.specs.Blocks.{received_block}
 use Rattle.machine.specs.Heaps.{IsHeld}
-use Rattle.machine.specs.World.{no_kind, MessageHeld, Block, World, block_at, owns, freed, is_inside, is_process, is_queue, is_freed}
+use Rattle.machine.specs.World.{no_type, MessageHeld, Block, World, block_at, owns, freed, is_inside, is_process, is_queue, is_freed}
 use Rattle.machine.specs.World.{is_empty}
 use Rattle.machine.proofs.Holding.{held_same, process_no_queue, process_not_inside, queue_not_inside}
 use Rattle.machine.specs.World.{changed}
@@ -53,7 +53,7 @@ got_process false self q o = refl
 
 module _ (p : ProgramModel) (w : World) (self : ℕ) (h : BlocksFit p w.blocks) (a state' : ℕ) (m : MessageHeld) (ms : List MessageHeld)
     (c : ℕ) (side : Side) (owned : owns w.blocks self a ≡ true) (within : a < length w.blocks)
-    (kind : stateless (block_at w.blocks a).kind ≡ Endpoint record { 0 = c } side record { 0 = 0 })
+    (ty : stateless (block_at w.blocks a).ty ≡ Endpoint record { 0 = c } side record { 0 = 0 })
     (was : (block_at w.blocks a).queue ≡ m ∷ ms)
     (leads : (x : ContractModel) → slice_get p.contracts c ≡ Some x
     → Leads x.parts.edges record { 0 = (block_at w.blocks a).state } record { 0 = m.message } (sign_to side) record { 0 = state' })
@@ -65,7 +65,7 @@ module _ (p : ProgramModel) (w : World) (self : ℕ) (h : BlocksFit p w.blocks) 
     to = (block_at w.blocks a).peer
 
     peer : PeerIs w.blocks a c side
-    peer = peer_is p w.blocks a c side h.channels within kind
+    peer = peer_is p w.blocks a c side h.channels within ty
 
     counts : (x : ℕ) → standing_in x m.payload + in_queue x ms ≡ one_if (is_queue (block_at w.blocks x).owner a)
     counts x = sym (ap (in_queue x) was) ∙ h.queues a x
@@ -83,7 +83,7 @@ module _ (p : ProgramModel) (w : World) (self : ℕ) (h : BlocksFit p w.blocks) 
         ⊎_elim (λ t. absurd (let k = queued_within j (queued j t) in omega arith)) (λ f. f) (cases_Bool (is_among m.payload j)) in
         let e2 = eqb_apart j a (λ e. omega arith) in
         ap (λ (b : Bool). record {
-          kind = no_kind;
+          ty = no_type;
           owner = if b then Process self else Channel;
           peer = 0;
           state =
@@ -92,7 +92,7 @@ module _ (p : ProgramModel) (w : World) (self : ℕ) (h : BlocksFit p w.blocks) 
           fields = [];
         }) e1
         ∙ ap (λ (b : Bool). record {
-          kind = no_kind;
+          ty = no_type;
           owner = Channel;
           peer = 0;
           state = if b then state' else 0;
@@ -144,14 +144,14 @@ module _ (p : ProgramModel) (w : World) (self : ℕ) (h : BlocksFit p w.blocks) 
     kept_now P apart j some short =
         record {
           there = let e = long_now in omega arith;
-          kind = ap (λ (b : Block). b.kind) (at j);
+          ty = ap (λ (b : Block). b.ty) (at j);
           state = inl
               (state_other j (apart j some));
         }
 
     pub channels_now : ChannelsFit p got
-    channels_now = channels_move p w.blocks got a c side h.channels within kind
-        (process_not_freed (block_at w.blocks a).owner self owned) long_now (λ j. ap (λ (b : Block). b.kind) (at j))
+    channels_now = channels_move p w.blocks got a c side h.channels within ty
+        (process_not_freed (block_at w.blocks a).owner self owned) long_now (λ j. ap (λ (b : Block). b.ty) (at j))
         (λ j. ap (λ (b : Block). b.peer) (at j))
         (λ j l. sym (freed_now j) ∙ l) state_other (λ j n1 n2. queue_other j n1)
         (λ x there e. ends_take p x side (block_at w.blocks a) (block_at w.blocks to) (block_at got a) (block_at got to)
@@ -214,7 +214,7 @@ module _ (p : ProgramModel) (w : World) (self : ℕ) (h : BlocksFit p w.blocks) 
       cut = cut_now;
       kept = kept_now (LiesInside w.blocks) (λ j k e. true≢false k.1 (ap (λ (n : ℕ). is_inside (block_at w.blocks n).owner k.0) e
           ∙ process_not_inside (block_at w.blocks a).owner self k.0 owned));
-      kinds = λ j short. ap (λ (b : Block). b.kind) (at j);
+      types = λ j short. ap (λ (b : Block). b.ty) (at j);
       lives = λ j short l. sym (freed_now j) ∙ l;
       fields = λ j short l. ap (λ (b : Block). b.fields) (at j);
     }

@@ -6,15 +6,15 @@ use Rattle.std.specs.Prelude.{◌⊎◌, slice_get, if◌then◌else◌}
 use Rattle.program.specs.Lists.{is_among}
 use Rattle.program.specs.Parts.{ContractModel}
 use Rattle.program.specs.Programs.{ProgramModel}
-use Rattle.program.specs.declared.kind.HeapKind.TheVariants.{Endpoint}
-use Rattle.program.specs.declared.kind.Side.TheVariants.{Imp, Exp}
-use Rattle.program.specs.declared.kind.Side.{Side}
+use Rattle.program.specs.declared.types.HeapType.TheVariants.{Endpoint}
+use Rattle.program.specs.declared.types.Side.TheVariants.{Imp, Exp}
+use Rattle.program.specs.declared.types.Side.{Side}
 use Rattle.contracts.specs.Leaving.{sign_from}
 use Rattle.contracts.specs.TwoEnds.{Leads}
 use Rattle.rules.specs.Endpoints.{brought}
 use Rattle.machine.specs.Blocks.{sent_block}
 use Rattle.machine.specs.Heaps.{IsHeld}
-use Rattle.machine.specs.World.{no_kind, MessageHeld, Block, World, block_at, owns, freed, cut_off, is_inside, is_process, is_queue}
+use Rattle.machine.specs.World.{no_type, MessageHeld, Block, World, block_at, owns, freed, cut_off, is_inside, is_process, is_queue}
 use Rattle.machine.specs.World.{is_freed}
 use Rattle.machine.proofs.Holding.{held_same, process_no_queue, process_not_inside, owned_there}
 use Rattle.machine.specs.World.{is_empty, changed}
@@ -26,7 +26,7 @@ use Rattle.sound.proofs.Invariant.{one_if, BlocksFit, StaysCutOff, in_queue, Are
 use Rattle.sound.proofs.Invariant.{FieldsDeclared}
 use Rattle.sound.proofs.Kept.{AreKept, LiesInside, SameFields, all_fields_kept, brought_kept}
 use Rattle.sound.proofs.Lists.{and_true, both_true, each_append}
-use Rattle.sound.proofs.events.Moving.{EndsAre, is_alive, ends_send, channels_move, kind_apart, end_at}
+use Rattle.sound.proofs.events.Moving.{EndsAre, is_alive, ends_send, channels_move, type_apart, end_at}
 use Rattle.sound.specs.Queues.{other}
 use Rattle.machine.proofs.HeldExchange.{one_if_true}
 use Rattle.machine.proofs.ChangeLemmas.{changed_length, eqb_same, eqb_apart, true≢false}
@@ -35,29 +35,29 @@ use Rattle.rules.proofs.TransferLemmas.{of_not}
 -- the peer of an end
 pub record PeerIs (bs : List Block) (a c : ℕ) (side : Side) : Type 0 where
   pub there : (block_at bs a).peer < length bs
-  pub kind : stateless (block_at bs (block_at bs a).peer).kind ≡ Endpoint record { 0 = c } (other side) record { 0 = 0 }
+  pub ty : stateless (block_at bs (block_at bs a).peer).ty ≡ Endpoint record { 0 = c } (other side) record { 0 = 0 }
   pub back : (block_at bs (block_at bs a).peer).peer ≡ a
   pub apart : (block_at bs a).peer ≢ a
 
 pub peer_is : (p : ProgramModel) (bs : List Block) (a c : ℕ) (side : Side) → ChannelsFit p bs → a < length bs
-    → stateless (block_at bs a).kind ≡ Endpoint record { 0 = c } side record { 0 = 0 } → PeerIs bs a c side
-peer_is p bs a c Imp h within kind =
-    let k = h.imp a c within kind in
-    let to_kind = ap (λ (n : ℕ). stateless (block_at bs n).kind) k.peer_is ∙ k.peer_kind in
+    → stateless (block_at bs a).ty ≡ Endpoint record { 0 = c } side record { 0 = 0 } → PeerIs bs a c side
+peer_is p bs a c Imp h within ty =
+    let k = h.imp a c within ty in
+    let to_type = ap (λ (n : ℕ). stateless (block_at bs n).ty) k.peer_is ∙ k.peer_type in
     record {
       there = subst (λ (n : ℕ). n < length bs) (sym k.peer_is) k.peer_there;
-      kind = to_kind;
+      ty = to_type;
       back = ap (λ (n : ℕ). (block_at bs n).peer) k.peer_is ∙ k.back;
-      apart = λ e. kind_apart (block_at bs a).kind c c kind (ap (λ (n : ℕ). stateless (block_at bs n).kind) (sym e) ∙ to_kind);
+      apart = λ e. type_apart (block_at bs a).ty c c ty (ap (λ (n : ℕ). stateless (block_at bs n).ty) (sym e) ∙ to_type);
     }
-peer_is p bs a c Exp h within kind =
-    let k = h.exp a c within kind in
-    let to_kind = ap (λ (n : ℕ). stateless (block_at bs n).kind) k.peer_is ∙ k.peer_kind in
+peer_is p bs a c Exp h within ty =
+    let k = h.exp a c within ty in
+    let to_type = ap (λ (n : ℕ). stateless (block_at bs n).ty) k.peer_is ∙ k.peer_type in
     record {
       there = subst (λ (n : ℕ). n < length bs) (sym k.peer_is) k.peer_there;
-      kind = to_kind;
+      ty = to_type;
       back = ap (λ (n : ℕ). (block_at bs n).peer) k.peer_is ∙ k.back;
-      apart = λ e. kind_apart (block_at bs a).kind c c (ap (λ (n : ℕ). stateless (block_at bs n).kind) (sym e) ∙ to_kind) kind;
+      apart = λ e. type_apart (block_at bs a).ty c c (ap (λ (n : ℕ). stateless (block_at bs n).ty) (sym e) ∙ to_type) ty;
     }
 
 pub process_not_freed : (o : Owner) (q : ℕ) → is_process o q ≡ true → is_freed o ≡ false
@@ -90,7 +90,7 @@ handed_freed false gone to o = refl
 
 module _ (p : ProgramModel) (w : World) (self : ℕ) (h : BlocksFit p w.blocks) (a state' : ℕ) (m : MessageHeld) (c : ℕ) (side : Side)
     (owned : owns w.blocks self a ≡ true) (within : a < length w.blocks)
-    (kind : stateless (block_at w.blocks a).kind ≡ Endpoint record { 0 = c } side record { 0 = 0 })
+    (ty : stateless (block_at w.blocks a).ty ≡ Endpoint record { 0 = c } side record { 0 = 0 })
     (mine : (x : ℕ) → is_among m.payload x ≡ true → owns w.blocks self x ≡ true)
     (once : (x : ℕ) → standing_in x m.payload ≡ one_if (is_among m.payload x))
     (moves : (x : ContractModel) → slice_get p.contracts c ≡ Some x
@@ -107,7 +107,7 @@ module _ (p : ProgramModel) (w : World) (self : ℕ) (h : BlocksFit p w.blocks) 
     sent = changed (sent_block a state' to gone m) w.blocks
 
     pub peer : PeerIs w.blocks a c side
-    peer = peer_is p w.blocks a c side h.channels within kind
+    peer = peer_is p w.blocks a c side h.channels within ty
 
     pub at : (j : ℕ) → block_at sent j ≡ sent_block a state' to gone m j (block_at w.blocks j)
     at j = changed_all (sent_block a state' to gone m) w.blocks j (λ past.
@@ -117,7 +117,7 @@ module _ (p : ProgramModel) (w : World) (self : ℕ) (h : BlocksFit p w.blocks) 
         let e2 = eqb_apart j a (λ e. omega arith) in
         let e3 = eqb_apart j to (λ e. let t = peer.there in omega arith) in
         ap (λ (b : Bool). record {
-          kind = no_kind;
+          ty = no_type;
           owner = if b then handed_to gone to else Channel;
           peer = 0;
           state =
@@ -126,7 +126,7 @@ module _ (p : ProgramModel) (w : World) (self : ℕ) (h : BlocksFit p w.blocks) 
           fields = [];
         }) e1
         ∙ (ap (λ (b : Bool). record {
-          kind = no_kind;
+          ty = no_type;
           owner = Channel;
           peer = 0;
           state = if b then state' else 0;
@@ -135,7 +135,7 @@ module _ (p : ProgramModel) (w : World) (self : ℕ) (h : BlocksFit p w.blocks) 
           fields = [];
         }) e2
         ∙ ap (λ (b : Bool). record {
-          kind = no_kind;
+          ty = no_type;
           owner = Channel;
           peer = 0;
           state = 0;
@@ -204,7 +204,7 @@ module _ (p : ProgramModel) (w : World) (self : ℕ) (h : BlocksFit p w.blocks) 
     kept_now P apart j some short =
         record {
           there = let e = long_now in omega arith;
-          kind = ap (λ (b : Block). b.kind) (at j);
+          ty = ap (λ (b : Block). b.ty) (at j);
           state = inl
               (state_other j (apart j some));
         }
@@ -213,7 +213,7 @@ module _ (p : ProgramModel) (w : World) (self : ℕ) (h : BlocksFit p w.blocks) 
     alive = process_not_freed (block_at w.blocks a).owner self owned
 
     pub channels_now : ChannelsFit p sent
-    channels_now = channels_move p w.blocks sent a c side h.channels within kind alive long_now (λ j. ap (λ (b : Block). b.kind) (at j))
+    channels_now = channels_move p w.blocks sent a c side h.channels within ty alive long_now (λ j. ap (λ (b : Block). b.ty) (at j))
         (λ j. ap (λ (b : Block). b.peer) (at j)) (λ j l. sym (freed_now j) ∙ l)
         state_other (λ j n1 n2. queue_other j n2) moved
       where
@@ -300,7 +300,7 @@ module _ (p : ProgramModel) (w : World) (self : ℕ) (h : BlocksFit p w.blocks) 
       cut = cut_now;
       kept = kept_now (LiesInside w.blocks) (λ j k e. true≢false k.1 (ap (λ (n : ℕ). is_inside (block_at w.blocks n).owner k.0) e
           ∙ process_not_inside (block_at w.blocks a).owner self k.0 owned));
-      kinds = λ j short. ap (λ (b : Block). b.kind) (at j);
+      types = λ j short. ap (λ (b : Block). b.ty) (at j);
       lives = λ j short l. sym (freed_now j) ∙ l;
       fields = λ j short l. ap (λ (b : Block). b.fields) (at j);
     }

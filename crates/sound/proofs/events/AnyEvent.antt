@@ -8,8 +8,8 @@ use Rattle.program.specs.Lists.{Each, is_among}
 use Rattle.program.specs.Parts.{ContractModel}
 use Rattle.program.specs.Programs.{ProgramModel}
 use Rattle.program.specs.WellFormed.{is_end}
-use Rattle.program.specs.declared.kind.HeapKind.TheVariants.{Endpoint}
-use Rattle.program.specs.declared.kind.Side.{Side}
+use Rattle.program.specs.declared.types.HeapType.TheVariants.{Endpoint}
+use Rattle.program.specs.declared.types.Side.{Side}
 use Rattle.program.specs.declared.statement.Mention.{Mention}
 use Rattle.flow.specs.Cases.{EntranceModel, first_mentions, case_for}
 use Rattle.flow.specs.Graphs.{Switch}
@@ -29,7 +29,7 @@ use Rattle.sound.proofs.blocks.ReceivedBlocks as receiving
 use Rattle.sound.proofs.blocks.SentBlocks as sending
 use Rattle.sound.proofs.blocks.SentBlocks.{process_not_freed}
 use Rattle.sound.proofs.events.Sending.{end_is, sends_along, room_is}
-use Rattle.sound.proofs.blocks.AnyBlocks.{RunFits, IsFine, one_test, or_rest, some_is, no_edges, end_of_kind, own_at, lost_fits}
+use Rattle.sound.proofs.blocks.AnyBlocks.{RunFits, IsFine, one_test, or_rest, some_is, no_edges, end_of_type, own_at, lost_fits}
 use Rattle.sound.specs.Queues.{other}
 use Rattle.machine.specs.Instructions.{is_own, send_tests, send_from, edge_out, edge_in, has_room, receives, receives_at, closes_at}
 use Rattle.machine.specs.Instructions.{receives_from, event_of}
@@ -40,29 +40,29 @@ use Rattle.machine.proofs.ChangeLemmas.{true≢false}
 module _ (p : ProgramModel) (bound : Bounds) (w : World) (self : ℕ) (f : Frame) (rest : List Frame) (h : RunFits p w.blocks) where
   -- ---- Send
   sent_fits : (a state' : ℕ) (m : MessageHeld) (c : ℕ) (side : Side) (owned : owns w.blocks self a ≡ true)
-      (kind : stateless (block_at w.blocks a).kind ≡ Endpoint record { 0 = c } side record { 0 = 0 })
+      (ty : stateless (block_at w.blocks a).ty ≡ Endpoint record { 0 = c } side record { 0 = 0 })
       → ((x : ℕ) → is_among m.payload x ≡ true → owns w.blocks self x ≡ true)
       → ((x : ℕ) → standing_in x m.payload ≡ one_if (is_among m.payload x))
       → ((x : ContractModel) → slice_get p.contracts c ≡ Some x
       → ((cut_off w.blocks a ≡ true) × (state' ≡ (block_at w.blocks a).state))
       ⊎ Leads x.parts.edges record { 0 = (block_at w.blocks a).state } record { 0 = m.message } (sign_from side) record { 0 = state' })
       → RunFits p (changed (sent_block a state' (block_at w.blocks a).peer (freed w.blocks (block_at w.blocks a).peer) m) w.blocks)
-  sent_fits a state' m c side owned kind mine once moves =
+  sent_fits a state' m c side owned ty mine once moves =
       let within = owned_there w.blocks self a owned in
-      let at = sending.at p w self h.fits a state' m c side owned within kind mine once moves in
+      let at = sending.at p w self h.fits a state' m c side owned within ty mine once moves in
       record {
         fits = record {
-          channels = sending.channels_now p w self h.fits a state' m c side owned within kind mine once moves;
+          channels = sending.channels_now p w self h.fits a state' m c side owned within ty mine once moves;
           queues =
-              sending.queues_now p w self h.fits a state' m c side owned within kind mine once moves;
-          held = sending.held_now p w self h.fits a state' m c side owned within kind mine once moves;
+              sending.queues_now p w self h.fits a state' m c side owned within ty mine once moves;
+          held = sending.held_now p w self h.fits a state' m c side owned within ty mine once moves;
         };
         plain = λ j no_end.
-            let no : is_end (block_at w.blocks j).kind ≡ false = sym (ap (λ (b : Block). is_end b.kind) (at j)) ∙ no_end in
-            ⊎_elim (λ e. absurd (true≢false (end_of_kind (block_at w.blocks (block_at w.blocks a).peer).kind c (other side)
-            (sending.peer p w self h.fits a state' m c side owned within kind mine once moves).kind)
-            (ap (λ (n : ℕ). is_end (block_at w.blocks n).kind) (sym e) ∙ no)))
-            (λ n. sending.queue_other p w self h.fits a state' m c side owned within kind mine once moves j n ∙ h.plain j no)
+            let no : is_end (block_at w.blocks j).ty ≡ false = sym (ap (λ (b : Block). is_end b.ty) (at j)) ∙ no_end in
+            ⊎_elim (λ e. absurd (true≢false (end_of_type (block_at w.blocks (block_at w.blocks a).peer).ty c (other side)
+            (sending.peer p w self h.fits a state' m c side owned within ty mine once moves).ty)
+            (ap (λ (n : ℕ). is_end (block_at w.blocks n).ty) (sym e) ∙ no)))
+            (λ n. sending.queue_other p w self h.fits a state' m c side owned within ty mine once moves j n ∙ h.plain j no)
             (cases_eq j (block_at w.blocks a).peer);
       }
 
@@ -89,12 +89,12 @@ module _ (p : ProgramModel) (bound : Bounds) (w : World) (self : ℕ) (f : Frame
     abbrev Sends : Type 0
     Sends = (has_room p bound w self f rest to ≡ true) × RunFits p (changed (sent_block a state' to (freed w.blocks to) m) w.blocks)
 
-    end_sends : (c : ℕ) (side : Side) → stateless (block_at w.blocks a).kind ≡ Endpoint record { 0 = c } side record { 0 = 0 }
+    end_sends : (c : ℕ) (side : Side) → stateless (block_at w.blocks a).ty ≡ Endpoint record { 0 = c } side record { 0 = 0 }
         → cut_off w.blocks a || is_some edge ≡ true → Sends
-    end_sends c side kind may = (
+    end_sends c side ty may = (
       room_is longer p bound sound w self f rest a state' m c side h.fits.channels within
-          (process_not_freed (block_at w.blocks a).owner self owned) kind leads,
-      sent_fits a state' m c side owned kind mine once (λ y there.
+          (process_not_freed (block_at w.blocks a).owner self owned) ty leads,
+      sent_fits a state' m c side owned ty mine once (λ y there.
           ⊎_elim (λ k. inl (k, stays k)) (λ k. inr (leads k y there)) (cases_Bool (cut_off w.blocks a))),
     )
       where
@@ -105,24 +105,24 @@ module _ (p : ProgramModel) (bound : Bounds) (w : World) (self : ℕ) (f : Frame
             let is : state' ≡ t.0 =
             ap (λ (b : Bool). if b then (block_at w.blocks a).state else unwrap_or edge (block_at w.blocks a).state) k
             ∙ ap (λ (z : Option ℕ). unwrap_or z (block_at w.blocks a).state) t.1 in
-            sends_along p w.blocks a m.message state' c side kind (t.1 ∙ ap Some (sym is)) y there
+            sends_along p w.blocks a m.message state' c side ty (t.1 ∙ ap Some (sym is)) y there
 
     -- what is no end has no edge
-    plain_sends : is_end (block_at w.blocks a).kind ≡ false → cut_off w.blocks a || is_some edge ≡ true → Sends
+    plain_sends : is_end (block_at w.blocks a).ty ≡ false → cut_off w.blocks a || is_some edge ≡ true → Sends
     plain_sends no_end may =
         let cut : cut_off w.blocks a ≡ true =
         ⊎_elim (λ k. k) (λ k. absurd (true≢false (or_rest (cut_off w.blocks a) (is_some edge) k may)
-        (ap is_some (no_edges p (block_at w.blocks a).kind (block_at w.blocks a).state m.message no_end))))
+        (ap is_some (no_edges p (block_at w.blocks a).ty (block_at w.blocks a).state m.message no_end))))
         (cases_Bool (cut_off w.blocks a)) in
         let gone = (and_true (freed w.blocks to) (is_empty (block_at w.blocks a).queue) cut).0 in (
-          ap (λ (b : Bool). b || nat_lt (length (block_at w.blocks to).queue) (bound_of bound (block_at w.blocks to).kind)) gone,
+          ap (λ (b : Bool). b || nat_lt (length (block_at w.blocks to).queue) (bound_of bound (block_at w.blocks to).ty)) gone,
           lost_fits
               p bound w self f rest h a state' to (freed w.blocks to) m gone (stays cut) within mine,
         )
 
     sends : cut_off w.blocks a || is_some edge ≡ true → Sends
-    sends may = ⊎_elim (λ e. let k = end_is (block_at w.blocks a).kind e in end_sends k.c k.side k.is may) (λ e. plain_sends e may)
-        (cases_Bool (is_end (block_at w.blocks a).kind))
+    sends may = ⊎_elim (λ e. let k = end_is (block_at w.blocks a).ty e in end_sends k.c k.side k.is may) (λ e. plain_sends e may)
+        (cases_Bool (is_end (block_at w.blocks a).ty))
 
     pub send_fine : IsFine p (tested (send_tests p bound w self f rest a edge) (send_from p bound w self f rest a m edge vs' next))
     send_fine = one_test p (cut_off w.blocks a || is_some edge) F4 (test (has_room p bound w self f rest to) F6 ∷ []) _ (λ e. tt)
@@ -130,27 +130,27 @@ module _ (p : ProgramModel) (bound : Bounds) (w : World) (self : ℕ) (f : Frame
 
   -- ---- Switch
   received_fits : (a state' : ℕ) (m : MessageHeld) (ms : List MessageHeld) (c : ℕ) (side : Side) (owned : owns w.blocks self a ≡ true)
-      (kind : stateless (block_at w.blocks a).kind ≡ Endpoint record { 0 = c } side record { 0 = 0 })
+      (ty : stateless (block_at w.blocks a).ty ≡ Endpoint record { 0 = c } side record { 0 = 0 })
       → (block_at w.blocks a).queue ≡ m ∷ ms
       → ((x : ContractModel) → slice_get p.contracts c ≡ Some x
       → Leads x.parts.edges record { 0 = (block_at w.blocks a).state } record { 0 = m.message } (sign_to side) record { 0 = state' })
       → RunFits p (changed (received_block self a state' m ms) w.blocks)
-  received_fits a state' m ms c side owned kind was leads =
+  received_fits a state' m ms c side owned ty was leads =
       let within = owned_there w.blocks self a owned in
       record {
         fits = record {
-          channels = receiving.channels_now p w self h.fits a state' m ms c side owned within kind was leads;
+          channels = receiving.channels_now p w self h.fits a state' m ms c side owned within ty was leads;
           queues =
-              receiving.queues_now p w self h.fits a state' m ms c side owned within kind was leads;
-          held = receiving.held_now p w self h.fits a state' m ms c side owned within kind was leads;
+              receiving.queues_now p w self h.fits a state' m ms c side owned within ty was leads;
+          held = receiving.held_now p w self h.fits a state' m ms c side owned within ty was leads;
         };
         plain = λ j no_end.
-            let no : is_end (block_at w.blocks j).kind ≡ false =
-            sym (ap (λ (b : Block). is_end b.kind) (receiving.at p w self h.fits a state' m ms c side owned within kind was leads j))
+            let no : is_end (block_at w.blocks j).ty ≡ false =
+            sym (ap (λ (b : Block). is_end b.ty) (receiving.at p w self h.fits a state' m ms c side owned within ty was leads j))
             ∙ no_end in
-            ⊎_elim (λ e. absurd (true≢false (end_of_kind (block_at w.blocks a).kind c side kind)
-            (ap (λ (n : ℕ). is_end (block_at w.blocks n).kind) (sym e) ∙ no)))
-            (λ n. receiving.queue_other p w self h.fits a state' m ms c side owned within kind was leads j n ∙ h.plain j no) (cases_eq j a);
+            ⊎_elim (λ e. absurd (true≢false (end_of_type (block_at w.blocks a).ty c side ty)
+            (ap (λ (n : ℕ). is_end (block_at w.blocks n).ty) (sym e) ∙ no)))
+            (λ n. receiving.queue_other p w self h.fits a state' m ms c side owned within ty was leads j n ∙ h.plain j no) (cases_eq j a);
       }
 
   module _ (always : HeldAlways) (sound : IsSoundProgram p bound) (cases : List EntranceModel) where
@@ -159,9 +159,9 @@ module _ (p : ProgramModel) (bound : Bounds) (w : World) (self : ℕ) (f : Frame
         ms) w.blocks)
     takes_fits a m ms owned was =
         let state' = unwrap_or (edge_in p bound w self f rest a m.message) (block_at w.blocks a).state in
-        let end : is_end (block_at w.blocks a).kind ≡ true =
-        ⊎_elim (λ e. e) (λ e. absurd (empty_not m ms (sym (h.plain a e) ∙ was))) (cases_Bool (is_end (block_at w.blocks a).kind)) in
-        let k = end_is (block_at w.blocks a).kind end in
+        let end : is_end (block_at w.blocks a).ty ≡ true =
+        ⊎_elim (λ e. e) (λ e. absurd (empty_not m ms (sym (h.plain a e) ∙ was))) (cases_Bool (is_end (block_at w.blocks a).ty)) in
+        let k = end_is (block_at w.blocks a).ty end in
         let front = has_front always p bound sound w.blocks a k.c k.side h.fits.channels (owned_there w.blocks self a owned)
         (process_not_freed (block_at w.blocks a).owner self owned) k.is m ms was in
         let is : state' ≡ front.to = ap (λ (z : Option ℕ). unwrap_or z (block_at w.blocks a).state) front.edge_in in

@@ -7,7 +7,7 @@ use Rattle.std.specs.Prelude.{Option, slice_get}
 use Rattle.program.specs.Methods.{MethodModel, VariableModel}
 use Rattle.program.specs.Programs.{ProgramModel}
 use Rattle.program.specs.WellFormed.{is_parameter}
-use Rattle.program.specs.declared.kind.HeapKind.{HeapKind}
+use Rattle.program.specs.declared.types.HeapType.{HeapType}
 use Rattle.program.specs.declared.method.Role.TheVariants as role
 use Rattle.program.specs.declared.method.Role.{Role}
 use Rattle.flow.specs.Lowering.{graph_of}
@@ -37,7 +37,7 @@ filled_nothing : (xs : List VariableModel) (a : ℕ) → standing a (filled xs [
 filled_nothing [] a = refl
 filled_nothing (x ∷ xs) a = let e = filled_nothing xs a in omega arith
 
-local_leaf : (r : Role) (k : HeapKind) → is_parameter r ≡ false → entry_leaf r k ≡ leaf.Nothing
+local_leaf : (r : Role) (k : HeapType) → is_parameter r ≡ false → entry_leaf r k ≡ leaf.Nothing
 local_leaf role.Local k e = refl
 local_leaf role.Lent k e = absurd (cc)
 local_leaf role.Claimed k e = absurd (cc)
@@ -65,9 +65,9 @@ start_holds p m graphs entry =
     })
   where
     leaf_of : (v : ℕ) (y : VariableModel) → slice_get entry.method.variables v ≡ Some y
-        → leaf_at (map (λ z. entry_leaf z.role z.kind) entry.method.variables) v ≡ leaf.Nothing
-    leaf_of v y there = ap given (slice_get-map (λ (z : VariableModel). entry_leaf z.role z.kind) entry.method.variables v
-        ∙ ap (option_map (λ (z : VariableModel). entry_leaf z.role z.kind)) there) ∙ local_leaf y.role y.kind (entry.alone v y there)
+        → leaf_at (map (λ z. entry_leaf z.role z.ty) entry.method.variables) v ≡ leaf.Nothing
+    leaf_of v y there = ap given (slice_get-map (λ (z : VariableModel). entry_leaf z.role z.ty) entry.method.variables v
+        ∙ ap (option_map (λ (z : VariableModel). entry_leaf z.role z.ty)) there) ∙ local_leaf y.role y.ty (entry.alone v y there)
 
     stacks : (q : ℕ) → StackFits p [] (stack_at ((record {
       method = m;
@@ -79,13 +79,13 @@ start_holds p m graphs entry =
       record {
         m = entry.method;
         there = entry.there;
-        row = map (λ v. entry_leaf v.role v.kind) entry.method.variables;
+        row = map (λ v. entry_leaf v.role v.ty) entry.method.variables;
         reached = entry_reached p m entry.method entry.there;
         fits = record {
           long = filled_long entry.method.variables;
-          row_long = length-map entry.method.variables (λ (v : VariableModel). entry_leaf v.role v.kind);
-          each = λ v y there. subst (λ (z : Option ℕ). LeafFits [] y.kind z
-              (leaf_at (map (λ v. entry_leaf v.role v.kind) entry.method.variables) v)) (sym (filled_none entry.method.variables v))
+          row_long = length-map entry.method.variables (λ (v : VariableModel). entry_leaf v.role v.ty);
+          each = λ v y there. subst (λ (z : Option ℕ). LeafFits [] y.ty z
+              (leaf_at (map (λ v. entry_leaf v.role v.ty) entry.method.variables) v)) (sym (filled_none entry.method.variables v))
               (leaf_of v y there);
         };
       },

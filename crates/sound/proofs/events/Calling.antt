@@ -10,14 +10,14 @@ use Rattle.program.specs.Lists.{Each, is_among}
 use Rattle.program.specs.Methods.{MethodModel, VariableModel}
 use Rattle.program.specs.Programs.{ProgramModel}
 use Rattle.program.specs.declared.call.Argument.{Argument}
-use Rattle.program.specs.declared.kind.HeapKind.{HeapKind}
+use Rattle.program.specs.declared.types.HeapType.{HeapType}
 use Rattle.program.specs.declared.number.MethodId.{MethodId}
 use Rattle.program.specs.declared.statement.Mention.{Mention}
 use Rattle.flow.specs.Graphs.{Instruction, Call}
 use Rattle.flow.specs.Lowering.{graph_of}
 use Rattle.rules.specs.Arguments.{claimed, given_before, all_arguments, target_checks, given_leaf}
-use Rattle.rules.specs.Endpoints.{parameter_kinds, result_of}
-use Rattle.sound.proofs.Parameters.{parameters_of, kinds_among}
+use Rattle.rules.specs.Endpoints.{parameter_types, result_of}
+use Rattle.sound.proofs.Parameters.{parameters_of, types_among}
 use Rattle.rules.specs.Mentions.{is_lent}
 use Rattle.sound.proofs.Parameters.{each_argument}
 use Rattle.rules.specs.Steps.{entry_leaf, outcome, entry_of, method_entry}
@@ -102,19 +102,19 @@ taken_more vs taken a x (b ∷ arguments) once is apart h = (
 )
 
 module _ (p : ProgramModel) (bound : Bounds) (w : World) (self : ℕ) (f : Frame) (rest : List Frame) where
-  pub arguments_hold : (row : List Leaf) (kinds : List HeapKind) (taken : List ℕ) (arguments : List Argument)
+  pub arguments_hold : (row : List Leaf) (types : List HeapType) (taken : List ℕ) (arguments : List Argument)
       → ((y : ℕ) → standing y f.variables ≤ 1) → ((y v : ℕ) → read f.variables v ≡ Some y → owns w.blocks self y ≡ true)
-      → PairApart arguments → TakenApart f.variables taken arguments → ArgsFit w.blocks f.variables row kinds arguments
+      → PairApart arguments → TakenApart f.variables taken arguments → ArgsFit w.blocks f.variables row types arguments
       → AllHold (argument_tests p bound w self f rest taken arguments)
   arguments_hold row [] taken [] once own apart t fit = tt
   arguments_hold row [] taken (a ∷ arguments) once own apart t fit = absurd fit
-  arguments_hold row (k ∷ kinds) taken [] once own apart t fit = absurd fit
-  arguments_hold row (k ∷ kinds) taken (a ∷ arguments) once own apart t fit = (
+  arguments_hold row (k ∷ types) taken [] once own apart t fit = absurd fit
+  arguments_hold row (k ∷ types) taken (a ∷ arguments) once own apart t fit = (
     test_holds (is_own_still w.blocks self taken (read f.variables (number a))) (if a.claimed then F3 else F1)
         (ap (is_own_still w.blocks self taken) fit.0.is
         ∙ both_holds (owns w.blocks self fit.0.at) (is_among taken fit.0.at) (own fit.0.at (number a) fit.0.is)
         (not_taken taken fit.0.at (t.0 fit.0.at fit.0.is))),
-    arguments_hold row kinds (if a.claimed then address (read f.variables (number a)) ∷ taken else taken) arguments once own apart.1
+    arguments_hold row types (if a.claimed then address (read f.variables (number a)) ∷ taken else taken) arguments once own apart.1
         (by a.claimed) fit.1,
   )
     where
@@ -150,12 +150,12 @@ top_once p w self f rest y h is =
 
 -- the entry of a method is reached
 pub entry_reached : (p : ProgramModel) (n : ℕ) (x : MethodModel) → method_at p n ≡ Some x
-    → Reached (outcome p n) (entry_of p n) ((graph_of x).first, map (λ v. entry_leaf v.role v.kind) x.variables)
+    → Reached (outcome p n) (entry_of p n) ((graph_of x).first, map (λ v. entry_leaf v.role v.ty) x.variables)
 entry_reached p n x there = record { steps = []; path = ap method_entry there }
 
 -- arguments that are claimed are not lent to the caller
 pub claims_own : (p : ProgramModel) (m : MethodModel) (row : List Leaf) (xs : List VariableModel) (variables : List VariableModel)
-    (arguments : List Argument) → AreArguments variables xs arguments → Passed (each_argument m row (map (λ v. v.kind) xs) arguments)
+    (arguments : List Argument) → AreArguments variables xs arguments → Passed (each_argument m row (map (λ v. v.ty) xs) arguments)
     → Each (λ a. a.claimed ≡ true → is_lent m (number a) ≡ false) arguments
 claims_own p m row [] variables [] are h = tt
 claims_own p m row [] variables (a ∷ arguments) are h = absurd are
@@ -192,16 +192,16 @@ good_call p bound w self choice f rest m place method arguments target next h fi
     let x = g.callee in
     let vs = f.variables in
     let us = let_go vs arguments in
-    let kinds = parameter_kinds p method.0 in
-    let checks = all_arguments m h.row kinds arguments ++ target_checks m (claimed h.row arguments) target in
+    let types = parameter_types p method.0 in
+    let checks = all_arguments m h.row types arguments ++ target_checks m (claimed h.row arguments) target in
     let after = (next, given_leaf (claimed h.row arguments) (result_of p method.0) target) ∷ [] in
-    let passed = passed_left (all_arguments m h.row kinds arguments) (target_checks m (claimed h.row arguments) target)
+    let passed = passed_left (all_arguments m h.row types arguments) (target_checks m (claimed h.row arguments) target)
     (all_pass checks after h.passes) in
-    let before = passed_left (given_before m [] arguments) (each_argument m h.row kinds arguments) passed in
-    let each : Passed (each_argument m h.row (kinds_among x.variables) arguments) =
-    subst (λ (ks : List HeapKind). Passed (each_argument m h.row ks arguments))
-    (ap (λ (o : Option MethodModel). option_map_or (λ y. kinds_among y.variables) o []) g.there)
-    (passed_right (given_before m [] arguments) (each_argument m h.row kinds arguments) passed) in
+    let before = passed_left (given_before m [] arguments) (each_argument m h.row types arguments) passed in
+    let each : Passed (each_argument m h.row (types_among x.variables) arguments) =
+    subst (λ (ks : List HeapType). Passed (each_argument m h.row ks arguments))
+    (ap (λ (o : Option MethodModel). option_map_or (λ y. types_among y.variables) o []) g.there)
+    (passed_right (given_before m [] arguments) (each_argument m h.row types arguments) passed) in
     let apart = pair_apart p m [] arguments before in
     let args = args_fit p m w.blocks vs h.row (parameters_of x.variables) arguments h.fits g.arguments_fit each in
     let none = go_none vs arguments in
@@ -216,7 +216,7 @@ good_call p bound w self choice f rest m place method arguments target next h fi
     let back : kept_back p g' ≡ let_go us (as_claimed arguments) =
     ap (λ (o : Option Instruction). let_go us (as_claimed (call_arguments o))) at in
     tested_good p w (argument_tests p bound w self f rest [] arguments) _
-    (arguments_hold p bound w self f rest h.row (kinds_among x.variables) [] arguments (λ y. top_once p w self f rest y h.holds h.is)
+    (arguments_hold p bound w self f rest h.row (types_among x.variables) [] arguments (λ y. top_once p w self f rest y h.holds h.is)
     (λ y v i. top_owned p w self f rest y v h.holds h.is i) apart (none_taken vs arguments) args)
     (subst (λ (t : Frame). IsGood p w (Moved record { processes = set w.processes self (t ∷ g' ∷ rest); blocks = w.blocks }))
     (sym (ap (λ (o : Option MethodModel). entered_at o method.0 (given_of vs arguments)) g.there)) (
@@ -224,7 +224,7 @@ good_call p bound w self choice f rest m place method arguments target next h fi
         record {
           m = x;
           there = g.there;
-          row = map (λ v. entry_leaf v.role v.kind) x.variables;
+          row = map (λ v. entry_leaf v.role v.ty) x.variables;
           reached =
               entry_reached p method.0 x g.there;
           fits = e.fits;

@@ -100,7 +100,7 @@ module _ (p : ProgramModel) (w : World) (self : ℕ) (h : BlocksFit p w.blocks) 
   kept_all : (P : ℕ → Type 0) → AreKept w.blocks bs' P
   kept_all P j some short = record {
     there = let e = long in omega arith;
-    kind = ap (λ (b : Block). b.kind) (at j);
+    ty = ap (λ (b : Block). b.ty) (at j);
     state = inl (ap (λ (b : Block). b.state) (at j));
   }
 
@@ -130,13 +130,13 @@ module _ (p : ProgramModel) (w : World) (self : ℕ) (h : BlocksFit p w.blocks) 
   pub channels : ChannelsFit p bs'
   channels = channels_same p w.blocks bs' (let e = long in omega arith)
       (λ j short. record {
-        kind = ap (λ (b : Block). b.kind) (at j);
+        ty = ap (λ (b : Block). b.ty) (at j);
         peer = ap (λ (b : Block). b.peer) (at j);
         lives = λ l. (lived j l).1;
         state = λ l. ap (λ (b : Block). b.state) (at j);
         queue = λ l. queue_other j (lived j l).0;
       })
-      (λ j past. ap (λ (b : Block). is_end b.kind) (block_past bs' j (let e = long in omega arith)))
+      (λ j past. ap (λ (b : Block). is_end b.ty) (block_past bs' j (let e = long in omega arith)))
       h.channels
 
   pub queues : (j x : ℕ) → in_queue x (block_at bs' j).queue ≡ one_if (is_queue (block_at bs' x).owner j)
@@ -162,7 +162,7 @@ module _ (p : ProgramModel) (w : World) (self : ℕ) (h : BlocksFit p w.blocks) 
   fields_now = record {
     cut = cut;
     kept = kept_all (LiesInside w.blocks);
-    kinds = λ j short. ap (λ (b : Block). b.kind) (at j);
+    types = λ j short. ap (λ (b : Block). b.ty) (at j);
     lives = λ j short l. (lived j l).1;
     fields = λ j short l. fields_stay w.blocks a h.held own j (lived j l).0;
   }

@@ -3,9 +3,9 @@ use Rattle.std.proofs.Common.{◌≡◌, ◌≢◌, ◌==◌, ◌&&◌, ℕ, ◌
 use Rattle.std.specs.Prelude.{Option, ◌||◌, slice_get}
 use Rattle.program.specs.Methods.{MethodModel, VariableModel}
 use Rattle.program.specs.Programs.{ProgramModel}
-use Rattle.program.specs.WellFormed.{field_kinds}
-use Rattle.program.specs.declared.kind.HeapKind.{HeapKind}
-use Rattle.program.specs.declared.kind.HeapKind.TheVariants.{Struct, Array, Endpoint}
+use Rattle.program.specs.WellFormed.{field_types}
+use Rattle.program.specs.declared.types.HeapType.{HeapType}
+use Rattle.program.specs.declared.types.HeapType.TheVariants.{Struct, Array, Endpoint}
 use Rattle.program.specs.declared.statement.Exchange as stated
 use Rattle.flow.specs.Graphs.{Exchange}
 use Rattle.rules.specs.Arguments.{field_checks, payload}
@@ -30,15 +30,15 @@ use Rattle.sound.proofs.Invariant.{HasLeaf, standing, blocks_fit}
 use Rattle.sound.proofs.Kept.{goes_on, leaf_kept, lent_stays_set, on_world, row_kept, some_same}
 use Rattle.sound.proofs.Lists.{not_false}
 use Rattle.sound.proofs.Parameters.{field_known}
-use Rattle.sound.proofs.Quiet.{contains_first, fits_kind, own_holds}
+use Rattle.sound.proofs.Quiet.{contains_first, fits_type, own_holds}
 use Rattle.sound.proofs.blocks.SentBlocks.{process_not_freed}
 use Rattle.machine.specs.Instructions.{event_of, exchanges, is_own}
 use Rattle.machine.proofs.ChangeLemmas.{eqb_same, eqb_apart, true≢false}
 
--- the state of a kind says nothing of fields
-fields_stateless : (p : ProgramModel) (j k : HeapKind) → stateless j ≡ stateless k
-    → field_kinds p.structs j ≡ field_kinds p.structs k
-fields_stateless p (Struct a) (Struct b) e = ap (λ (k : HeapKind). field_kinds p.structs k) e
+-- the state of a type says nothing of fields
+fields_stateless : (p : ProgramModel) (j k : HeapType) → stateless j ≡ stateless k
+    → field_types p.structs j ≡ field_types p.structs k
+fields_stateless p (Struct a) (Struct b) e = ap (λ (k : HeapType). field_types p.structs k) e
 fields_stateless p (Struct a) (Array t) e = absurd (cc)
 fields_stateless p (Struct a) (Endpoint c s q) e = absurd (cc)
 fields_stateless p (Array t) (Struct a) e = absurd (cc)
@@ -69,12 +69,12 @@ good_exchange p bound w self choice f rest m e next h fit =
     let hv = e.holder.variable.0 in
     let xv = e.given.variable.0 in
     let g = fit h.graph in
-    let k = g.kind in
-    let kind_is : field_of p m hv e.field ≡ Some k = field_known m p hv e.field g.holder g.holder_there ∙ g.field_there in
+    let k = g.ty in
+    let type_is : field_of p m hv e.field ≡ Some k = field_known m p hv e.field g.holder g.holder_there ∙ g.field_there in
     let row' = set h.row xv (declared_leaf k) in
     let checks = is_another m e.holder e.given ∷ has_something m h.row e.holder ∷ field_checks m h.row k (payload e.given) in
     let passed = all_pass checks ((next, row') ∷ []) (λ finding q. h.passes finding
-    (ap (λ (o : Option HeapKind). exchanged p m h.row e next o) kind_is ∙ q)) in
+    (ap (λ (o : Option HeapType). exchanged p m h.row e next o) type_is ∙ q)) in
     let other = not_refused (hv == xv) _ passed.0 in
     let h_owned = not_false (is_owned h.row hv) (not_refused (not (is_owned h.row hv)) _ passed.1.0) in
     let x_own = not_refused (is_lent m xv) _ passed.1.1.0 in
@@ -90,12 +90,12 @@ good_exchange p bound w self choice f rest m e next h fit =
     subst (λ (n : ℕ). HasLeaf w.blocks k n (declared_leaf k)) same_given arg.leaf in
     let apart : given ≢ a = λ s. true≢false (eqb_same hv xv (no_copies vs hv xv a (top_once p w self f rest a h.holds h.is) o.is
     (x.is ∙ ap Some s))) other in
-    let kinds_same : field_kinds p.structs (block_at w.blocks a).kind ≡ field_kinds p.structs g.holder.kind =
-    fields_stateless p (block_at w.blocks a).kind o.variable.kind o.leaf.kind
-    ∙ ap (λ (v : VariableModel). field_kinds p.structs v.kind) (some_same o.variable g.holder (sym o.there ∙ g.holder_there)) in
-    let is : slice_get (field_kinds p.structs (block_at w.blocks a).kind) e.field ≡ Some k =
-    ap (λ (kinds : List HeapKind). slice_get kinds e.field) kinds_same ∙ g.field_there in
-    let got = declared_get w.blocks (field_kinds p.structs (block_at w.blocks a).kind) (block_at w.blocks a).fields e.field k is
+    let types_same : field_types p.structs (block_at w.blocks a).ty ≡ field_types p.structs g.holder.ty =
+    fields_stateless p (block_at w.blocks a).ty o.variable.ty o.leaf.ty
+    ∙ ap (λ (v : VariableModel). field_types p.structs v.ty) (some_same o.variable g.holder (sym o.there ∙ g.holder_there)) in
+    let is : slice_get (field_types p.structs (block_at w.blocks a).ty) e.field ≡ Some k =
+    ap (λ (types : List HeapType). slice_get types e.field) types_same ∙ g.field_there in
+    let got = declared_get w.blocks (field_types p.structs (block_at w.blocks a).ty) (block_at w.blocks a).fields e.field k is
     (h.holds.declared a o.leaf.there (process_not_freed (block_at w.blocks a).owner self o.owned)) in
     let held = got.0 in
     let found = got.1 in
@@ -108,11 +108,11 @@ good_exchange p bound w self choice f rest m e next h fit =
     let leaf_given = leaf_kept w.blocks bs k given (declared_leaf k) cut (kept (λ j. j ≡ given) given refl given_leaf.there) given_leaf in
     let fits' = row_set bs m.variables vs h.row xv (Some held) (declared_leaf k)
     (row_kept w.blocks bs m.variables vs h.row cut (kept (λ j. 0 < standing j vs)) h.fits)
-    (λ y there. fits_kind bs k y.kind (Some held) (declared_leaf k)
-    (sym (ap (λ (z : VariableModel). stateless z.kind) (some_same y g.given.variable (sym there ∙ g.given.there)) ∙ g.given.kind))
+    (λ y there. fits_type bs k y.ty (Some held) (declared_leaf k)
+    (sym (ap (λ (z : VariableModel). stateless z.ty) (some_same y g.given.variable (sym there ∙ g.given.there)) ∙ g.given.ty))
     held_leaf) in
     let reached = h.onward ((next, row') ∷ []) (next, row')
-    (ap (λ (o : Option HeapKind). exchanged p m h.row e next o) kind_is ∙ passed_goes checks ((next, row') ∷ []) passed)
+    (ap (λ (o : Option HeapType). exchanged p m h.row e next o) type_is ∙ passed_goes checks ((next, row') ∷ []) passed)
     (contains_first (next, row') []) in
     let tests = test (is_own p bound w self f rest (read vs hv)) F1
     ∷ test (is_own_still w.blocks self (address (read vs hv) ∷ []) (read vs xv)) F3 ∷ [] in

@@ -10,7 +10,7 @@ use Rattle.program.specs.Lists.{Each, is_among}
 use Rattle.program.specs.Methods.{VariableModel}
 use Rattle.program.specs.WellFormed.{is_parameter}
 use Rattle.program.specs.declared.call.Argument.{Argument}
-use Rattle.program.specs.declared.kind.HeapKind.{HeapKind}
+use Rattle.program.specs.declared.types.HeapType.{HeapType}
 use Rattle.program.specs.declared.method.Role.TheVariants as role
 use Rattle.program.specs.declared.method.Role.{Role}
 use Rattle.rules.specs.Arguments.{claimed}
@@ -27,7 +27,7 @@ use Rattle.sound.proofs.Arguments.{NotClaimed, standing_of, go_long, go_other, n
 use Rattle.sound.proofs.Checks.{Passed, number}
 use Rattle.sound.proofs.events.Entering.{WasGood}
 use Rattle.sound.proofs.Invariant.{HasLeaf, LeafFits, RowFits, one_at, standing, as_claimed, AreLent, IsLent, by_role, with_first}
-use Rattle.sound.proofs.Quiet.{fits_kind, kind_same}
+use Rattle.sound.proofs.Quiet.{fits_type, type_same}
 use Rattle.rules.proofs.RowLemmas.{claimed_size}
 use Rattle.machine.proofs.ChangeLemmas.{eqb_same, true≢false}
 
@@ -63,7 +63,7 @@ away (a ∷ arguments) u h =
     ((λ c same. true≢false (eqb_same (number a) u same) k.0), away arguments u k.1)
 
 abbrev pub FitsAt : List Block → List VariableModel → List (Option ℕ) → List Leaf → ℕ → Type 0
-FitsAt bs variables vs row u = (y : VariableModel) → slice_get variables u ≡ Some y → LeafFits bs y.kind (read vs u) (leaf_at row u)
+FitsAt bs variables vs row u = (y : VariableModel) → slice_get variables u ≡ Some y → LeafFits bs y.ty (read vs u) (leaf_at row u)
 
 pub put_back : (bs : List Block) (variables : List VariableModel) (vs : List (Option ℕ)) (row : List Leaf) (arguments : List Argument)
     → RowFits bs variables (let_go vs (as_claimed arguments)) (claimed row (as_claimed arguments))
@@ -76,17 +76,17 @@ put_back bs variables vs row arguments h back = record {
   where
     by : (u : ℕ) (y : VariableModel) → slice_get variables u ≡ Some y
         → (is_among (numbers arguments) u ≡ true) ⊎ (is_among (numbers arguments) u ≡ false)
-        → LeafFits bs y.kind (read vs u) (leaf_at row u)
+        → LeafFits bs y.ty (read vs u) (leaf_at row u)
     by u y there (inl has) = each_number (FitsAt bs variables vs row) arguments u back has y there
     by u y there (inr out) =
-        subst (λ (x : Option ℕ). LeafFits bs y.kind x (leaf_at row u)) (go_other vs (as_claimed arguments) u (away arguments u out))
-        (subst (λ (l : Leaf). LeafFits bs y.kind (read (let_go vs (as_claimed arguments)) u) l)
+        subst (λ (x : Option ℕ). LeafFits bs y.ty x (leaf_at row u)) (go_other vs (as_claimed arguments) u (away arguments u out))
+        (subst (λ (l : Leaf). LeafFits bs y.ty (read (let_go vs (as_claimed arguments)) u) l)
         (row_other row (as_claimed arguments) u (away arguments u out)) (h.each u y there))
 
 -- what a lent parameter has where its method ends
 abbrev pub LentEnds : List Block → List VariableModel → List (Option ℕ) → Type 0
 LentEnds bs xs ys = (u : ℕ) (x : VariableModel) (at : ℕ) → slice_get xs u ≡ Some x → is_lent_role x.role ≡ true → read ys u ≡ Some at
-    → HasLeaf bs x.kind at (declared_leaf x.kind)
+    → HasLeaf bs x.ty at (declared_leaf x.ty)
 
 -- a variable that was given, after the call
 pub record GivenBack (bs : List Block) (variables : List VariableModel) (mine : List (Option ℕ)) (before : List Leaf)
@@ -94,12 +94,12 @@ pub record GivenBack (bs : List Block) (variables : List VariableModel) (mine : 
   pub gone : a.claimed ≡ true → read mine (number a) ≡ None
   pub lent : a.claimed ≡ false
       → (at : ℕ) × (read mine (number a) ≡ Some at)
-      × ((y : VariableModel) → slice_get variables (number a) ≡ Some y → HasLeaf bs y.kind at (leaf_at before (number a)))
+      × ((y : VariableModel) → slice_get variables (number a) ≡ Some y → HasLeaf bs y.ty at (leaf_at before (number a)))
 
-pub was_has : (bs : List Block) (k : HeapKind) (a : ℕ) (l : Leaf) → HasLeaf bs k a (declared_leaf k) → WasGood bs k a l → HasLeaf bs k a l
+pub was_has : (bs : List Block) (k : HeapType) (a : ℕ) (l : Leaf) → HasLeaf bs k a (declared_leaf k) → WasGood bs k a l → HasLeaf bs k a l
 was_has bs k a l h (inl e) = subst (λ (x : Leaf). HasLeaf bs k a x) (sym e) h
 was_has bs k a l h (inr c) =
-    subst (λ (x : Leaf). HasLeaf bs k a x) (sym c.0) (record { there = h.there; kind = h.kind; state = (c.1, c.2) })
+    subst (λ (x : Leaf). HasLeaf bs k a x) (sym c.0) (record { there = h.there; ty = h.ty; state = (c.1, c.2) })
 
 pub all_back : (bs : List Block) (variables : List VariableModel) (mine : List (Option ℕ)) (before : List Leaf) (xs : List VariableModel)
     (ys : List (Option ℕ)) (arguments : List Argument)
@@ -115,7 +115,7 @@ all_back bs variables mine before (x ∷ xs) (y ∷ ys) arguments are ends h =
     by : (r : Role) → x.role ≡ r → (as' : List Argument)
         → AreArguments variables (if is_parameter r then x ∷ parameters_of xs else parameters_of xs) as'
         → by_role r (AreLent bs mine before xs ys as')
-        (with_first (λ a. (a.claimed ≡ false) × IsLent bs x.kind (read mine a.mention.variable.0) y (leaf_at before a.mention.variable.0))
+        (with_first (λ a. (a.claimed ≡ false) × IsLent bs x.ty (read mine a.mention.variable.0) y (leaf_at before a.mention.variable.0))
         (AreLent bs mine before xs ys) as')
         (with_first (λ a. (a.claimed ≡ true) × (read mine a.mention.variable.0 ≡ None)) (AreLent bs mine before xs ys) as')
         → ((more : List Argument) → AreArguments variables (parameters_of xs) more → AreLent bs mine before xs ys more
@@ -129,9 +129,9 @@ all_back bs variables mine before (x ∷ xs) (y ∷ ys) arguments are ends h =
           l.0.1.at,
           l.0.1.mine_is,
           λ z there.
-              fits_kind bs x.kind z.kind (Some l.0.1.at) (leaf_at before (number a))
-              (sym (kind_same variables (number a) x.kind z k.0.0 there))
-              (was_has bs x.kind l.0.1.at (leaf_at before (number a))
+              fits_type bs x.ty z.ty (Some l.0.1.at) (leaf_at before (number a))
+              (sym (type_same variables (number a) x.ty z k.0.0 there))
+              (was_has bs x.ty l.0.1.at (leaf_at before (number a))
               (ends 0 x l.0.1.at refl (ap is_lent_role is) l.0.1.theirs_is) l.0.1.leaf),
         );
       },
@@ -150,13 +150,13 @@ fits_back bs variables mine before total (a ∷ arguments) h n z =
     (λ y there. by y there (cases_Bool a.claimed), fits_back bs variables mine before total arguments h.1 n.1 z.1)
   where
     by : (y : VariableModel) → slice_get variables (number a) ≡ Some y → (a.claimed ≡ true) ⊎ (a.claimed ≡ false)
-        → LeafFits bs y.kind (read mine (number a)) (leaf_at (claimed before total) (number a))
-    by y there (inl c) = subst (λ (x : Option ℕ). LeafFits bs y.kind x (leaf_at (claimed before total) (number a))) (sym (h.0.gone c))
+        → LeafFits bs y.ty (read mine (number a)) (leaf_at (claimed before total) (number a))
+    by y there (inl c) = subst (λ (x : Option ℕ). LeafFits bs y.ty x (leaf_at (claimed before total) (number a))) (sym (h.0.gone c))
         (z.0 c)
     by y there (inr c) =
         let b = h.0.lent c in
-        subst (λ (x : Option ℕ). LeafFits bs y.kind x (leaf_at (claimed before total) (number a))) (sym b.1)
-        (subst (λ (l : Leaf). HasLeaf bs y.kind b.0 l) (sym (row_other before total (number a) (n.0 c))) (b.2 y there))
+        subst (λ (x : Option ℕ). LeafFits bs y.ty x (leaf_at (claimed before total) (number a))) (sym b.1)
+        (subst (λ (l : Leaf). HasLeaf bs y.ty b.0 l) (sym (row_other before total (number a) (n.0 c))) (b.2 y there))
 
 -- where all but the lent parameters are none, what stands in a frame is what was lent to it
 pub lent_counts : (bs : List Block) (mine : List (Option ℕ)) (before : List Leaf) (xs : List VariableModel) (ys : List (Option ℕ))
@@ -173,7 +173,7 @@ lent_counts bs mine before (x ∷ xs) (y ∷ ys) arguments n long none h =
   where
     by : (r : Role) → x.role ≡ r → (as' : List Argument)
         → by_role r (AreLent bs mine before xs ys as')
-        (with_first (λ a. (a.claimed ≡ false) × IsLent bs x.kind (read mine a.mention.variable.0) y (leaf_at before a.mention.variable.0))
+        (with_first (λ a. (a.claimed ≡ false) × IsLent bs x.ty (read mine a.mention.variable.0) y (leaf_at before a.mention.variable.0))
         (AreLent bs mine before xs ys) as')
         (with_first (λ a. (a.claimed ≡ true) × (read mine a.mention.variable.0 ≡ None)) (AreLent bs mine before xs ys) as')
         → ((more : List Argument) → AreLent bs mine before xs ys more → standing n ys ≡ standing_of n mine more)

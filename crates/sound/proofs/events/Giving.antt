@@ -8,7 +8,7 @@ use Rattle.source.specs.declared.place.Place.{Place}
 use Rattle.program.specs.Lists.{Each, is_among}
 use Rattle.program.specs.Methods.{MethodModel, VariableModel}
 use Rattle.program.specs.declared.call.Argument.{Argument}
-use Rattle.program.specs.declared.kind.HeapKind.{HeapKind}
+use Rattle.program.specs.declared.types.HeapType.{HeapType}
 use Rattle.program.specs.declared.statement.Mention.{Mention}
 use Rattle.rules.specs.Arguments.{payload}
 use Rattle.rules.specs.Endpoints.{declared_leaf, is_wrong}
@@ -18,7 +18,7 @@ use Rattle.sound.proofs.Parameters.{each_taken}
 use Rattle.rules.specs.declared.row.Leaf.{Leaf}
 use Rattle.machine.specs.Frames.{address, payloads_claimed, addresses}
 use Rattle.machine.specs.World.{Block, read, owns, let_go}
-use Rattle.sound.specs.Operands.{AreOfKinds}
+use Rattle.sound.specs.Operands.{AreOfTypes}
 use Rattle.sound.proofs.Arguments.{PairApart, standing_of, go_counts, claimed_of, or_right, or_false}
 use Rattle.sound.proofs.events.Calling.{no_copies}
 use Rattle.sound.proofs.Checks.{Passed, not_refused, number}
@@ -33,13 +33,13 @@ abbrev pub given : List (Option ℕ) → List Argument → List ℕ
 given vs arguments = addresses vs arguments
 
 -- an address that is given stands in a variable of an argument
-pub given_some : (bs : List Block) (vs : List (Option ℕ)) (row : List Leaf) (kinds : List HeapKind) (arguments : List Argument) (a : ℕ)
-    → ArgsFit bs vs row kinds arguments → standing_in a (given vs arguments) ≡ standing_of a vs arguments
+pub given_some : (bs : List Block) (vs : List (Option ℕ)) (row : List Leaf) (types : List HeapType) (arguments : List Argument) (a : ℕ)
+    → ArgsFit bs vs row types arguments → standing_in a (given vs arguments) ≡ standing_of a vs arguments
 given_some bs vs row [] [] a fit = refl
 given_some bs vs row [] (b ∷ arguments) a fit = absurd fit
-given_some bs vs row (k ∷ kinds) [] a fit = absurd fit
-given_some bs vs row (k ∷ kinds) (b ∷ arguments) a fit =
-    let more = given_some bs vs row kinds arguments a fit.1 in
+given_some bs vs row (k ∷ types) [] a fit = absurd fit
+given_some bs vs row (k ∷ types) (b ∷ arguments) a fit =
+    let more = given_some bs vs row types arguments a fit.1 in
     let one : one_if (address (read vs (number b)) == a) ≡ one_if (fit.0.at == a) =
     ap (λ (x : Option ℕ). one_if (address x == a)) fit.0.is in
     let two : one_at a (read vs (number b)) ≡ one_if (fit.0.at == a) = ap (one_at a) fit.0.is in
@@ -74,87 +74,87 @@ all_claims_of a vs (b ∷ arguments) h =
     ∙ ap (λ (n : ℕ). one_at a (read vs (number b)) + n) (all_claims_of a vs arguments h.1)
 
 -- what is given leaves the variables
-pub given_leaves : (a : ℕ) (bs : List Block) (vs : List (Option ℕ)) (row : List Leaf) (kinds : List HeapKind) (arguments : List Argument)
-    → ArgsFit bs vs row kinds arguments → PairApart arguments → Each (λ b. b.claimed ≡ true) arguments → standing a vs ≤ 1
+pub given_leaves : (a : ℕ) (bs : List Block) (vs : List (Option ℕ)) (row : List Leaf) (types : List HeapType) (arguments : List Argument)
+    → ArgsFit bs vs row types arguments → PairApart arguments → Each (λ b. b.claimed ≡ true) arguments → standing a vs ≤ 1
     → (standing a (let_go vs arguments) + one_if (is_among (given vs arguments) a) ≡ standing a vs)
     × (standing_in a (given vs arguments) ≡ one_if (is_among (given vs arguments) a))
-given_leaves a bs vs row kinds arguments fit apart claims once =
+given_leaves a bs vs row types arguments fit apart claims once =
     let one = go_counts a vs arguments apart in
     let two = all_claims_of a vs arguments claims in
-    let three = given_some bs vs row kinds arguments a fit in
+    let three = given_some bs vs row types arguments a fit in
     let less : standing_in a (given vs arguments) ≤ 1 = omega arith in
     let four = given_counts (given vs arguments) a less in
     (omega arith, four)
 
 -- what goes into a message or the fields of a block, as arguments
 pub taken_fit : (m : MethodModel) (bs : List Block) (vs : List (Option ℕ)) (row : List Leaf) (wrong : List ℕ → Place → FindingModel)
-    (kinds : List HeapKind) (given : List Mention) → RowFits bs m.variables vs row
-    → AreOfKinds m.variables kinds (map (λ x. x.variable.0) given) → Passed (each_taken m row wrong kinds given)
-    → ArgsFit bs vs row kinds (payloads_claimed given)
+    (types : List HeapType) (given : List Mention) → RowFits bs m.variables vs row
+    → AreOfTypes m.variables types (map (λ x. x.variable.0) given) → Passed (each_taken m row wrong types given)
+    → ArgsFit bs vs row types (payloads_claimed given)
 taken_fit m bs vs row wrong [] [] fits are h = tt
 taken_fit m bs vs row wrong [] (x ∷ given) fits are h = absurd are
-taken_fit m bs vs row wrong (k ∷ kinds) [] fits are h = absurd are
-taken_fit m bs vs row wrong (k ∷ kinds) (x ∷ given) fits are h = (
+taken_fit m bs vs row wrong (k ∷ types) [] fits are h = absurd are
+taken_fit m bs vs row wrong (k ∷ types) (x ∷ given) fits are h = (
   arg_fits bs m.variables vs row k (payload x) fits are.0
       (not_false (is_owned row x.variable.0) (not_refused (not (is_owned row x.variable.0)) _ h.1.0))
       (not_refused (is_wrong k (leaf_at row x.variable.0)) _ h.1.1.0),
-  taken_fit m bs vs row wrong kinds given fits are.1 h.1.1.1,
+  taken_fit m bs vs row wrong types given fits are.1 h.1.1.1,
 )
 
 -- none of it is lent
 pub taken_own : (m : MethodModel) (row : List Leaf) (wrong : List ℕ → Place → FindingModel) (variables : List VariableModel)
-    (kinds : List HeapKind) (given : List Mention) → AreOfKinds variables kinds (map (λ x. x.variable.0) given)
-    → Passed (each_taken m row wrong kinds given)
+    (types : List HeapType) (given : List Mention) → AreOfTypes variables types (map (λ x. x.variable.0) given)
+    → Passed (each_taken m row wrong types given)
     → Each (λ a. a.claimed ≡ true → is_lent m (number a) ≡ false) (payloads_claimed given)
 taken_own m row wrong variables [] [] are h = tt
 taken_own m row wrong variables [] (x ∷ given) are h = absurd are
-taken_own m row wrong variables (k ∷ kinds) [] are h = tt
-taken_own m row wrong variables (k ∷ kinds) (x ∷ given) are h =
-    (λ c. not_refused (is_lent m x.variable.0) _ h.0, taken_own m row wrong variables kinds given are.1 h.1.1.1)
+taken_own m row wrong variables (k ∷ types) [] are h = tt
+taken_own m row wrong variables (k ∷ types) (x ∷ given) are h =
+    (λ c. not_refused (is_lent m x.variable.0) _ h.0, taken_own m row wrong variables types given are.1 h.1.1.1)
 
 pub payloads_claim : (payloads : List Mention) → Each (λ b. b.claimed ≡ true) (payloads_claimed payloads)
 payloads_claim [] = tt
 payloads_claim (x ∷ payloads) = (refl, payloads_claim payloads)
 
 -- what is given, where its blocks are kept, is as it was declared
-pub given_declared : (bs bs' : List Block) (vs : List (Option ℕ)) (row : List Leaf) (kinds : List HeapKind) (arguments : List Argument)
-    → StaysCutOff bs bs' → ArgsFit bs vs row kinds arguments
-    → ((a : ℕ) → is_among (given vs arguments) a ≡ true → a < length bs → IsKept bs bs' a) → AreDeclared bs' kinds (given vs arguments)
+pub given_declared : (bs bs' : List Block) (vs : List (Option ℕ)) (row : List Leaf) (types : List HeapType) (arguments : List Argument)
+    → StaysCutOff bs bs' → ArgsFit bs vs row types arguments
+    → ((a : ℕ) → is_among (given vs arguments) a ≡ true → a < length bs → IsKept bs bs' a) → AreDeclared bs' types (given vs arguments)
 given_declared bs bs' vs row [] [] cut fit kept = tt
 given_declared bs bs' vs row [] (a ∷ arguments) cut fit kept = absurd fit
-given_declared bs bs' vs row (k ∷ kinds) [] cut fit kept = absurd fit
-given_declared bs bs' vs row (k ∷ kinds) (a ∷ arguments) cut fit kept =
+given_declared bs bs' vs row (k ∷ types) [] cut fit kept = absurd fit
+given_declared bs bs' vs row (k ∷ types) (a ∷ arguments) cut fit kept =
     let is : address (read vs (number a)) ≡ fit.0.at = ap address fit.0.is in (
       subst (λ (n : ℕ). HasLeaf bs' k n (declared_leaf k)) (sym is)
           (leaf_kept bs bs' k fit.0.at (declared_leaf k) cut (kept fit.0.at
           (ap (λ (n : ℕ). (n == fit.0.at) || is_among (given vs arguments) fit.0.at) is
           ∙ ap (λ (b : Bool). b || is_among (given vs arguments) fit.0.at) (eqb_same fit.0.at fit.0.at refl)) fit.0.leaf.there)
           fit.0.leaf),
-      given_declared bs bs' vs row kinds arguments cut fit.1
+      given_declared bs bs' vs row types arguments cut fit.1
           (λ x has within. kept x (or_right (address (read vs (number a)) == x) (is_among (given vs arguments) x) has) within),
     )
 
 -- what is given is the process's own
-pub given_own : (bs : List Block) (self : ℕ) (vs : List (Option ℕ)) (row : List Leaf) (kinds : List HeapKind) (arguments : List Argument)
-    (a : ℕ) → ArgsFit bs vs row kinds arguments → ((y v : ℕ) → read vs v ≡ Some y → owns bs self y ≡ true)
+pub given_own : (bs : List Block) (self : ℕ) (vs : List (Option ℕ)) (row : List Leaf) (types : List HeapType) (arguments : List Argument)
+    (a : ℕ) → ArgsFit bs vs row types arguments → ((y v : ℕ) → read vs v ≡ Some y → owns bs self y ≡ true)
     → is_among (given vs arguments) a ≡ true → owns bs self a ≡ true
 given_own bs self vs row [] [] a fit own h = absurd (cc)
 given_own bs self vs row [] (b ∷ arguments) a fit own h = absurd fit
-given_own bs self vs row (k ∷ kinds) [] a fit own h = absurd fit
-given_own bs self vs row (k ∷ kinds) (b ∷ arguments) a fit own h = ⊎_elim
+given_own bs self vs row (k ∷ types) [] a fit own h = absurd fit
+given_own bs self vs row (k ∷ types) (b ∷ arguments) a fit own h = ⊎_elim
     (λ e. own a (number b) (fit.0.is ∙ ap Some (sym (ap address fit.0.is) ∙ eqb-true (address (read vs (number b))) a e)))
-    (λ e. given_own bs self vs row kinds arguments a fit.1 own (sym (ap (λ (x : Bool). x || is_among (given vs arguments) a) e) ∙ h))
+    (λ e. given_own bs self vs row types arguments a fit.1 own (sym (ap (λ (x : Bool). x || is_among (given vs arguments) a) e) ∙ h))
     (cases_Bool (address (read vs (number b)) == a))
 
 -- an address that a variable has that is no argument is not given
-pub not_given : (bs : List Block) (vs : List (Option ℕ)) (row : List Leaf) (kinds : List HeapKind) (arguments : List Argument) (v a : ℕ)
-    → ArgsFit bs vs row kinds arguments → standing a vs ≤ 1 → read vs v ≡ Some a → Each (λ b. number b ≢ v) arguments
+pub not_given : (bs : List Block) (vs : List (Option ℕ)) (row : List Leaf) (types : List HeapType) (arguments : List Argument) (v a : ℕ)
+    → ArgsFit bs vs row types arguments → standing a vs ≤ 1 → read vs v ≡ Some a → Each (λ b. number b ≢ v) arguments
     → is_among (given vs arguments) a ≡ false
 not_given bs vs row [] [] v a fit once is apart = refl
 not_given bs vs row [] (b ∷ arguments) v a fit once is apart = absurd fit
-not_given bs vs row (k ∷ kinds) [] v a fit once is apart = absurd fit
-not_given bs vs row (k ∷ kinds) (b ∷ arguments) v a fit once is apart =
+not_given bs vs row (k ∷ types) [] v a fit once is apart = absurd fit
+not_given bs vs row (k ∷ types) (b ∷ arguments) v a fit once is apart =
     ap (λ (x : Bool). x || is_among (given vs arguments) a)
     (eqb_apart (address (read vs (number b))) a (λ e. apart.0
     (no_copies vs (number b) v a once (fit.0.is ∙ ap Some (sym (ap address fit.0.is) ∙ e)) is)))
-    ∙ not_given bs vs row kinds arguments v a fit.1 once is apart.1
+    ∙ not_given bs vs row types arguments v a fit.1 once is apart.1

@@ -4,8 +4,8 @@ use Rattle.std.proofs.lemmas.Option.{slice_get_within}
 use Rattle.program.specs.Lists.{is_among}
 use Rattle.program.specs.Methods.{MethodModel, VariableModel}
 use Rattle.program.specs.Programs.{ProgramModel}
-use Rattle.program.specs.WellFormed.{field_kinds, is_end}
-use Rattle.program.specs.declared.kind.HeapKind.{HeapKind}
+use Rattle.program.specs.WellFormed.{field_types, is_end}
+use Rattle.program.specs.declared.types.HeapType.{HeapType}
 use Rattle.program.specs.declared.statement.Mention.{Mention}
 use Rattle.flow.specs.Graphs.{New}
 use Rattle.rules.specs.Arguments.{claimed, given_before, target_checks}
@@ -14,14 +14,14 @@ use Rattle.rules.specs.Mentions.{is_lent}
 use Rattle.rules.specs.Rows.{leaf_at, is_owned}
 use Rattle.rules.specs.Texts.{wrong_for_field}
 use Rattle.rules.specs.declared.row.Leaf.TheVariants as leaf
-use Rattle.machine.specs.Frames.{addresses, kind_at, payloads_claimed, variables_of}
+use Rattle.machine.specs.Frames.{addresses, type_at, payloads_claimed, variables_of}
 use Rattle.machine.specs.Outcomes.{Bounds}
 use Rattle.machine.specs.World.{Block, Frame, World, let_go, read}
 use Rattle.sound.specs.GraphFit.{IsGraphFit, IsNewFit}
 use Rattle.sound.specs.Operands.{stateless}
 use Rattle.sound.proofs.Arguments.{go_fits, pair_apart}
 use Rattle.sound.proofs.Basics.{standing_set}
-use Rattle.sound.proofs.blocks.Blocks.{kind_of_variable}
+use Rattle.sound.proofs.blocks.Blocks.{type_of_variable}
 use Rattle.sound.proofs.events.Calling.{arguments_hold, go_stays, none_taken, top_once, top_owned}
 use Rattle.sound.proofs.Checks.{Passed, all_pass, passed_goes, passed_left, passed_right, not_refused, something_is}
 use Rattle.sound.proofs.events.Giving.{given_declared, given_leaves, given_own, payloads_claim, taken_fit, taken_own}
@@ -46,56 +46,56 @@ good_new p bound w self choice f rest m target arguments next h fit =
     let row1 = claimed h.row args in
     let row' = set row1 v leaf.Block in
     let g = fit h.graph in
-    let kinds = field_kinds p.structs g.variable.kind in
+    let types = field_types p.structs g.variable.ty in
     let given_checks = given_before m [] args in
     let field_checks = each_taken m h.row wrong_for_field (fields_of p m v) arguments in
     let checks = (given_checks ++ field_checks) ++ target_checks m row1 (Some target) in
     let passed = all_pass checks ((next, row') ∷ []) h.passes in
     let before = passed_left (given_checks ++ field_checks) (target_checks m row1 (Some target)) passed in
     let behind = passed_right (given_checks ++ field_checks) (target_checks m row1 (Some target)) passed in
-    let each : Passed (each_taken m h.row wrong_for_field kinds arguments) =
-    subst (λ (ks : List HeapKind). Passed (each_taken m h.row wrong_for_field ks arguments)) (fields_known m p v g.variable g.there)
+    let each : Passed (each_taken m h.row wrong_for_field types arguments) =
+    subst (λ (ks : List HeapType). Passed (each_taken m h.row wrong_for_field ks arguments)) (fields_known m p v g.variable g.there)
     (passed_right given_checks field_checks before) in
     let apart = pair_apart p m [] args (passed_left given_checks field_checks before) in
     let own_v = not_refused (is_lent m v) _ behind.0 in
-    let fits = taken_fit m w.blocks vs h.row wrong_for_field kinds arguments h.fits g.kinds each in
+    let fits = taken_fit m w.blocks vs h.row wrong_for_field types arguments h.fits g.types each in
     let base = go_fits w.blocks m.variables vs h.row args h.fits in
     let none = nothing_none w.blocks m.variables us row1 v base
     (something_is (leaf_at row1 v) (not_refused (is_owned row1 v) _ behind.1.0)) in
     let all = λ (y : ℕ). top_once p w self f rest y h.holds h.is in
     let own = λ (y u : ℕ) (i : read vs u ≡ Some y). top_owned p w self f rest y u h.holds h.is i in
-    let leaves = λ (y : ℕ). given_leaves y w.blocks vs h.row kinds args fits apart (payloads_claim arguments) (all y) in
-    let mine = λ (y : ℕ) (i : is_among (addresses vs args) y ≡ true). given_own w.blocks self vs h.row kinds args y fits own i in
+    let leaves = λ (y : ℕ). given_leaves y w.blocks vs h.row types args fits apart (payloads_claim arguments) (all y) in
+    let mine = λ (y : ℕ) (i : is_among (addresses vs args) y ≡ true). given_own w.blocks self vs h.row types args y fits own i in
     let once = λ (y : ℕ). (leaves y).1 in
     let hb = blocks_fit p w h.holds in
-    let k = kind_at (variables_of p f.method) v in
-    let is_kind : k ≡ g.variable.kind = kind_of_variable p f.method m v g.variable h.there g.there in
-    let plain : is_end k ≡ false = ap is_end is_kind ∙ g.block in
+    let k = type_at (variables_of p f.method) v in
+    let is_type : k ≡ g.variable.ty = type_of_variable p f.method m v g.variable h.there g.there in
+    let plain : is_end k ≡ false = ap is_end is_type ∙ g.block in
     let given = addresses vs args in
     let n = length w.blocks in
     let bs' = made.grown p w self hb given k mine once plain in
     let cut' = made.cut_now p w self hb given k mine once plain in
     let last = made.last p w self hb given k mine once plain in
-    let typed : AreDeclared bs' (field_kinds p.structs k) given =
-    subst (λ (t : HeapKind). AreDeclared bs' (field_kinds p.structs t) given) (sym is_kind)
-    (given_declared w.blocks bs' vs h.row kinds args cut' fits
+    let typed : AreDeclared bs' (field_types p.structs k) given =
+    subst (λ (t : HeapType). AreDeclared bs' (field_types p.structs t) given) (sym is_type)
+    (given_declared w.blocks bs' vs h.row types args cut' fits
     (made.kept_now p w self hb given k mine once plain (λ y. is_among given y ≡ true))) in
     let vs' = set us v (Some n) in
     let fits' = row_set bs' m.variables us row1 v (Some n) leaf.Block
     (row_kept w.blocks bs' m.variables us row1 cut' (made.kept_now p w self hb given k mine once plain (λ a. 0 < standing a us)) base)
     (λ y at. record {
       there = made.there_now p w self hb given k mine once plain;
-      kind = ap (λ (x : Block). stateless x.kind) last
-          ∙ (ap stateless is_kind ∙ ap (λ (x : VariableModel). stateless x.kind) (some_same g.variable y (sym g.there ∙ at)));
-      state = ap (λ (x : VariableModel). is_end x.kind) (some_same y g.variable (sym at ∙ g.there)) ∙ g.block;
+      ty = ap (λ (x : Block). stateless x.ty) last
+          ∙ (ap stateless is_type ∙ ap (λ (x : VariableModel). stateless x.ty) (some_same g.variable y (sym g.there ∙ at)));
+      state = ap (λ (x : VariableModel). is_end x.ty) (some_same y g.variable (sym at ∙ g.there)) ∙ g.block;
     }) in
     let reached = h.onward ((next, row') ∷ []) (next, row') (passed_goes checks ((next, row') ∷ []) passed)
     (contains_first (next, row') []) in
     tested_good p w (argument_tests p bound w self f rest [] args) _
-    (arguments_hold p bound w self f rest h.row kinds [] args all own apart (none_taken vs args) fits) (
+    (arguments_hold p bound w self f rest h.row types [] args all own apart (none_taken vs args) fits) (
       goes_on p w self f rest m next vs' row' bs' h.holds h.is h.there h.below reached fits' (record {
         lent = lent_stays_on m.variables vs us vs'
-            (go_stays p m vs args (taken_own m h.row wrong_for_field m.variables kinds arguments g.kinds each))
+            (go_stays p m vs args (taken_own m h.row wrong_for_field m.variables types arguments g.types each))
             (lent_stays_set m.variables us v (Some n) own_v);
         cut = cut';
         kept = made.kept_now p w self hb given k mine once plain (λ j. standing j vs ≡ 0);

@@ -9,10 +9,10 @@ use Rattle.program.specs.Programs.{ProgramModel}
 use Rattle.program.specs.declared.contract.Edge.{Edge}
 use Rattle.program.specs.declared.contract.Sign.TheVariants as sign
 use Rattle.program.specs.declared.contract.Sign.{Sign}
-use Rattle.program.specs.declared.kind.HeapKind.TheVariants.{Endpoint}
-use Rattle.program.specs.declared.kind.HeapKind.{HeapKind}
-use Rattle.program.specs.declared.kind.Side.TheVariants.{Imp, Exp}
-use Rattle.program.specs.declared.kind.Side.{Side}
+use Rattle.program.specs.declared.types.HeapType.TheVariants.{Endpoint}
+use Rattle.program.specs.declared.types.HeapType.{HeapType}
+use Rattle.program.specs.declared.types.Side.TheVariants.{Imp, Exp}
+use Rattle.program.specs.declared.types.Side.{Side}
 use Rattle.program.specs.declared.number.MessageId.{MessageId}
 use Rattle.program.specs.declared.number.StateId.{StateId}
 use Rattle.contracts.specs.Bounds.{sign_to}
@@ -24,8 +24,8 @@ use Rattle.sound.proofs.Invariant.{IsEndOf, ChannelFits, ChannelsFit}
 use Rattle.sound.specs.Queues.{other}
 use Rattle.rules.proofs.TransferLemmas.{of_not}
 
-abbrev the_kind : HeapKind → HeapKind
-the_kind k = k
+abbrev that_type : HeapType → HeapType
+that_type k = k
 
 -- ---- ends after a move
 abbrev pub set_at : {X : Type 0} → Sign → X → (Sign → X) → Sign → X
@@ -195,19 +195,19 @@ ends_take p x Exp b peer b' peer' lives m ms q' e leads was s q ps pq =
     }
 
 -- ---- one channel moves, the others stay
-pub kind_apart : (k : HeapKind) (c d : ℕ) → stateless k ≡ Endpoint record { 0 = c } Imp record { 0 = 0 }
+pub type_apart : (k : HeapType) (c d : ℕ) → stateless k ≡ Endpoint record { 0 = c } Imp record { 0 = 0 }
     → stateless k ≡ Endpoint record { 0 = d } Exp record { 0 = 0 } → ⊥
-kind_apart k c d e f = sides_apart c d (sym e ∙ f)
+type_apart k c d e f = sides_apart c d (sym e ∙ f)
   where
-    sides_apart : (c d : ℕ) → the_kind (Endpoint record { 0 = c } Imp record { 0 = 0 }) ≡ Endpoint record { 0 = d } Exp record { 0 = 0 } → ⊥
+    sides_apart : (c d : ℕ) → that_type (Endpoint record { 0 = c } Imp record { 0 = 0 }) ≡ Endpoint record { 0 = d } Exp record { 0 = 0 } → ⊥
     sides_apart c d e = cc
 
-abbrev contract_number : HeapKind → ℕ
+abbrev contract_number : HeapType → ℕ
 contract_number (Endpoint c side state) = c.0
 contract_number _ = 0
 
 pub same_contract : (c d : ℕ) (side : Side)
-    → the_kind (Endpoint record { 0 = c } side record { 0 = 0 }) ≡ Endpoint record { 0 = d } side record { 0 = 0 } → c ≡ d
+    → that_type (Endpoint record { 0 = c } side record { 0 = 0 }) ≡ Endpoint record { 0 = d } side record { 0 = 0 } → c ≡ d
 same_contract c d side e = ap contract_number e
 
 pub end_at : (ends : Ends) (side : Side) (b b' : Block) → b'.state ≡ b.state → b'.queue ≡ b.queue → IsEndOf ends side b
@@ -220,8 +220,8 @@ end_at ends side b b' s q h =
     }
 
 module _ (p : ProgramModel) (bs bs' : List Block) (a c : ℕ) (side : Side) (h : ChannelsFit p bs) (within : a < length bs)
-    (kind : stateless (block_at bs a).kind ≡ Endpoint record { 0 = c } side record { 0 = 0 }) (alive : freed bs a ≡ false)
-    (long : length bs' ≡ length bs) (kinds : (j : ℕ) → (block_at bs' j).kind ≡ (block_at bs j).kind)
+    (ty : stateless (block_at bs a).ty ≡ Endpoint record { 0 = c } side record { 0 = 0 }) (alive : freed bs a ≡ false)
+    (long : length bs' ≡ length bs) (types : (j : ℕ) → (block_at bs' j).ty ≡ (block_at bs j).ty)
     (peers : (j : ℕ) → (block_at bs' j).peer ≡ (block_at bs j).peer) (lives : (j : ℕ) → freed bs' j ≡ false → freed bs j ≡ false)
     (state : (j : ℕ) → j ≢ a → (block_at bs' j).state ≡ (block_at bs j).state)
     (queue : (j : ℕ) → j ≢ a → j ≢ (block_at bs a).peer → (block_at bs' j).queue ≡ (block_at bs j).queue)
@@ -234,7 +234,7 @@ module _ (p : ProgramModel) (bs bs' : List Block) (a c : ℕ) (side : Side) (h :
     peer = k.peer;
     peer_is = peers j ∙ k.peer_is;
     peer_there = let t = k.peer_there in omega arith;
-    peer_kind = ap stateless (kinds k.peer) ∙ k.peer_kind;
+    peer_type = ap stateless (types k.peer) ∙ k.peer_type;
     back = peers k.peer ∙ k.back;
     contract = k.contract;
     contract_there = k.contract_there;
@@ -265,7 +265,7 @@ module _ (p : ProgramModel) (bs bs' : List Block) (a c : ℕ) (side : Side) (h :
         peer = k.peer;
         peer_is = peers a ∙ k.peer_is;
         peer_there = let t = k.peer_there in omega arith;
-        peer_kind = ap stateless (kinds k.peer) ∙ k.peer_kind;
+        peer_type = ap stateless (types k.peer) ∙ k.peer_type;
         back = peers k.peer ∙ k.back;
         contract = k.contract;
         contract_there = k.contract_there;
@@ -297,7 +297,7 @@ module _ (p : ProgramModel) (bs bs' : List Block) (a c : ℕ) (side : Side) (h :
         peer = k.peer;
         peer_is = peers j ∙ k.peer_is;
         peer_there = let t = k.peer_there in omega arith;
-        peer_kind = ap stateless (kinds k.peer) ∙ k.peer_kind;
+        peer_type = ap stateless (types k.peer) ∙ k.peer_type;
         back = peers k.peer ∙ k.back;
         contract = k.contract;
         contract_there = k.contract_there;
@@ -309,48 +309,48 @@ module _ (p : ProgramModel) (bs bs' : List Block) (a c : ℕ) (side : Side) (h :
       }
 
   imp_all : (s : Side) → side ≡ s → (j d : ℕ) (k : ChannelFits p bs j d)
-      → stateless (block_at bs j).kind ≡ Endpoint record { 0 = d } Imp record { 0 = 0 } → ChannelFits p bs' j d
+      → stateless (block_at bs j).ty ≡ Endpoint record { 0 = d } Imp record { 0 = 0 } → ChannelFits p bs' j d
   imp_all Imp s j d k is = ⊎_elim
       (λ e.
-      let kd : stateless (block_at bs a).kind ≡ Endpoint record { 0 = d } Imp record { 0 = 0 } =
-      ap (λ (n : ℕ). stateless (block_at bs n).kind) (sym e) ∙ is in
-      let ka : stateless (block_at bs a).kind ≡ Endpoint record { 0 = c } Imp record { 0 = 0 } =
-      kind ∙ ap (λ (z : Side). Endpoint record { 0 = c } z record { 0 = 0 }) s in
+      let kd : stateless (block_at bs a).ty ≡ Endpoint record { 0 = d } Imp record { 0 = 0 } =
+      ap (λ (n : ℕ). stateless (block_at bs n).ty) (sym e) ∙ is in
+      let ka : stateless (block_at bs a).ty ≡ Endpoint record { 0 = c } Imp record { 0 = 0 } =
+      ty ∙ ap (λ (z : Side). Endpoint record { 0 = c } z record { 0 = 0 }) s in
       let same : d ≡ c = same_contract d c Imp (sym kd ∙ ka) in
       subst (λ (n : ℕ). ChannelFits p bs' n d) (sym e) (subst (λ (n : ℕ). ChannelFits p bs' a n) (sym same)
       (imp_moves s (subst (λ (n : ℕ). ChannelFits p bs a n) same (subst (λ (n : ℕ). ChannelFits p bs n d) e k)))))
       (λ n.
-      let ka : stateless (block_at bs a).kind ≡ Endpoint record { 0 = c } Imp record { 0 = 0 } =
-      kind ∙ ap (λ (z : Side). Endpoint record { 0 = c } z record { 0 = 0 }) s in
+      let ka : stateless (block_at bs a).ty ≡ Endpoint record { 0 = c } Imp record { 0 = 0 } =
+      ty ∙ ap (λ (z : Side). Endpoint record { 0 = c } z record { 0 = 0 }) s in
       let mine = h.imp a c within ka in
-      let to_kind : stateless (block_at bs (block_at bs a).peer).kind ≡ Endpoint record { 0 = c } Exp record { 0 = 0 } =
-      ap (λ (n : ℕ). stateless (block_at bs n).kind) mine.peer_is ∙ mine.peer_kind in
+      let to_type : stateless (block_at bs (block_at bs a).peer).ty ≡ Endpoint record { 0 = c } Exp record { 0 = 0 } =
+      ap (λ (n : ℕ). stateless (block_at bs n).ty) mine.peer_is ∙ mine.peer_type in
       let to_back : (block_at bs (block_at bs a).peer).peer ≡ a = ap (λ (n : ℕ). (block_at bs n).peer) mine.peer_is ∙ mine.back in
       still j d k n
-      (λ e. kind_apart (block_at bs (block_at bs a).peer).kind d c (ap (λ (n : ℕ). stateless (block_at bs n).kind) (sym e) ∙ is) to_kind)
-      (λ e. kind_apart (block_at bs a).kind c d ka (ap (λ (n : ℕ). stateless (block_at bs n).kind) (sym e) ∙ k.peer_kind))
+      (λ e. type_apart (block_at bs (block_at bs a).peer).ty d c (ap (λ (n : ℕ). stateless (block_at bs n).ty) (sym e) ∙ is) to_type)
+      (λ e. type_apart (block_at bs a).ty c d ka (ap (λ (n : ℕ). stateless (block_at bs n).ty) (sym e) ∙ k.peer_type))
       (λ e. n (sym k.back ∙ (ap (λ (n : ℕ). (block_at bs n).peer) e ∙ to_back)))) (cases_eq j a)
   imp_all Exp s j d k is =
-      let ka : stateless (block_at bs a).kind ≡ Endpoint record { 0 = c } Exp record { 0 = 0 } =
-      kind ∙ ap (λ (z : Side). Endpoint record { 0 = c } z record { 0 = 0 }) s in
+      let ka : stateless (block_at bs a).ty ≡ Endpoint record { 0 = c } Exp record { 0 = 0 } =
+      ty ∙ ap (λ (z : Side). Endpoint record { 0 = c } z record { 0 = 0 }) s in
       let mine = h.exp a c within ka in
-      let to_kind : stateless (block_at bs (block_at bs a).peer).kind ≡ Endpoint record { 0 = c } Imp record { 0 = 0 } =
-      ap (λ (n : ℕ). stateless (block_at bs n).kind) mine.peer_is ∙ mine.peer_kind in
+      let to_type : stateless (block_at bs (block_at bs a).peer).ty ≡ Endpoint record { 0 = c } Imp record { 0 = 0 } =
+      ap (λ (n : ℕ). stateless (block_at bs n).ty) mine.peer_is ∙ mine.peer_type in
       let to_back : (block_at bs (block_at bs a).peer).peer ≡ a = ap (λ (n : ℕ). (block_at bs n).peer) mine.peer_is ∙ mine.back in
       ⊎_elim
       (λ e.
-      let kd : stateless (block_at bs a).kind ≡ Endpoint record { 0 = d } Exp record { 0 = 0 } =
-      ap (λ (n : ℕ). stateless (block_at bs n).kind) (sym e) ∙ k.peer_kind in
+      let kd : stateless (block_at bs a).ty ≡ Endpoint record { 0 = d } Exp record { 0 = 0 } =
+      ap (λ (n : ℕ). stateless (block_at bs n).ty) (sym e) ∙ k.peer_type in
       let same : d ≡ c = same_contract d c Exp (sym kd ∙ ka) in
       subst (λ (n : ℕ). ChannelFits p bs' j n) (sym same)
       (exp_moves s j (subst (λ (n : ℕ). ChannelFits p bs j n) same k) (peer_of j d c same k e)))
       (λ n.
       still j d k
-      (λ e. kind_apart (block_at bs a).kind d c (ap (λ (n : ℕ). stateless (block_at bs n).kind) (sym e) ∙ is) ka)
+      (λ e. type_apart (block_at bs a).ty d c (ap (λ (n : ℕ). stateless (block_at bs n).ty) (sym e) ∙ is) ka)
       (λ e. n (sym k.peer_is ∙ (ap (λ (n : ℕ). (block_at bs n).peer) e ∙ to_back)))
       n
-      (λ e. kind_apart (block_at bs (block_at bs a).peer).kind c d to_kind
-      (ap (λ (n : ℕ). stateless (block_at bs n).kind) (sym e) ∙ k.peer_kind))) (cases_eq k.peer a)
+      (λ e. type_apart (block_at bs (block_at bs a).peer).ty c d to_type
+      (ap (λ (n : ℕ). stateless (block_at bs n).ty) (sym e) ∙ k.peer_type))) (cases_eq k.peer a)
     where
       peer_of : (j d c : ℕ) (same : d ≡ c) (k : ChannelFits p bs j d) → k.peer ≡ a
           → (subst (λ (n : ℕ). ChannelFits p bs j n) same k).peer ≡ a
@@ -359,16 +359,16 @@ module _ (p : ProgramModel) (bs bs' : List Block) (a c : ℕ) (side : Side) (h :
   pub channels_move : ChannelsFit p bs'
   channels_move = record {
     imp = λ j d short is.
-        let old : stateless (block_at bs j).kind ≡ Endpoint record { 0 = d } Imp record { 0 = 0 } = sym (ap stateless (kinds j)) ∙ is in
+        let old : stateless (block_at bs j).ty ≡ Endpoint record { 0 = d } Imp record { 0 = 0 } = sym (ap stateless (types j)) ∙ is in
         imp_all side refl j d (h.imp j d (let l = long in omega arith) old) old;
     exp = λ j d short is.
-        let k = h.exp j d (let l = long in omega arith) (sym (ap stateless (kinds j)) ∙ is) in
+        let k = h.exp j d (let l = long in omega arith) (sym (ap stateless (types j)) ∙ is) in
         record {
           peer = k.peer;
           peer_is = peers j ∙ k.peer_is;
           peer_there = let t = k.peer_there in omega arith;
-          peer_kind =
-              ap stateless (kinds k.peer) ∙ k.peer_kind;
+          peer_type =
+              ap stateless (types k.peer) ∙ k.peer_type;
           back = peers k.peer ∙ k.back;
         };
   }

@@ -5,14 +5,14 @@ use Rattle.std.proofs.lemmas.Bool.{eqb-true}
 use Rattle.std.proofs.lemmas.List.{get_or-set_other, length-set, length-append, append_assoc}
 use Rattle.std.proofs.lemmas.Option.{slice_get_within}
 use Rattle.std.specs.Prelude.{slice_get, if◌then◌else◌}
-use Rattle.program.specs.Kinds.{same_side}
+use Rattle.program.specs.Types.{same_side}
 use Rattle.program.specs.Methods.{MethodModel, VariableModel}
 use Rattle.program.specs.Programs.{ProgramModel}
 use Rattle.program.specs.WellFormed.{is_end, are_ends}
-use Rattle.program.specs.declared.kind.HeapKind.TheVariants.{Endpoint, Struct, Array}
-use Rattle.program.specs.declared.kind.HeapKind.{HeapKind}
-use Rattle.program.specs.declared.kind.Side.TheVariants.{Imp, Exp}
-use Rattle.program.specs.declared.kind.Side.{Side}
+use Rattle.program.specs.declared.types.HeapType.TheVariants.{Endpoint, Struct, Array}
+use Rattle.program.specs.declared.types.HeapType.{HeapType}
+use Rattle.program.specs.declared.types.Side.TheVariants.{Imp, Exp}
+use Rattle.program.specs.declared.types.Side.{Side}
 use Rattle.program.specs.declared.statement.Channel as made
 use Rattle.flow.specs.Graphs.{NewChannel}
 use Rattle.rules.specs.Endpoints.{first_state}
@@ -21,19 +21,19 @@ use Rattle.rules.specs.Outcomes.{Check}
 use Rattle.rules.specs.Rows.{leaf_at, is_owned}
 use Rattle.rules.specs.declared.row.Leaf.TheVariants as leaf
 use Rattle.rules.specs.declared.row.Leaf.{Leaf}
-use Rattle.machine.specs.Blocks.{new_block, end_kind, is_imp}
+use Rattle.machine.specs.Blocks.{new_block, end_type, is_imp}
 use Rattle.machine.specs.Outcomes.{Moved, Bounds}
 use Rattle.machine.specs.World.{Block, Frame, World, block_at, read, owns}
 use Rattle.sound.specs.GraphFit.{IsChannelFit}
 use Rattle.sound.specs.Operands.{stateless}
 use Rattle.sound.proofs.Basics.{standing_set}
 use Rattle.sound.proofs.blocks.Blocks.{AreFresh, new_counts, queues_append, others_append, cut_append, kept_append, brought_append}
-use Rattle.sound.proofs.blocks.Blocks.{kind_of_variable}
+use Rattle.sound.proofs.blocks.Blocks.{type_of_variable}
 use Rattle.sound.proofs.Checks.{Passed, all_pass, passed_goes, not_refused, something_is}
 use Rattle.sound.proofs.Invariant.{HasLeaf, one_if, one_at, standing}
 use Rattle.sound.proofs.Kept.{lent_stays_set, on_world, goes_on, row_kept, some_same, lent_stays_on}
 use Rattle.sound.proofs.Lists.{and_true}
-use Rattle.sound.proofs.events.Moving.{kind_apart}
+use Rattle.sound.proofs.events.Moving.{type_apart}
 use Rattle.sound.proofs.blocks.NewEnds as made_ends
 use Rattle.sound.proofs.Quiet.{contains_first, end_stateless}
 use Rattle.sound.proofs.Here.{IsGood, row_set, nothing_none, Here}
@@ -41,7 +41,7 @@ use Rattle.sound.specs.Queues.{other}
 use Rattle.machine.specs.Instructions.{event_of}
 
 -- ---- the two ends
-pub record TwoKinds (c : ℕ) (j k : HeapKind) : Type 0 where
+pub record TwoTypes (c : ℕ) (j k : HeapType) : Type 0 where
   pub side : Side
   pub first : stateless j ≡ Endpoint record { 0 = c } side record { 0 = 0 }
   pub second : stateless k ≡ Endpoint record { 0 = c } (other side) record { 0 = 0 }
@@ -52,12 +52,12 @@ other_is Imp Exp e = refl
 other_is Exp Imp e = refl
 other_is Exp Exp e = absurd (cc)
 
-pub two_kinds : (c : ℕ) (j k : HeapKind) → are_ends c j k ≡ true → TwoKinds c j k
-two_kinds c (Struct n) k e = absurd (cc)
-two_kinds c (Array n) k e = absurd (cc)
-two_kinds c (Endpoint m s q) (Struct n) e = absurd (cc)
-two_kinds c (Endpoint m s q) (Array n) e = absurd (cc)
-two_kinds c (Endpoint m s q) (Endpoint n t r) e =
+pub two_types : (c : ℕ) (j k : HeapType) → are_ends c j k ≡ true → TwoTypes c j k
+two_types c (Struct n) k e = absurd (cc)
+two_types c (Array n) k e = absurd (cc)
+two_types c (Endpoint m s q) (Struct n) e = absurd (cc)
+two_types c (Endpoint m s q) (Array n) e = absurd (cc)
+two_types c (Endpoint m s q) (Endpoint n t r) e =
     let one = and_true (m.0 == c) ((n.0 == c) && not (same_side s t)) e in
     let two = and_true (n.0 == c) (not (same_side s t)) one.1 in
     record {
@@ -71,7 +71,7 @@ abbrev side_imp : Side → Bool
 side_imp Imp = true
 side_imp Exp = false
 
-imp_stateless : (k : HeapKind) → is_imp k ≡ is_imp (stateless k)
+imp_stateless : (k : HeapType) → is_imp k ≡ is_imp (stateless k)
 imp_stateless (Struct n) = refl
 imp_stateless (Array n) = refl
 imp_stateless (Endpoint c Imp q) = refl
@@ -91,10 +91,10 @@ module _ (p : ProgramModel) (bound : Bounds) (w : World) (self choice : ℕ) (f 
   start = first_state p c.contract.0
 
   abbrev b1 : Block
-  b1 = new_block (end_kind c Imp) self (n + 1) start []
+  b1 = new_block (end_type c Imp) self (n + 1) start []
 
   abbrev b2 : Block
-  b2 = new_block (end_kind c Exp) self n start []
+  b2 = new_block (end_type c Exp) self n start []
 
   abbrev bs' : List Block
   bs' = w.blocks ++ b1 ∷ b2 ∷ []
@@ -111,11 +111,11 @@ module _ (p : ProgramModel) (bound : Bounds) (w : World) (self choice : ℕ) (f 
   at2 : block_at bs' (n + 1) ≡ b2
   at2 = made_ends.at2 p w.blocks self c fit.contract fit.contract_there h.holds.channels
 
-  kind1 : stateless (block_at bs' n).kind ≡ Endpoint record { 0 = c.contract.0 } Imp record { 0 = 0 }
-  kind1 = made_ends.kind1 p w.blocks self c fit.contract fit.contract_there h.holds.channels
+  type1 : stateless (block_at bs' n).ty ≡ Endpoint record { 0 = c.contract.0 } Imp record { 0 = 0 }
+  type1 = made_ends.type1 p w.blocks self c fit.contract fit.contract_there h.holds.channels
 
-  kind2 : stateless (block_at bs' (n + 1)).kind ≡ Endpoint record { 0 = c.contract.0 } Exp record { 0 = 0 }
-  kind2 = made_ends.kind2 p w.blocks self c fit.contract fit.contract_there h.holds.channels
+  type2 : stateless (block_at bs' (n + 1)).ty ≡ Endpoint record { 0 = c.contract.0 } Exp record { 0 = 0 }
+  type2 = made_ends.type2 p w.blocks self c fit.contract fit.contract_there h.holds.channels
 
   two_counts : (a : ℕ) → one_at a (Some n) + (one_at a (Some (n + 1)) + one_if (owns w.blocks self a)) ≡ one_if (owns bs' self a)
   two_counts a =
@@ -150,7 +150,7 @@ module _ (p : ProgramModel) (bound : Bounds) (w : World) (self choice : ℕ) (f 
   none2 = nothing_none w.blocks m.variables f.variables h.row v2 h.fits
       (something_is (leaf_at h.row v2) (not_refused (is_owned h.row v2) _ passed.1.1.1.0))
 
-  pair_good : (i j : ℕ) → v2 ≢ v1 → HasLeaf bs' fit.first.kind i (leaf.State start) → HasLeaf bs' fit.second.kind j (leaf.State start)
+  pair_good : (i j : ℕ) → v2 ≢ v1 → HasLeaf bs' fit.first.ty i (leaf.State start) → HasLeaf bs' fit.second.ty j (leaf.State start)
       → ((a : ℕ) → one_at a (Some i) + (one_at a (Some j) + one_if (owns w.blocks self a)) ≡ one_if (owns bs' self a))
       → IsGood p w (Moved (on_world w self f next (set (set f.variables v1 (Some i)) v2 (Some j)) rest bs'))
   pair_good i j apart leaf1 leaf2 counts =
@@ -159,10 +159,10 @@ module _ (p : ProgramModel) (bound : Bounds) (w : World) (self choice : ℕ) (f 
       let base = row_kept w.blocks bs' m.variables f.variables h.row cut
       (kept_append w.blocks (b1 ∷ b2 ∷ []) (λ a. 0 < standing a f.variables)) h.fits in
       let one = row_set bs' m.variables f.variables h.row v1 (Some i) (leaf.State start) base
-      (λ y there. subst (λ (z : VariableModel). HasLeaf bs' z.kind i (leaf.State start))
+      (λ y there. subst (λ (z : VariableModel). HasLeaf bs' z.ty i (leaf.State start))
       (some_same fit.first y (sym fit.first_there ∙ there)) leaf1) in
       let two = row_set bs' m.variables us (set h.row v1 (leaf.State start)) v2 (Some j) (leaf.State start) one
-      (λ y there. subst (λ (z : VariableModel). HasLeaf bs' z.kind j (leaf.State start))
+      (λ y there. subst (λ (z : VariableModel). HasLeaf bs' z.ty j (leaf.State start))
       (some_same fit.second y (sym fit.second_there ∙ there)) leaf2) in (
         goes_on p w self f rest m next (set us v2 (Some j)) row' bs' h.holds h.is h.there h.below
             (h.onward ((next, row') ∷ []) (next, row') (passed_goes checks ((next, row') ∷ []) passed) (contains_first (next, row') []))
@@ -194,48 +194,48 @@ module _ (p : ProgramModel) (bound : Bounds) (w : World) (self choice : ℕ) (f 
         cut,
       )
 
-  kinds : TwoKinds c.contract.0 fit.first.kind fit.second.kind
-  kinds = two_kinds c.contract.0 fit.first.kind fit.second.kind fit.ends
+  types : TwoTypes c.contract.0 fit.first.ty fit.second.ty
+  types = two_types c.contract.0 fit.first.ty fit.second.ty fit.ends
 
   apart : v2 ≢ v1
-  apart e = by kinds.side kinds.first (ap (λ (z : VariableModel). stateless z.kind)
-      (some_same fit.first fit.second (sym fit.first_there ∙ (ap (slice_get m.variables) (sym e) ∙ fit.second_there))) ∙ kinds.second)
+  apart e = by types.side types.first (ap (λ (z : VariableModel). stateless z.ty)
+      (some_same fit.first fit.second (sym fit.first_there ∙ (ap (slice_get m.variables) (sym e) ∙ fit.second_there))) ∙ types.second)
     where
-      by : (s : Side) → stateless fit.first.kind ≡ Endpoint record { 0 = c.contract.0 } s record { 0 = 0 }
-          → stateless fit.first.kind ≡ Endpoint record { 0 = c.contract.0 } (other s) record { 0 = 0 } → ⊥
-      by Imp x y = kind_apart fit.first.kind c.contract.0 c.contract.0 x y
-      by Exp x y = kind_apart fit.first.kind c.contract.0 c.contract.0 y x
+      by : (s : Side) → stateless fit.first.ty ≡ Endpoint record { 0 = c.contract.0 } s record { 0 = 0 }
+          → stateless fit.first.ty ≡ Endpoint record { 0 = c.contract.0 } (other s) record { 0 = 0 } → ⊥
+      by Imp x y = type_apart fit.first.ty c.contract.0 c.contract.0 x y
+      by Exp x y = type_apart fit.first.ty c.contract.0 c.contract.0 y x
 
-  end_true : (k : HeapKind) (s : Side) → stateless k ≡ Endpoint record { 0 = c.contract.0 } s record { 0 = 0 } → is_end k ≡ true
+  end_true : (k : HeapType) (s : Side) → stateless k ≡ Endpoint record { 0 = c.contract.0 } s record { 0 = 0 } → is_end k ≡ true
   end_true k s e = end_stateless k ∙ ap is_end e
 
-  leaf_one : (k : HeapKind) → stateless k ≡ Endpoint record { 0 = c.contract.0 } Imp record { 0 = 0 } → HasLeaf bs' k n (leaf.State start)
+  leaf_one : (k : HeapType) → stateless k ≡ Endpoint record { 0 = c.contract.0 } Imp record { 0 = 0 } → HasLeaf bs' k n (leaf.State start)
   leaf_one k e = record {
     there = let l = long_now in omega arith;
-    kind = kind1 ∙ sym e;
+    ty = type1 ∙ sym e;
     state =
         (end_true k Imp e, inl (ap (λ (b : Block). b.state) at1));
   }
 
-  leaf_two : (k : HeapKind) → stateless k ≡ Endpoint record { 0 = c.contract.0 } Exp record { 0 = 0 } → HasLeaf bs' k (n + 1) (leaf.State start)
+  leaf_two : (k : HeapType) → stateless k ≡ Endpoint record { 0 = c.contract.0 } Exp record { 0 = 0 } → HasLeaf bs' k (n + 1) (leaf.State start)
   leaf_two k e = record {
     there = let l = long_now in omega arith;
-    kind = kind2 ∙ sym e;
+    ty = type2 ∙ sym e;
     state =
         (end_true k Exp e, inl (ap (λ (b : Block). b.state) at2));
   }
 
-  by_side : (s : Side) → stateless fit.first.kind ≡ Endpoint record { 0 = c.contract.0 } s record { 0 = 0 }
-      → stateless fit.second.kind ≡ Endpoint record { 0 = c.contract.0 } (other s) record { 0 = 0 }
+  by_side : (s : Side) → stateless fit.first.ty ≡ Endpoint record { 0 = c.contract.0 } s record { 0 = 0 }
+      → stateless fit.second.ty ≡ Endpoint record { 0 = c.contract.0 } (other s) record { 0 = 0 }
       → IsGood p w (Moved (on_world w self f next (set (set f.variables v1 (Some (if side_imp s then n else n + 1))) v2
       (Some (if side_imp s then n + 1 else n))) rest bs'))
-  by_side Imp e1 e2 = pair_good n (n + 1) apart (leaf_one fit.first.kind e1) (leaf_two fit.second.kind e2) two_counts
-  by_side Exp e1 e2 = pair_good (n + 1) n apart (leaf_two fit.first.kind e1) (leaf_one fit.second.kind e2)
+  by_side Imp e1 e2 = pair_good n (n + 1) apart (leaf_one fit.first.ty e1) (leaf_two fit.second.ty e2) two_counts
+  by_side Exp e1 e2 = pair_good (n + 1) n apart (leaf_two fit.first.ty e1) (leaf_one fit.second.ty e2)
       (λ a. let k = two_counts a in omega arith)
 
   pub good_channel : IsGood p w (event_of p bound w self f rest (NewChannel c next) choice)
   good_channel = subst (λ (b : Bool). IsGood p w (Moved
       (on_world w self f next (set (set f.variables v1 (Some (if b then n else n + 1))) v2 (Some (if b then n + 1 else n))) rest bs')))
-      (sym (ap is_imp (kind_of_variable p f.method m v1 fit.first h.there fit.first_there)
-      ∙ (imp_stateless fit.first.kind ∙ (ap is_imp kinds.first ∙ imp_of c.contract.0 kinds.side))))
-      (by_side kinds.side kinds.first kinds.second)
+      (sym (ap is_imp (type_of_variable p f.method m v1 fit.first h.there fit.first_there)
+      ∙ (imp_stateless fit.first.ty ∙ (ap is_imp types.first ∙ imp_of c.contract.0 types.side))))
+      (by_side types.side types.first types.second)

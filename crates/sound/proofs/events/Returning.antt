@@ -11,14 +11,14 @@ use Rattle.source.specs.declared.place.Place.{Place}
 use Rattle.program.specs.Lists.{Each}
 use Rattle.program.specs.Methods.{MethodModel, VariableModel}
 use Rattle.program.specs.Programs.{ProgramModel}
-use Rattle.program.specs.declared.kind.HeapKind.{HeapKind}
+use Rattle.program.specs.declared.types.HeapType.{HeapType}
 use Rattle.program.specs.declared.number.VarId.{VarId}
 use Rattle.program.specs.declared.statement.Mention.{Mention}
 use Rattle.flow.specs.Graphs.{Instruction, Call, Return}
 use Rattle.flow.specs.Lowering.{graph_of}
 use Rattle.rules.specs.Arguments.{claimed, given_before, all_arguments, target_checks, given_leaf}
-use Rattle.rules.specs.Endpoints.{declared_leaf, is_wrong, parameter_kinds, result_of, kind_of}
-use Rattle.sound.proofs.Parameters.{kind_known, parameters_of, each_argument}
+use Rattle.rules.specs.Endpoints.{declared_leaf, is_wrong, parameter_types, result_of, type_of}
+use Rattle.sound.proofs.Parameters.{type_known, parameters_of, each_argument}
 use Rattle.rules.specs.Mentions.{is_lent, is_lent_role, name_of, given_back, is_kept, is_named}
 use Rattle.rules.specs.Outcomes.{Pair, Check, refused}
 use Rattle.rules.specs.Rows.{leaf_at, is_owned}
@@ -35,7 +35,7 @@ use Rattle.machine.specs.Outcomes.{Moved, Bounds, test, tested}
 use Rattle.machine.specs.World.{Block, Frame, World, stack_at, read, owns, let_go}
 use Rattle.machine.specs.declared.halts.Fault.TheVariants.{F3, F7}
 use Rattle.sound.specs.GraphFit.{AreGraphsFit, IsCallFit, IsReturnFit}
-use Rattle.sound.specs.Operands.{IsOfKind, AreArguments, IsTakenBy}
+use Rattle.sound.specs.Operands.{IsOfType, AreArguments, IsTakenBy}
 use Rattle.sound.proofs.Arguments.{PairApart, standing_of, pair_apart, lent_not_claimed, go_counts, all_claimed_of, as_claimed_apart}
 use Rattle.sound.proofs.Arguments.{set_none, standing_none}
 use Rattle.sound.proofs.Basics.{standing_set, stack_there}
@@ -47,7 +47,7 @@ use Rattle.sound.proofs.Invariant.{HasLeaf, LeafFits, RowFits, one_if, one_at, s
 use Rattle.sound.proofs.Invariant.{kept_back, call_arguments, IsLast}
 use Rattle.sound.proofs.Kept.{LentStays, lent_stays_same, lent_stays_set, some_same, rest_above, lent_of, all_lent_stays}
 use Rattle.sound.proofs.Lists.{element_at, not_false}
-use Rattle.sound.proofs.Quiet.{contains_first, own_holds, fits_kind, kind_same, stays_same, kind_there}
+use Rattle.sound.proofs.Quiet.{contains_first, own_holds, fits_type, type_same, stays_same, type_there}
 use Rattle.sound.proofs.Here.{IsGood, tested_good, test_holds, row_set, nothing_none, Here, owned_is, outcome_at}
 use Rattle.sound.proofs.events.GivenBack.{passed_range, passed_has, put_back, LentEnds, GivenBack, all_back, fits_back, lent_counts}
 use Rattle.machine.specs.Instructions.{event_of, is_own, returns, value_tests}
@@ -98,18 +98,18 @@ module _ (p : ProgramModel) (bound : Bounds) (w : World) (self choice : ℕ) (f 
       (passed_range (λ v. refused (is_not_back p m h.row v) (not_back (name_of m v) place)) 0 (length m.variables) u lent_back (omega arith)
       (let short = slice_get_within m.variables u x there in omega arith)) in
       let is_lent_here : is_lent m u ≡ true = lent_of m.variables u x there ∙ lent in
-      let right : is_wrong x.kind l ≡ false =
-      sym (ap (λ (b : Bool). b && option_map_or (λ j. is_wrong j l) (kind_of m u) false) is_lent_here
-      ∙ ap (λ (o : Option HeapKind). option_map_or (λ j. is_wrong j l) o false) (kind_known m u x there)) ∙ k in
-      let has : HasLeaf w.blocks x.kind at (leaf_at h.row u) =
-      subst (λ (y : Option ℕ). LeafFits w.blocks x.kind y (leaf_at h.row u)) is (h.fits.each u x there) in
-      declared_has w.blocks x.kind at (leaf_at h.row u) has (accepted w.blocks x.kind at (leaf_at h.row u) has right)
+      let right : is_wrong x.ty l ≡ false =
+      sym (ap (λ (b : Bool). b && option_map_or (λ j. is_wrong j l) (type_of m u) false) is_lent_here
+      ∙ ap (λ (o : Option HeapType). option_map_or (λ j. is_wrong j l) o false) (type_known m u x there)) ∙ k in
+      let has : HasLeaf w.blocks x.ty at (leaf_at h.row u) =
+      subst (λ (y : Option ℕ). LeafFits w.blocks x.ty y (leaf_at h.row u)) is (h.fits.each u x there) in
+      declared_has w.blocks x.ty at (leaf_at h.row u) has (accepted w.blocks x.ty at (leaf_at h.row u) has right)
 
   -- ---- the process ends
   last_none : IsLast p f → value ≡ None
   last_none l = by m.result value (ap (λ (x : MethodModel). x.result) (some_same m l.m (sym h.there ∙ l.there)) ∙ l.void) fit.given
     where
-      by : (r : Option HeapKind) (v : Option Mention) → r ≡ None → IsTakenBy m.variables r v → v ≡ None
+      by : (r : Option HeapType) (v : Option Mention) → r ≡ None → IsTakenBy m.variables r v → v ≡ None
       by None None e t = refl
       by None (Some v) e t = absurd t
       by (Some k) v e t = absurd (cc)
@@ -170,11 +170,11 @@ module _ (p : ProgramModel) (bound : Bounds) (w : World) (self choice : ℕ) (f 
   same_outcome : outcome p g.method (g.point, caller.before) ≡ instruction_outcome p caller.m call_of caller.before
   same_outcome = outcome_at p g caller.m call_of caller.before caller.there caller_at
 
-  abbrev call_kinds : List HeapKind
-  call_kinds = parameter_kinds p f.method
+  abbrev call_types : List HeapType
+  call_types = parameter_types p f.method
 
   abbrev call_checks : List Check
-  call_checks = all_arguments caller.m caller.before call_kinds caller.arguments ++ target_checks caller.m left caller.target
+  call_checks = all_arguments caller.m caller.before call_types caller.arguments ++ target_checks caller.m left caller.target
 
   abbrev call_after : List Pair
   call_after = (caller.next, given_leaf left (result_of p f.method) caller.target) ∷ []
@@ -191,12 +191,12 @@ module _ (p : ProgramModel) (bound : Bounds) (w : World) (self choice : ℕ) (f 
 
   apart : PairApart caller.arguments
   apart = pair_apart p caller.m [] caller.arguments
-      (passed_left (given_before caller.m [] caller.arguments) (each_argument caller.m caller.before call_kinds caller.arguments)
-      (passed_left (all_arguments caller.m caller.before call_kinds caller.arguments)
+      (passed_left (given_before caller.m [] caller.arguments) (each_argument caller.m caller.before call_types caller.arguments)
+      (passed_left (all_arguments caller.m caller.before call_types caller.arguments)
       (target_checks caller.m left caller.target) call_passed))
 
   target_passed : Passed (target_checks caller.m left caller.target)
-  target_passed = passed_right (all_arguments caller.m caller.before call_kinds caller.arguments)
+  target_passed = passed_right (all_arguments caller.m caller.before call_types caller.arguments)
       (target_checks caller.m left caller.target) call_passed
 
   are : AreArguments caller.m.variables (parameters_of m.variables) caller.arguments
@@ -263,7 +263,7 @@ module _ (p : ProgramModel) (bound : Bounds) (w : World) (self choice : ℕ) (f 
   return_nothing : m.result ≡ None → value ≡ None → IsGood p w (returns p bound w self f (g ∷ more) None (g ∷ more))
   return_nothing r v =
       return_good g.variables left row_left (lent_stays_same caller.m.variables g.variables)
-      (subst (λ (k : Option HeapKind). Reached (outcome p g.method) (entry_of p g.method) (caller.next, given_leaf left k caller.target))
+      (subst (λ (k : Option HeapType). Reached (outcome p g.method) (entry_of p g.method) (caller.next, given_leaf left k caller.target))
       (result_is ∙ r) call_reached)
       (λ n.
       let one = caller_counts n in
@@ -274,10 +274,10 @@ module _ (p : ProgramModel) (bound : Bounds) (w : World) (self choice : ℕ) (f 
       let three = stack_counts n in
       omega arith)
 
-  return_something : (k : HeapKind) (v t : Mention) → m.result ≡ Some k → value ≡ Some v → caller.target ≡ Some t
-      → IsOfKind m.variables k v.variable.0 → IsOfKind caller.m.variables k t.variable.0
+  return_something : (k : HeapType) (v t : Mention) → m.result ≡ Some k → value ≡ Some v → caller.target ≡ Some t
+      → IsOfType m.variables k v.variable.0 → IsOfType caller.m.variables k t.variable.0
       → IsGood p w (tested (value_tests p bound w self f (g ∷ more) (Some v)) (returns p bound w self f (g ∷ more) (Some v) (g ∷ more)))
-  return_something k v t r is to v_kind t_kind =
+  return_something k v t r is to v_type t_type =
       let checks : Passed (value_checks p m h.row (Some v)) =
       subst (λ (o : Option Mention). Passed (value_checks p m h.row o)) is
       (passed_left (value_checks p m h.row value) (scope_checks p bound w self choice f (g ∷ more) m place value last h fit
@@ -285,12 +285,12 @@ module _ (p : ProgramModel) (bound : Bounds) (w : World) (self choice : ℕ) (f 
       let v_own : is_lent m v.variable.0 ≡ false = not_refused (is_lent m v.variable.0) _ checks.0 in
       let owned = not_false (is_owned h.row v.variable.0) (not_refused (not (is_owned h.row v.variable.0)) _ checks.1.0) in
       let right : is_wrong k (leaf_at h.row v.variable.0) ≡ false =
-      ap (λ (o : Option HeapKind). option_map_or (λ j. is_wrong j (leaf_at h.row v.variable.0)) o false) (sym r)
+      ap (λ (o : Option HeapType). option_map_or (λ j. is_wrong j (leaf_at h.row v.variable.0)) o false) (sym r)
       ∙ not_refused (option_map_or (λ j. is_wrong j (leaf_at h.row v.variable.0)) m.result false) _ checks.1.1.0 in
       let o = owned_is p w self f (g ∷ more) m h.row v.variable.0 h.holds h.is h.fits owned in
       let has : HasLeaf w.blocks k o.at (leaf_at h.row v.variable.0) =
-      fits_kind w.blocks o.variable.kind k (Some o.at) (leaf_at h.row v.variable.0)
-      (kind_same m.variables v.variable.0 k o.variable v_kind o.there) o.leaf in
+      fits_type w.blocks o.variable.ty k (Some o.at) (leaf_at h.row v.variable.0)
+      (type_same m.variables v.variable.0 k o.variable v_type o.there) o.leaf in
       let given : HasLeaf w.blocks k o.at (declared_leaf k) =
       declared_has w.blocks k o.at (leaf_at h.row v.variable.0) has (accepted w.blocks k o.at (leaf_at h.row v.variable.0) has right) in
       let x = read f.variables v.variable.0 in
@@ -311,11 +311,11 @@ module _ (p : ProgramModel) (bound : Bounds) (w : World) (self choice : ℕ) (f 
       (sym (ap call_target caller.call ∙ to))
       (return_good gv' (set left t.variable.0 (declared_leaf k))
       (row_set w.blocks caller.m.variables g.variables left t.variable.0 x (declared_leaf k) row_left
-      (λ y there. subst (λ (z : Option ℕ). LeafFits w.blocks y.kind z (declared_leaf k)) (sym o.is)
-      (fits_kind w.blocks k y.kind (Some o.at) (declared_leaf k) (sym (kind_same caller.m.variables t.variable.0 k y t_kind there)) given)))
+      (λ y there. subst (λ (z : Option ℕ). LeafFits w.blocks y.ty z (declared_leaf k)) (sym o.is)
+      (fits_type w.blocks k y.ty (Some o.at) (declared_leaf k) (sym (type_same caller.m.variables t.variable.0 k y t_type there)) given)))
       (lent_stays_set caller.m.variables g.variables t.variable.0 x t_own)
       (subst (λ (z : Option Mention). Reached (outcome p g.method) (entry_of p g.method) (caller.next, given_leaf left (Some k) z)) to
-      (subst (λ (j : Option HeapKind). Reached (outcome p g.method) (entry_of p g.method) (caller.next, given_leaf left j caller.target))
+      (subst (λ (j : Option HeapType). Reached (outcome p g.method) (entry_of p g.method) (caller.next, given_leaf left j caller.target))
       (result_is ∙ r) call_reached))
       (λ n.
       let one = caller_counts n in
@@ -328,7 +328,7 @@ module _ (p : ProgramModel) (bound : Bounds) (w : World) (self choice : ℕ) (f 
       let three = stack_counts n in
       let four = standing_none f.variables v.variable.0 n in
       let five = standing_set g.variables t.variable.0 n x
-      (kind_there w.blocks caller.m.variables g.variables left t.variable.0 k row_left t_kind) in
+      (type_there w.blocks caller.m.variables g.variables left t.variable.0 k row_left t_type) in
       let six : one_at n (read g.variables t.variable.0) ≡ 0 = ap (one_at n) t_none in
       omega arith)))
     where
@@ -345,7 +345,7 @@ module _ (p : ProgramModel) (bound : Bounds) (w : World) (self choice : ℕ) (f 
   good_back = by m.result refl value refl caller.target refl fit.given
       (subst (λ (x : MethodModel). IsTakenBy caller.m.variables x.result caller.target) callee_is caller_fit.taken)
     where
-      by : (r : Option HeapKind) → m.result ≡ r → (v : Option Mention) → value ≡ v → (t : Option Mention) → caller.target ≡ t
+      by : (r : Option HeapType) → m.result ≡ r → (v : Option Mention) → value ≡ v → (t : Option Mention) → caller.target ≡ t
           → IsTakenBy m.variables r v → IsTakenBy caller.m.variables r t
           → IsGood p w (tested (value_tests p bound w self f (g ∷ more) v) (returns p bound w self f (g ∷ more) v (g ∷ more)))
       by None r None v t to a b = return_nothing r v

@@ -11,15 +11,15 @@ use Rattle.program.specs.Methods.{MethodModel, VariableModel}
 use Rattle.program.specs.Programs.{ProgramModel}
 use Rattle.program.specs.WellFormed.{is_parameter, is_claimed}
 use Rattle.program.specs.declared.call.Argument.{Argument}
-use Rattle.program.specs.declared.kind.HeapKind.{HeapKind}
+use Rattle.program.specs.declared.types.HeapType.{HeapType}
 use Rattle.program.specs.declared.method.Role.TheVariants as role
 use Rattle.program.specs.declared.method.Role.{Role}
 use Rattle.program.specs.declared.number.MethodId.{MethodId}
 use Rattle.flow.specs.Graphs.{Start}
 use Rattle.flow.specs.Lowering.{graph_of}
 use Rattle.rules.specs.Arguments.{claimed, given_before, all_arguments}
-use Rattle.rules.specs.Endpoints.{parameter_kinds}
-use Rattle.sound.proofs.Parameters.{parameters_of, kinds_among}
+use Rattle.rules.specs.Endpoints.{parameter_types}
+use Rattle.sound.proofs.Parameters.{parameters_of, types_among}
 use Rattle.rules.specs.Mentions.{is_lent_role}
 use Rattle.sound.proofs.Parameters.{each_argument}
 use Rattle.rules.specs.Steps.{entry_leaf, outcome, entry_of}
@@ -28,7 +28,7 @@ use Rattle.analyse.specs.Reach.{Reached}
 use Rattle.machine.specs.Blocks.{handed}
 use Rattle.machine.specs.Frames.{method_at, filled, entered_at, addresses}
 use Rattle.machine.specs.Outcomes.{Moved, Bounds}
-use Rattle.machine.specs.World.{no_kind, Block, Frame, World, block_at, stack_at, read, owns, is_process}
+use Rattle.machine.specs.World.{no_type, Block, Frame, World, block_at, stack_at, read, owns, is_process}
 use Rattle.machine.specs.World.{changed, let_go}
 use Rattle.machine.specs.declared.worlds.Owner.TheVariants.{Process, Channel}
 use Rattle.machine.specs.declared.worlds.Owner.{Owner}
@@ -78,7 +78,7 @@ module _ (p : ProgramModel) (w : World) (self : ℕ) (h : Holds p w) (given : Li
   at : (j : ℕ) → block_at taken j ≡ handed (Process fresh) given j (block_at w.blocks j)
   at j = changed_all (handed (Process fresh) given) w.blocks j (λ past.
       ap (λ (b : Bool). record {
-        kind = no_kind;
+        ty = no_type;
         owner = if b then Process fresh else Channel;
         peer = 0;
         state = 0;
@@ -251,21 +251,21 @@ good_start p bound w self choice f rest m place method arguments next h g =
     let x = g.callee in
     let vs = f.variables in
     let us = let_go vs arguments in
-    let kinds = parameter_kinds p method.0 in
-    let checks = all_arguments m h.row kinds arguments in
+    let types = parameter_types p method.0 in
+    let checks = all_arguments m h.row types arguments in
     let row' = claimed h.row arguments in
     let passed = all_pass checks ((next, row') ∷ []) h.passes in
-    let each : Passed (each_argument m h.row (kinds_among x.variables) arguments) =
-    subst (λ (ks : List HeapKind). Passed (each_argument m h.row ks arguments))
-    (ap (λ (o : Option MethodModel). option_map_or (λ y. kinds_among y.variables) o []) g.there)
-    (passed_right (given_before m [] arguments) (each_argument m h.row kinds arguments) passed) in
-    let apart = pair_apart p m [] arguments (passed_left (given_before m [] arguments) (each_argument m h.row kinds arguments) passed) in
+    let each : Passed (each_argument m h.row (types_among x.variables) arguments) =
+    subst (λ (ks : List HeapType). Passed (each_argument m h.row ks arguments))
+    (ap (λ (o : Option MethodModel). option_map_or (λ y. types_among y.variables) o []) g.there)
+    (passed_right (given_before m [] arguments) (each_argument m h.row types arguments) passed) in
+    let apart = pair_apart p m [] arguments (passed_left (given_before m [] arguments) (each_argument m h.row types arguments) passed) in
     let args = args_fit p m w.blocks vs h.row (parameters_of x.variables) arguments h.fits g.arguments_fit each in
     let all = λ (y : ℕ). top_once p w self f rest y h.holds h.is in
     let own = λ (y u : ℕ) (i : read vs u ≡ Some y). top_owned p w self f rest y u h.holds h.is i in
-    let leaves = λ (y : ℕ). given_leaves y w.blocks vs h.row (kinds_among x.variables) arguments args apart g.claims (all y) in
+    let leaves = λ (y : ℕ). given_leaves y w.blocks vs h.row (types_among x.variables) arguments args apart g.claims (all y) in
     let mine = λ (y : ℕ) (i : is_among (addresses vs arguments) y ≡ true). given_own w.blocks self vs h.row
-    (kinds_among x.variables) arguments y args own i in
+    (types_among x.variables) arguments y args own i in
     let none = go_none vs arguments in
     let same = each_map (λ a. a.claimed ≡ false → NotClaimed arguments (number a))
     (λ a. a.claimed ≡ false → read us (number a) ≡ read vs (number a)) arguments (λ a k o. go_other vs arguments (number a) (k o))
@@ -275,7 +275,7 @@ good_start p bound w self choice f rest m place method arguments next h g =
     let cut = cut_now p w self h.holds (addresses vs arguments) mine in
     let bs' = taken p w self h.holds (addresses vs arguments) mine in
     tested_good p w (argument_tests p bound w self f rest [] arguments) _
-    (arguments_hold p bound w self f rest h.row (kinds_among x.variables) [] arguments all own apart (none_taken vs arguments) args)
+    (arguments_hold p bound w self f rest h.row (types_among x.variables) [] arguments all own apart (none_taken vs arguments) args)
     (subst (λ (t : Frame). IsGood p w (Moved record {
       processes = set w.processes self (went f next us ∷ rest) ++ (t ∷ []) ∷ [];
       blocks =
@@ -290,15 +290,15 @@ good_start p bound w self choice f rest m place method arguments next h g =
           (record {
             m = x;
             there = g.there;
-            row = map (λ v. entry_leaf v.role v.kind) x.variables;
+            row = map (λ v. entry_leaf v.role v.ty) x.variables;
             reached = entry_reached p method.0 x g.there;
             fits = row_kept w.blocks bs' x.variables (filled x.variables (given_of vs arguments))
-                (map (λ v. entry_leaf v.role v.kind) x.variables) cut
+                (map (λ v. entry_leaf v.role v.ty) x.variables) cut
                 (kept_now p w self h.holds (addresses vs arguments) mine
                 (λ a. 0 < standing a (filled x.variables (given_of vs arguments)))) e.fits;
           })
           (record { m = x; there = g.there; void = g.void; alone = none_lent m.variables x.variables arguments g.arguments_fit g.claims })
           (λ j. (leaves j).0)
-          (λ j. e.counts j ∙ (sym (given_some w.blocks vs h.row (kinds_among x.variables) arguments j args) ∙ (leaves j).1)),
+          (λ j. e.counts j ∙ (sym (given_some w.blocks vs h.row (types_among x.variables) arguments j args) ∙ (leaves j).1)),
       cut,
     ))

@@ -12,8 +12,8 @@ use Rattle.program.specs.Parts.{ContractModel}
 use Rattle.program.specs.Programs.{ProgramModel}
 use Rattle.program.specs.WellFormed.{is_end}
 use Rattle.program.specs.declared.contract.Edge.{Edge}
-use Rattle.program.specs.declared.kind.HeapKind.TheVariants.{Endpoint}
-use Rattle.program.specs.declared.kind.HeapKind.{HeapKind}
+use Rattle.program.specs.declared.types.HeapType.TheVariants.{Endpoint}
+use Rattle.program.specs.declared.types.HeapType.{HeapType}
 use Rattle.program.specs.declared.number.VarId.{VarId}
 use Rattle.program.specs.declared.statement.Mention.{Mention}
 use Rattle.flow.specs.Cases.{EntranceModel, first_mentions, case_for}
@@ -21,7 +21,7 @@ use Rattle.flow.specs.Graphs.{Switch}
 use Rattle.contracts.specs.Bounds.{sign_to}
 use Rattle.contracts.specs.Leaving.{edges_from, end_on}
 use Rattle.contracts.specs.TwoEnds.{Leads, HeldAlways}
-use Rattle.rules.specs.Endpoints.{brought, edges_of, message_name, kind_of, edges_in, in_state}
+use Rattle.rules.specs.Endpoints.{brought, edges_of, message_name, type_of, edges_in, in_state}
 use Rattle.rules.specs.Mentions.{is_lent, has_something, name_of}
 use Rattle.rules.specs.Outcomes.{Pair, Check, refused}
 use Rattle.rules.specs.Rows.{leaf_at, is_owned}
@@ -53,7 +53,7 @@ use Rattle.sound.proofs.blocks.SentBlocks.{process_not_freed}
 use Rattle.sound.proofs.events.Sending.{EndIs, end_is, sent_fits}
 use Rattle.sound.proofs.Reaching.{case_is, passed_owned}
 use Rattle.sound.proofs.Here.{IsGood, tested_good, nothing_none, Here, Owned, owned_is}
-use Rattle.sound.proofs.Parameters.{kind_known}
+use Rattle.sound.proofs.Parameters.{type_known}
 use Rattle.sound.proofs.Cases.{passed_flat, passed_map, Found, found_in, bound_fits, bound_counts}
 use Rattle.sound.proofs.Cases.{bound_stays, and_false, InState, in_state_is, tests_own, brings}
 use Rattle.machine.specs.Instructions.{event_of, is_own, receives, receives_from, receives_at, closes_at, edge_in}
@@ -94,16 +94,16 @@ module _ (p : ProgramModel) (bound : Bounds) (w : World) (self choice : ℕ) (f 
     own = owned_is p w self f rest m h.row v.variable.0 h.holds h.is h.fits
         (each_at (λ e. is_owned h.row e.variable.0 ≡ true) es choice v owned_all at_choice)
 
-    is_an_end : is_end own.variable.kind ≡ true
+    is_an_end : is_end own.variable.ty ≡ true
     is_an_end =
         let e = each_at (λ e. IsEndVariable m.variables e.variable.0) es choice v fit.ends at_choice in
-        ap (λ (z : VariableModel). is_end z.kind) (some_same own.variable e.variable (sym own.there ∙ e.there)) ∙ e.end
+        ap (λ (z : VariableModel). is_end z.ty) (some_same own.variable e.variable (sym own.there ∙ e.there)) ∙ e.end
 
-    end_k : EndIs own.variable.kind
-    end_k = end_is own.variable.kind is_an_end
+    end_k : EndIs own.variable.ty
+    end_k = end_is own.variable.ty is_an_end
 
-    kind_a : stateless (block_at w.blocks own.at).kind ≡ Endpoint record { 0 = end_k.c } end_k.side record { 0 = 0 }
-    kind_a = own.leaf.kind ∙ end_k.is
+    type_a : stateless (block_at w.blocks own.at).ty ≡ Endpoint record { 0 = end_k.c } end_k.side record { 0 = 0 }
+    type_a = own.leaf.ty ∙ end_k.is
 
     once : standing own.at f.variables ≤ 1
     once = top_once p w self f rest own.at h.holds h.is
@@ -125,10 +125,10 @@ module _ (p : ProgramModel) (bound : Bounds) (w : World) (self choice : ℕ) (f 
         (closed p m h.row cases v.variable.0) (c.next, row') there) in (
           goes_on p w self f rest m c.next f.variables row' w.blocks h.holds h.is h.there h.below (reaches (c.next, row') in_pairs)
               (sent_fits w.blocks w.blocks m.variables f.variables h.row [] v.variable.0 own.at leaf.CutOff own.variable h.fits tt
-              (stays_same w.blocks) (λ j n short. record { there = short; kind = refl; state = inl refl }) once own.is own.there
+              (stays_same w.blocks) (λ j n short. record { there = short; ty = refl; state = inl refl }) once own.is own.there
               (record {
                 there = own.leaf.there;
-                kind = own.leaf.kind;
+                ty = own.leaf.ty;
                 state = (
                   is_an_end,
                   both_true (freed w.blocks (block_at w.blocks own.at).peer) (is_empty (block_at w.blocks own.at).queue) gone
@@ -146,11 +146,11 @@ module _ (p : ProgramModel) (bound : Bounds) (w : World) (self choice : ℕ) (f 
           ∙ and_false (freed w.blocks (block_at w.blocks own.at).peer)
 
       state_is : InState w.blocks own.at (leaf_at h.row v.variable.0)
-      state_is = in_state_is w.blocks own.variable.kind own.at (leaf_at h.row v.variable.0) own.leaf is_an_end not_cut
+      state_is = in_state_is w.blocks own.variable.ty own.at (leaf_at h.row v.variable.0) own.leaf is_an_end not_cut
 
       front : HasFront p w.blocks own.at end_k.c end_k.side y.message
       front = has_front always p bound sound w.blocks own.at end_k.c end_k.side h.holds.channels own.leaf.there
-          (process_not_freed (block_at w.blocks own.at).owner self own.owned) kind_a y ys was
+          (process_not_freed (block_at w.blocks own.at).owner self own.owned) type_a y ys was
 
       abbrev edges : List Edge
       edges = front.contract.parts.edges
@@ -165,9 +165,9 @@ module _ (p : ProgramModel) (bound : Bounds) (w : World) (self choice : ℕ) (f 
       state'_is = ap (λ (z : Option ℕ). unwrap_or z (block_at w.blocks own.at).state) front.edge_in
 
       awaited_is : awaited_edges p m h.row v ≡ edges_from edges (sign_to end_k.side) (block_at w.blocks own.at).state
-      awaited_is = ap (λ (l : Leaf). in_state l (λ q. edges_in p (kind_of m v.variable.0) q) []) state_is.is
-          ∙ (ap (λ (k : Option HeapKind). edges_in p k state_is.q) (kind_known m v.variable.0 own.variable own.there)
-          ∙ (in_edges p own.variable.kind end_k.c end_k.side state_is.q end_k.is
+      awaited_is = ap (λ (l : Leaf). in_state l (λ q. edges_in p (type_of m v.variable.0) q) []) state_is.is
+          ∙ (ap (λ (k : Option HeapType). edges_in p k state_is.q) (type_known m v.variable.0 own.variable own.there)
+          ∙ (in_edges p own.variable.ty end_k.c end_k.side state_is.q end_k.is
           ∙ (ap (λ (z : List Edge). edges_from z (sign_to end_k.side) state_is.q) edges_are
           ∙ ap (λ (n : ℕ). edges_from edges (sign_to end_k.side) n) (sym state_is.state))))
 
@@ -178,7 +178,7 @@ module _ (p : ProgramModel) (bound : Bounds) (w : World) (self choice : ℕ) (f 
       has_case : is_none (case_for cases v.variable.0 (Some y.message)) ≡ false
       has_case =
           let F = λ (d : Edge). refused (is_none (case_for cases v.variable.0 (Some d.message.0)))
-          (not_covered (name_of m v.variable.0) (message_name p (kind_of m v.variable.0) d.message.0) v.place) in
+          (not_covered (name_of m v.variable.0) (message_name p (type_of m v.variable.0) d.message.0) v.place) in
           let c = each_at (λ e. Passed (covered p m h.row cases e)) es choice v covered_all at_choice in
           let k = each_contains (λ d. F d ≡ None) (awaited_edges p m h.row v) row_edge.edge
           (passed_map F (awaited_edges p m h.row v) c) row_edge.there in
@@ -195,25 +195,25 @@ module _ (p : ProgramModel) (bound : Bounds) (w : World) (self choice : ℕ) (f 
       hb = blocks_fit p w h.holds
 
       abbrev bs' : List Block
-      bs' = got p w self hb own.at state' y ys end_k.c end_k.side own.owned own.leaf.there kind_a was leads
+      bs' = got p w self hb own.at state' y ys end_k.c end_k.side own.owned own.leaf.there type_a was leads
 
       cut' : StaysCutOff w.blocks bs'
-      cut' = cut_now p w self hb own.at state' y ys end_k.c end_k.side own.owned own.leaf.there kind_a was leads
+      cut' = cut_now p w self hb own.at state' y ys end_k.c end_k.side own.owned own.leaf.there type_a was leads
 
       kept' : (P : ℕ → Type 0) → ((j : ℕ) → P j → j ≢ own.at) → AreKept w.blocks bs' P
-      kept' = kept_now p w self hb own.at state' y ys end_k.c end_k.side own.owned own.leaf.there kind_a was leads
+      kept' = kept_now p w self hb own.at state' y ys end_k.c end_k.side own.owned own.leaf.there type_a was leads
 
       typed' : AreDeclared bs' (brought p y.message) y.payload
-      typed' = typed p w self hb own.at state' y ys end_k.c end_k.side own.owned own.leaf.there kind_a was leads h.holds.brought
+      typed' = typed p w self hb own.at state' y ys end_k.c end_k.side own.owned own.leaf.there type_a was leads h.holds.brought
 
-      leaf' : HasLeaf bs' own.variable.kind own.at (leaf.State front.to)
+      leaf' : HasLeaf bs' own.variable.ty own.at (leaf.State front.to)
       leaf' = record {
         there = let k = cut'.long in let k2 = own.leaf.there in omega arith;
-        kind = ap (λ (b : Block). stateless b.kind) (at p w self hb own.at state' y ys end_k.c end_k.side own.owned own.leaf.there kind_a
-            was leads own.at) ∙ own.leaf.kind;
+        ty = ap (λ (b : Block). stateless b.ty) (at p w self hb own.at state' y ys end_k.c end_k.side own.owned own.leaf.there type_a
+            was leads own.at) ∙ own.leaf.ty;
         state = (
           is_an_end,
-          inl (state_mine p w self hb own.at state' y ys end_k.c end_k.side own.owned own.leaf.there kind_a was leads
+          inl (state_mine p w self hb own.at state' y ys end_k.c end_k.side own.owned own.leaf.there type_a was leads
               ∙ state'_is),
         );
       }
@@ -251,7 +251,7 @@ module _ (p : ProgramModel) (bound : Bounds) (w : World) (self choice : ℕ) (f 
                 (subst (λ (r : List Leaf). Reached (outcome p f.method) (entry_of p f.method) (c.next, r)) row_is
                 (reaches (c.next, row_d) in_pairs))
                 (bound_fits bs' m.variables f.variables (set h.row v.variable.0 (leaf.State front.to)) c.targets
-                (brought p y.message) y.payload base b.kinds typed')
+                (brought p y.message) y.payload base b.types typed')
                 (record {
                   lent = bound_stays p m f.variables c.targets y.payload
                       (each_map (λ u. IsBoundAt p m h.graph.scope f.point c.next u.0) (λ u. is_lent m u.0 ≡ false) c.targets
@@ -259,17 +259,17 @@ module _ (p : ProgramModel) (bound : Bounds) (w : World) (self choice : ℕ) (f 
                   cut = cut';
                   kept = kept' (λ j. standing j f.variables ≡ 0) (λ j z s. let k1 : standing j f.variables ≡ standing own.at f.variables =
                       ap (λ (n : ℕ). standing n f.variables) s in let k2 = stands in absurd (omega arith));
-                  counted = λ j. counted_now p w self hb own.at state' y ys end_k.c end_k.side own.owned own.leaf.there kind_a was leads j
+                  counted = λ j. counted_now p w self hb own.at state' y ys end_k.c end_k.side own.owned own.leaf.there type_a was leads j
                       (standing j f.variables) (standing j (bound_to f.variables c.targets y.payload))
-                      (bound_counts j m.variables f.variables c.targets (brought p y.message) bs' y.payload h.fits.long b.kinds typed'
+                      (bound_counts j m.variables f.variables c.targets (brought p y.message) bs' y.payload h.fits.long b.types typed'
                       b.apart (bound_none c.targets c.next b.bound_at));
-                  others = others_now p w self hb own.at state' y ys end_k.c end_k.side own.owned own.leaf.there kind_a was leads;
-                  channels = channels_now p w self hb own.at state' y ys end_k.c end_k.side own.owned own.leaf.there kind_a was leads;
-                  queues = queues_now p w self hb own.at state' y ys end_k.c end_k.side own.owned own.leaf.there kind_a was leads;
-                  brought = brought_now p w self hb own.at state' y ys end_k.c end_k.side own.owned own.leaf.there kind_a was leads
+                  others = others_now p w self hb own.at state' y ys end_k.c end_k.side own.owned own.leaf.there type_a was leads;
+                  channels = channels_now p w self hb own.at state' y ys end_k.c end_k.side own.owned own.leaf.there type_a was leads;
+                  queues = queues_now p w self hb own.at state' y ys end_k.c end_k.side own.owned own.leaf.there type_a was leads;
+                  brought = brought_now p w self hb own.at state' y ys end_k.c end_k.side own.owned own.leaf.there type_a was leads
                       h.holds.brought;
-                  held = held_now p w self hb own.at state' y ys end_k.c end_k.side own.owned own.leaf.there kind_a was leads;
-                  declared = declared_now p w self hb own.at state' y ys end_k.c end_k.side own.owned own.leaf.there kind_a was leads
+                  held = held_now p w self hb own.at state' y ys end_k.c end_k.side own.owned own.leaf.there type_a was leads;
+                  declared = declared_now p w self hb own.at state' y ys end_k.c end_k.side own.owned own.leaf.there type_a was leads
                       h.holds.declared;
                 }),
             cut',

@@ -1,6 +1,6 @@
 use Rattle.std.proofs.Common.{take}
 use Rattle.std.specs.List.{flat_map}
-use Rattle.declarations.specs.Kinds.{type_unknown}
+use Rattle.declarations.specs.Types.{type_unknown}
 use Rattle.declarations.specs.Mistakes.{Adds}
 use Rattle.declarations.specs.Program.{Program}
 use Rattle.declarations.specs.Scopes.{IsScope}

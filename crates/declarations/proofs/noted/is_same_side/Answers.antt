@@ -1,5 +1,5 @@
 use Rattle.std.proofs.Common.{sym, ◌∙◌, rules}
-use Rattle.program.specs.contracts.kind.Side.{the_type}
+use Rattle.program.specs.contracts.types.Side.{the_type}
 use denote.Enum.Bare.{same_true}
 use Rattle.declarations.proofs.noted.is_same_side.Goals as goal
 

@@ -2,7 +2,7 @@ use Rattle.std.proofs.Common.{Some, sym, subst}
 use Rattle.std.specs.Prelude.{OnOk}
 use Rattle.declarations.specs.Declarations.{names_of_states, states_of}
 use Rattle.declarations.specs.Mistakes.{Adds}
-use Rattle.declarations.specs.Kinds.{endpoint_unknown}
+use Rattle.declarations.specs.Types.{endpoint_unknown}
 use Rattle.declarations.specs.Listed.{asked_name}
 use Rattle.declarations.specs.declared.mistake.NameSort.TheVariants as sort
 use Rattle.tables.specs.Tables.{IsTable}

@@ -16,7 +16,7 @@ returns-clause-some c = by c.pop.result c.pop.ensures.items
     by : (r : Option ℕ) → c.index_mut.result.now.fields.items ≡ c.pop.new.self.items ++ option_to_list r
         → IfSome r (IsPopped (blocks_model c.args.blocks.now.items) (blocks_model (set c.args.blocks.now.items c.args.x
         (record {
-          kind = c.index_mut.result.now.kind;
+          ty = c.index_mut.result.now.ty;
           owner = c.index_mut.result.now.owner;
           peer = c.index_mut.result.now.peer;
           state = c.index_mut.result.now.state;
@@ -42,7 +42,7 @@ returns-clause-same c = by c.pop.result c.pop.ensures.items
     by : (r : Option ℕ) → c.index_mut.result.now.fields.items ≡ c.pop.new.self.items ++ option_to_list r
         → IfNone r (blocks_model (set c.args.blocks.now.items c.args.x
         (record {
-          kind = c.index_mut.result.now.kind;
+          ty = c.index_mut.result.now.ty;
           owner = c.index_mut.result.now.owner;
           peer = c.index_mut.result.now.peer;
           state = c.index_mut.result.now.state;

@@ -89,12 +89,12 @@ returns-clause-tells c = λ bound w rest is.
     ∙ ap Moved (world_with w.processes c.args.turn.process rest f (frame_model c.put.new.self) c.args.turn.next
     c.args.making.now.target.variable.0 (length c.blocks-address.result.now) w.blocks (blocks_model c.add.new.self.blocks.items)
     (payloads_claimed payloads) (payloads_claimed payloads) c.deref.result.now (variables_model c.lets_payloads_go.new.variables) _
-    c.kind_at-kind.result refl given
-    (ap length c.blocks-address.ensures ∙ (sym (seen_length items) ∙ ap length (sym is))) c.kind_at-kind.ensures
+    c.type_at-ty.result refl given
+    (ap length c.blocks-address.ensures ∙ (sym (seen_length items) ∙ ap length (sym is))) c.type_at-ty.ensures
     (c.lets_payloads_go.ensures.gone ∙ ap (λ (x : Frame). let_go x.variables (payloads_claimed payloads)) c.list.ensures.same)
     (c.put.ensures.put ∙ ap (λ (x : Frame). with_variables x (set (variables_model c.lets_payloads_go.new.variables)
     c.args.making.now.target.variable.0 (Some (length c.blocks-address.result.now)))) c.list.ensures.same)
-    (c.in_ok-add.ensures.added ∙ ap (blocks_with c.kind_at-kind.result c.args.turn.process c.deref.result.now) (sym is)))
+    (c.in_ok-add.ensures.added ∙ ap (blocks_with c.type_at-ty.result c.args.turn.process c.deref.result.now) (sym is)))
 
 pub put-requires : goal.put-requires
 put-requires c = record { takes = λ a e. c.lets_payloads_go.ensures.still _ c.in_ok-list.ensures.takes }

@@ -3,10 +3,10 @@ use Rattle.std.specs.Prelude.{OnOk}
 use Rattle.tree.specs.ExpressionTrees.{expression_tree}
 use Rattle.names.specs.Expressions.{InScope}
 use Rattle.declarations.specs.Mistakes.{Adds}
-use Rattle.declarations.specs.Kinds.{type_kind}
+use Rattle.declarations.specs.Types.{type_meant}
 use Rattle.names.specs.Shapes.{shape}
 use Rattle.names.specs.Values.{argument_mistakes}
-use Rattle.names.proofs.PendingLemmas.{enough_kinds}
+use Rattle.names.proofs.PendingLemmas.{enough_types}
 use Rattle.names.proofs.arguments.judge_typed_arguments.Goals as goal
 
 pub returns : goal.returns
@@ -15,5 +15,5 @@ returns g c = λ p f scope frame.
     let args = c.args.arguments.now in
     let es = map shape (map expression_tree args) in
     subst (λ l. OnOk c.judge_arguments.result (Adds c.args.found.now.items c.judge_arguments.new.found.items l))
-    (ap (λ kinds. argument_mistakes s kinds es) (c.deref.ensures.value ∙ c.in_ok-kinds.ensures p scope) ∙ enough_kinds expression_tree (λ x. type_kind p (g.T.Typed.type_of x)) s c.args.typed.now args)
+    (ap (λ types. argument_mistakes s types es) (c.deref.ensures.value ∙ c.in_ok-types.ensures p scope) ∙ enough_types expression_tree (λ x. type_meant p (g.T.Typed.as_written x)) s c.args.typed.now args)
     (c.judge_arguments.ensures p f scope frame)

@@ -5,7 +5,7 @@ use Rattle.names.specs.Cases.{awaited_message, message_case_mistakes, twice_mist
 use Rattle.names.specs.Operands.{in_frame}
 use Rattle.declarations.specs.Mistakes.{Adds}
 use Rattle.names.specs.Heads.{case_head}
-use Rattle.declarations.specs.declared.kinds.ValueKind.TheVariants as kind
+use Rattle.declarations.specs.declared.value_type.ValueType.TheVariants as ty
 use Rattle.names.proofs.HeadWords.{told_twice}
 use Rattle.names.proofs.PassLemmas.{on_adds}
 use Rattle.names.proofs.cases.judge_message.Goals as goal
@@ -19,7 +19,7 @@ returns-in_ok-judge_message_case-in-Some c = λ p f earlier scope awaits twice.
     let mid = c.judge_message_case.new.found.items in
     let new = c.judge_case_twice.new.found.items in
     let word = c.args.word in
-    let k = kind.Endpoint c.args.end.side c.args.end.item in
+    let k = ty.Endpoint c.args.end.side c.args.end.item in
     let message = message_tree c.in-Some.message.now in
     let named : awaited_message s k h.awaited ≡ Some message = ap (awaited_message s k) awaits ∙ sym (c.message.ensures p scope) ∙ ap (option_map (λ m. message_tree m.now)) c.in-Some.is in
     subst (λ o. OnOk result (Adds old new (message_case_mistakes s k o c.args.end.side word h.binds ++ (if is_some o then twice_mistakes s earlier h else [])))) (sym named)
@@ -35,7 +35,7 @@ returns-in-None c = λ p f earlier scope awaits twice.
     let old = c.args.found.now.items in
     let new = c.add_unknown.new.found.items in
     let word = c.args.word in
-    let k = kind.Endpoint c.args.end.side c.args.end.item in
+    let k = ty.Endpoint c.args.end.side c.args.end.item in
     let named : awaited_message s k h.awaited ≡ None = ap (awaited_message s k) awaits ∙ sym (c.message.ensures p scope) ∙ ap (option_map (λ m. message_tree m.now)) c.in-None.is in
     subst (λ o. OnOk result (Adds old new (message_case_mistakes s k o c.args.end.side word h.binds ++ (if is_some o then twice_mistakes s earlier h else [])))) (sym named)
     c.add_unknown.ensures

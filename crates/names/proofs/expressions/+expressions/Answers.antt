@@ -56,20 +56,20 @@ judge_relation-returns t c =
 
 pub judge_factors-each-init : goal.judge_factors-each-init
 judge_factors-each-init t c =
-    let row = factor_lists.out-Factors c.args.factors.now in
-    c.in_ok-judge_factor.ensures (first_term (shape (unary_tree row.first))) c.args.found.now.items (judges_first (shape (unary_tree row.first)) c.from_first-terms.ensures c.in_ok-first.ensures)
+    let sequence = factor_lists.out-Factors c.args.factors.now in
+    c.in_ok-judge_factor.ensures (first_term (shape (unary_tree sequence.first))) c.args.found.now.items (judges_first (shape (unary_tree sequence.first)) c.from_first-terms.ensures c.in_ok-first.ensures)
 
 pub judge_factors-each-preserved : goal.judge_factors-each-preserved
 judge_factors-each-preserved t c =
-    let row = factor_lists.out-Factors c.args.factors.now in
-    let before = with_factor (first_term (shape (unary_tree row.first))) (factor_tree row.second) in
+    let sequence = factor_lists.out-Factors c.args.factors.now in
+    let before = with_factor (first_term (shape (unary_tree sequence.first))) (factor_tree sequence.second) in
     judges_factor factor_tree before c.deref-factor-items.result.now c.each.factor-index c.factor-item.result c.each-test.true c.factor-item.is
     (c.in_ok-judge_factor-2.ensures (factors_to factor_tree before c.deref-factor-items.result.now c.each.factor-index) c.args.found.now.items c.each.invariant)
 
 pub judge_factors-returns : goal.judge_factors-returns
 judge_factors-returns t c =
-    let row = factor_lists.out-Factors c.args.factors.now in
-    judges_factors factor_tree (unary_tree row.first) (factor_tree row.second) c.deref-factor-items.result.now row.others.items c.each.factor-index (factors_tree c.args.factors.now) c.joined_terms.result _ c.each-test.false c.deref-factor-items.ensures.value
+    let sequence = factor_lists.out-Factors c.args.factors.now in
+    judges_factors factor_tree (unary_tree sequence.first) (factor_tree sequence.second) c.deref-factor-items.result.now sequence.others.items c.each.factor-index (factors_tree c.args.factors.now) c.joined_terms.result _ c.each-test.false c.deref-factor-items.ensures.value
     (factors_model c.args.factors.now) c.each.invariant c.joined_terms.ensures
 
 pub judge_factor-returns-in_ok-terms-in-Times : goal.judge_factor-returns-in_ok-terms-in-Times

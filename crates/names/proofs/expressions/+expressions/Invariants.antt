@@ -30,5 +30,5 @@ invariant-judge_relation-each l =
 
 abbrev pub invariant-judge_factors-each : goal.invariant-judge_factors-each
 invariant-judge_factors-each l =
-    let row = factor_lists.out-Factors l.factors in
-    JudgesTerms l.scope l.variables (factors_to factor_tree (with_factor (first_term (shape (unary_tree row.first))) (factor_tree row.second)) l.factor-items l.factor-index) l.fn.found.items l.found.items l.terms
+    let sequence = factor_lists.out-Factors l.factors in
+    JudgesTerms l.scope l.variables (factors_to factor_tree (with_factor (first_term (shape (unary_tree sequence.first))) (factor_tree sequence.second)) l.factor-items l.factor-index) l.fn.found.items l.found.items l.terms

@@ -3,4 +3,4 @@ use Rattle.names.proofs.OwnLemmas.{scalar_owns}
 use Rattle.names.proofs.mentions.owns.Goals as goal
 
 pub returns-in-Scalar : goal.returns-in-Scalar
-returns-in-Scalar c = λ s scope kind. sym (scalar_owns s c.args.held c.args.field _ (sym kind ∙ c.in-Scalar.is))
+returns-in-Scalar c = λ s scope ty. sym (scalar_owns s c.args.held c.args.field _ (sym ty ∙ c.in-Scalar.is))

@@ -1,6 +1,6 @@
 use Rattle.std.proofs.Common.{false, get_or, subst, sym}
 use Rattle.tree.specs.declared.class as made
-use Rattle.program.specs.declared.kind.Scalar.TheVariants.{Int}
+use Rattle.program.specs.declared.types.Scalar.TheVariants.{Int}
 use Rattle.tree.specs.declared.types.Type.TheVariants.{Scalar}
 use Rattle.names.specs.Frames.{Turned}
 use Rattle.names.specs.Methods.{parameter_turn}

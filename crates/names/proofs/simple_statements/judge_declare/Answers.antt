@@ -5,7 +5,7 @@ use Rattle.tree.specs.Values.{value_tree}
 use Rattle.names.specs.Bodies.{inside_of, given_mistakes}
 use Rattle.declarations.specs.Mistakes.{Adds}
 use Rattle.names.specs.Frames.{IsFrame, Turned}
-use Rattle.declarations.specs.Kinds.{is_heap, type_kind, type_unknown}
+use Rattle.declarations.specs.Types.{is_heap, type_meant, type_unknown}
 use Rattle.names.specs.Variables.{declared_variable}
 use Rattle.declarations.proofs.AddLemmas.{adds_then}
 use Rattle.names.proofs.TurnLemmas.{on_before}
@@ -15,7 +15,7 @@ pub returns : goal.returns
 returns c = λ m f around frame.
     let text = m.program.text in
     let declare = c.args.declare.now in
-    let kind = type_kind m.program declare.ty in
+    let ty = type_meant m.program declare.ty in
     let heap = is_heap declare.ty in
     let v = c.args.variables.now in
     let w = c.declare.new.self in
@@ -24,13 +24,13 @@ returns c = λ m f around frame.
     let given = c.judge_given.new.found.items in
     let new = c.declare.new.found.items in
     let unknown = type_unknown m.program declare.ty in
-    let value = given_mistakes (inside_of m f) kind (option_map value_tree declare.value) in
+    let value = given_mistakes (inside_of m f) ty (option_map value_tree declare.value) in
     let same = around.scope.text_is in
-    let is = c.kind-kind.ensures m.program around.scope in
-    on_before result text c.args.found.now.items given new w (unknown ++ value) (declared_variable text declare.name kind heap f)
+    let is = c.type_meant-ty.ensures m.program around.scope in
+    on_before result text c.args.found.now.items given new w (unknown ++ value) (declared_variable text declare.name ty heap f)
     (adds_then (c.in_ok-judge_type.ensures m.program around.scope)
     (subst (λ k. Adds typed given (given_mistakes (inside_of m f) k (option_map value_tree declare.value))) is (c.in_ok-judge_given.ensures m f around frame)))
     (subst (λ k. OnOk result (Turned text given new w (declared_variable text declare.name k heap f))) is
-    (subst (λ b. OnOk result (Turned text given new w (declared_variable text declare.name c.kind-kind.result b f))) c.is_heap-heap.ensures
-    (subst (λ t. OnOk result (Turned t given new w (declared_variable t declare.name c.kind-kind.result c.is_heap-heap.result f))) same
+    (subst (λ b. OnOk result (Turned text given new w (declared_variable text declare.name c.type_meant-ty.result b f))) c.is_heap-heap.ensures
+    (subst (λ t. OnOk result (Turned t given new w (declared_variable t declare.name c.type_meant-ty.result c.is_heap-heap.result f))) same
     (c.declare.ensures f (subst (λ t. IsFrame t f v) (sym same) frame)))))

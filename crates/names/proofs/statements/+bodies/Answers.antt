@@ -15,7 +15,7 @@ use Rattle.declarations.specs.Mistakes.{Adds}
 use Rattle.names.specs.Frames.{Turned}
 use Rattle.names.specs.Heads.{IsHeads, switch_heads}
 use Rattle.names.specs.Shapes.{shape}
-use Rattle.names.specs.Values.{Alone, Started, call_mistakes, target_mistakes, target_kind, value_mistakes}
+use Rattle.names.specs.Values.{Alone, Started, call_mistakes, target_mistakes, target_type, value_mistakes}
 use Rattle.names.specs.Variables.{Frame, Turn, closed, follow}
 use Rattle.names.proofs.BranchLemmas.{last_branch, no_branch, no_statement, next_statement, next_test, next_case, case_there, last_case}
 use Rattle.names.proofs.KeepLemmas.{kept, statements_extend, case_extends}
@@ -30,11 +30,11 @@ judge_block-returns t c = λ m f around frame.
     let old = c.args.found.now.items in
     let new = c.judge_statements.new.found.items in
     let v = c.judge_statements.new.variables in
-    let row = statement_sequence (map statement_tree block.statements.items) in
-    let whole = statements_turn m row f in
+    let sequence = statement_sequence (map statement_tree block.statements.items) in
+    let whole = statements_turn m sequence f in
     let inner = subst (λ xs. Turned text old new v (statements_turn m (statement_sequence (map statement_tree xs)) f)) c.deref.ensures.value (c.in_ok-judge_statements.ensures m f around frame) in
     subst (λ b. Turned text old new c.leave.new.self (block_turn m b f)) (sym (block_is block))
-    (leaves f whole around.scope.text_is (c.len-outer.ensures text f frame) c.leave.ensures (kept f whole.frame (statements_extend m row f)) inner)
+    (leaves f whole around.scope.text_is (c.len-outer.ensures text f frame) c.leave.ensures (kept f whole.frame (statements_extend m sequence f)) inner)
 
 pub judge_statements-loop-statement-preserved : goal.judge_statements-loop-statement-preserved
 judge_statements-loop-statement-preserved t c = λ m f around frame.
@@ -64,12 +64,12 @@ judge_case-returns t c = λ m f all around frame heads at.
     let w = c.judge_statements.new.variables in
     let params = bound_params (awaited_message s (held (meant s case.endpoint)) case.message) in
     let binding = binds_turn m.program params case.binds.items f in
-    let row = statement_sequence (map statement_tree case.statements.items) in
+    let sequence = statement_sequence (map statement_tree case.statements.items) in
     let first = c.in_ok-judge_binds.ensures m.program f around.scope frame in
     let second = subst (λ xs. Turned text bound new w (statements_turn m (statement_sequence (map statement_tree xs)) binding.frame)) c.deref.ensures.value (c.in_ok-judge_statements.ensures m binding.frame around first.frame) in
-    let both = follow binding (statements_turn m row) in
+    let both = follow binding (statements_turn m sequence) in
     let earlier = take c.args.index all in
-    let inner = leaves f both around.scope.text_is (c.len-outer.ensures text f frame) c.leave.ensures (kept f both.frame (case_extends m params case.binds.items row f)) (turned_then binding (statements_turn m row) first second) in
+    let inner = leaves f both around.scope.text_is (c.len-outer.ensures text f frame) c.leave.ensures (kept f both.frame (case_extends m params case.binds.items sequence f)) (turned_then binding (statements_turn m sequence) first second) in
     let here = c.in_ok-judge_head.ensures m.program f all (c.context.ensures m f around frame) heads in
     subst (λ k. Turned text old new c.leave.new.self (case_turn m all earlier k f)) (sym (case_is case))
     (adds_before _ (closed f both) here inner)
@@ -145,7 +145,7 @@ judge_statement-returns-in-Assign t c = λ m f around frame.
     let new = c.judge_assign.new.found.items in
     let v = c.args.variables.now in
     subst (λ x. OnOk result (Turned text old new v (statement_turn m x f))) (sym (ap statement_tree c.in-Assign.is ∙ of_assign c.in-Assign.assign))
-    (on_stays result text old new v (target_mistakes (scope_in m f) (assign_tree c.in-Assign.assign.value).target ++ value_mistakes (inside_of m f) (target_kind (scope_in m f) (assign_tree c.in-Assign.assign.value).target) (assign_tree c.in-Assign.assign.value).value) f frame (subst (λ a. OnOk result (Adds old new (target_mistakes (scope_in m f) (assign_tree a).target ++ value_mistakes (inside_of m f) (target_kind (scope_in m f) (assign_tree a).target) (assign_tree a).value))) c.deref-in-Assign.ensures (c.judge_assign.ensures m f around frame)))
+    (on_stays result text old new v (target_mistakes (scope_in m f) (assign_tree c.in-Assign.assign.value).target ++ value_mistakes (inside_of m f) (target_type (scope_in m f) (assign_tree c.in-Assign.assign.value).target) (assign_tree c.in-Assign.assign.value).value) f frame (subst (λ a. OnOk result (Adds old new (target_mistakes (scope_in m f) (assign_tree a).target ++ value_mistakes (inside_of m f) (target_type (scope_in m f) (assign_tree a).target) (assign_tree a).value))) c.deref-in-Assign.ensures (c.judge_assign.ensures m f around frame)))
 
 pub judge_statement-returns-in-Call : goal.judge_statement-returns-in-Call
 judge_statement-returns-in-Call t c = λ m f around frame.

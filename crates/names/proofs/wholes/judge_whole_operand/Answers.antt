@@ -34,20 +34,20 @@ judged_whole scope variables t old new o none judged = record {
   all = λ p f is_scope is_frame.
       let inner = judged.all p f is_scope is_frame in
       record {
-        kind = inner.kind;
+        ty = inner.ty;
         place = inner.place;
         found = subst (Adds old new) (sym (no_more (in_frame p f) t (shape t) refl none)) inner.found;
       };
 }
 
 judged_name : (scope : Scope) (variables : Variables) (t : ExpressionTree) (name : Span) (old new : List Mistake) (o : Operand)
-    → lone_name t ≡ Some name → o.place ≡ name.place → Gives scope variables (λ s. held (meant s name)) (λ s. variable_mistakes s name) old new o.kind
+    → lone_name t ≡ Some name → o.place ≡ name.place → Gives scope variables (λ s. held (meant s name)) (λ s. variable_mistakes s name) old new o.ty
     → JudgesWhole scope variables (shape t) old new o
 judged_name scope variables t name old new o some at given =
     subst (λ e. JudgesWhole scope variables e old new o) (sym (lone_shape t name some)) (record {
       all = λ p f is_scope is_frame.
           let found = given.all p f is_scope is_frame in
-          record { kind = found.kind; place = at; found = found.found };
+          record { ty = found.ty; place = at; found = found.found };
     })
 
 pub returns-in-None : goal.returns-in-None
@@ -55,7 +55,7 @@ returns-in-None c =
     let none = sym c.name_alone.ensures ∙ c.in-None.is in
     IfOk-weaker c.judge_operand.result _ _ (λ o judged. judged_whole _ _ (expression_tree c.args.expression.now) _ _ o none judged) c.judge_operand.ensures
 
-pub returns-in_ok-kind-in-Some : goal.returns-in_ok-kind-in-Some
-returns-in_ok-kind-in-Some c =
+pub returns-in_ok-ty-in-Some : goal.returns-in_ok-ty-in-Some
+returns-in_ok-ty-in-Some c =
     let some = sym c.name_alone.ensures ∙ c.in-Some.is in
-    judged_name _ _ (expression_tree c.args.expression.now) c.in-Some.name _ _ _ some refl c.in_ok-kind-in-Some.ensures
+    judged_name _ _ (expression_tree c.args.expression.now) c.in-Some.name _ _ _ some refl c.in_ok-ty-in-Some.ensures

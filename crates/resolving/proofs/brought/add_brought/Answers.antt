@@ -4,15 +4,15 @@ use Rattle.tree.specs.Trees.{contract_of, contract_tree, definition_tree, member
 use Rattle.tree.specs.declared.item.Definition.{Definition}
 use Rattle.declarations.specs.Declarations.{message_among, messages_of}
 use Rattle.resolving.specs.Brought.{brought}
-use Rattle.program.specs.Programs.{kind_lists}
+use Rattle.program.specs.Programs.{type_lists}
 use Rattle.resolving.proofs.BroughtLemmas.{contract_brings}
 use Rattle.resolving.proofs.brought.add_brought.Goals as goal
 
 pub returns-in_ok-add_members : goal.returns-in_ok-add_members
 returns-in_ok-add_members c = λ p round.
-    let old = kind_lists c.args.told.now.items in
-    let mid = kind_lists c.add_messages.new.told.items in
-    let new = kind_lists c.add_members.new.told.items in
+    let old = type_lists c.args.told.now.items in
+    let mid = type_lists c.add_messages.new.told.items in
+    let new = type_lists c.add_members.new.told.items in
     let messages = c.in_ok-add_messages.ensures p round ∙ ap (λ l. old ++ map (brought p) (map message_tree l)) c.deref.ensures.value in
     let members = c.in_ok-add_members.ensures p round ∙ ap (λ l. mid ++ map (brought p) (flat_map message_among (map member_tree l))) c.deref-in-Contract.ensures.value in
     contract_brings p (contract_tree c.in-Contract.contract) old mid new messages members

@@ -23,7 +23,7 @@ overflow_add-result c =
     let item = c.in_ok-item.ensures.lookup in
     let before = c.in_ok-before.ensures.lookup in
     let few =
-    number_few around.items.now around.types.before.now c.args.class c.in_ok-place.place c.in_ok-before.before.now c.in_ok-item.item.now c.methods_of.result.now around.few around.counted before.3.0 before.1
+    number_few around.items.now around.directory.before.now c.args.class c.in_ok-place.place c.in_ok-before.before.now c.in_ok-item.item.now c.methods_of.result.now around.few around.counted before.3.0 before.1
     item.3.0 item.1 c.methods_of.ensures c.in_ok-method.ensures.lookup.3.0 in
     omega (arith, few)
 
@@ -33,7 +33,7 @@ overflow_cast-result c =
     let item = c.in_ok-item.ensures.lookup in
     let before = c.in_ok-before.ensures.lookup in
     let few =
-    number_few around.items.now around.types.before.now c.args.class c.in_ok-place.place c.in_ok-before.before.now c.in_ok-item.item.now c.methods_of.result.now around.few around.counted before.3.0 before.1
+    number_few around.items.now around.directory.before.now c.args.class c.in_ok-place.place c.in_ok-before.before.now c.in_ok-item.item.now c.methods_of.result.now around.few around.counted before.3.0 before.1
     item.3.0 item.1 c.methods_of.ensures c.in_ok-method.ensures.lookup.3.0 in
     omega (arith, few)
 
@@ -45,7 +45,7 @@ returns c = λ items own h.
     let method = c.in_ok-method.ensures.lookup in
     let before = c.in_ok-before.ensures.lookup in
     let b = c.in_ok-before.before.now in
-    callee_is p c.args.class c.args.name c.in_ok-place.place b.methods around.items.now c.in_ok-item.item.now c.methods_of.result.now c.in_ok-method.method.now h.items (c.in_ok-place.ensures p h.types.scope)
+    callee_is p c.args.class c.args.name c.in_ok-place.place b.methods around.items.now c.in_ok-item.item.now c.methods_of.result.now c.in_ok-method.method.now h.items (c.in_ok-place.ensures p h.directory.scope)
     (slice_get_read around.items.now _ c.args.class c.in_ok-item.item.now refl item.3.0 item.1) c.methods_of.ensures
     (slice_get_read c.methods_of.result.now _ c.in_ok-place.place c.in_ok-method.method.now refl method.3.0 method.1)
-    (ap (λ (x : Before). x.methods) (count_read (map item_tree around.items.now) around.types.before.now c.args.class b around.counted before.3.0 before.1))
+    (ap (λ (x : Before). x.methods) (count_read (map item_tree around.items.now) around.directory.before.now c.args.class b around.counted before.3.0 before.1))

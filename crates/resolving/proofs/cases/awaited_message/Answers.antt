@@ -15,6 +15,6 @@ returns-in_err-contract c = λ items own f around frame.
 pub returns : goal.returns
 returns c = λ items own f around frame.
     let p = program_in c.args.text.now items in
-    c.message_named.ensures p around.types
+    c.message_named.ensures p around.directory
     ∙ ap (option_and_then (λ n. message_named p n c.in-Message.word)) (c.in_ok-contract.ensures items f frame)
     ∙ ap (awaited_message p f c.args.name) (sym c.in-Message.is)

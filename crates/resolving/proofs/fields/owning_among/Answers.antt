@@ -3,11 +3,11 @@ use Rattle.std.specs.Global.{Vec}
 use Rattle.std.proofs.lemmas.List.{take_all}
 use Rattle.tree.specs.declared.class.Field.{Field}
 use Rattle.tree.specs.declared.types.Type.TheVariants.{Scalar}
-use Rattle.program.specs.declared.kind.HeapKind.{HeapKind}
-use Rattle.program.specs.declared.kind.Scalar.TheVariants.{Int}
+use Rattle.program.specs.declared.types.HeapType.{HeapType}
+use Rattle.program.specs.declared.types.Scalar.TheVariants.{Int}
 use Rattle.resolving.specs.Around.{indices_held}
 use Rattle.resolving.specs.Fields.{fields_held}
-use Rattle.resolving.specs.Kinds.{type_held}
+use Rattle.resolving.specs.Types.{type_held}
 use Rattle.resolving.proofs.BroughtLemmas.{held_none, held_some}
 use Rattle.resolving.proofs.FieldLemmas.{index_none, index_some}
 use Rattle.resolving.proofs.fields.owning_among.Goals as goal
@@ -23,18 +23,18 @@ loop-index-preserved c = λ p h.
     let i = c.loop-index.index in
     let lt = c.loop-index-test.true in
     let so = c.loop-index.invariant p h in
-    let kinds = c.loop-index.kinds.items in
+    let types = c.loop-index.types.items in
     let indices = c.loop-index.indices.items in
     let holds = λ (f : Field). type_held p f.ty in
     elim c.match-type_held.branch [
       | in-Some+in_ok-push+in_ok-push-2 w ↦
           let is = w.in-Some.ensures p h in (
-            ap (λ (k : Vec HeapKind). k.items) w.kinds-is ∙ w.in_ok-push.ensures.items ∙ held_some holds fields i past w.in-Some.kind kinds lt so.0 is,
-            ap (λ (k : Vec ℕ). k.items) w.indices-is ∙ w.in_ok-push-2.ensures.items ∙ index_some p fields i past w.in-Some.kind indices lt so.1 is,
+            ap (λ (k : Vec HeapType). k.items) w.types-is ∙ w.in_ok-push.ensures.items ∙ held_some holds fields i past w.in-Some.ty types lt so.0 is,
+            ap (λ (k : Vec ℕ). k.items) w.indices-is ∙ w.in_ok-push-2.ensures.items ∙ index_some p fields i past w.in-Some.ty indices lt so.1 is,
           )
       | in_default w ↦
           let is = w.in_default.ensures p h in (
-            ap (λ (k : Vec HeapKind). k.items) w.kinds-is ∙ held_none holds fields i past kinds lt so.0 is,
+            ap (λ (k : Vec HeapType). k.items) w.types-is ∙ held_none holds fields i past types lt so.0 is,
             ap (λ (k : Vec ℕ). k.items) w.indices-is ∙ index_none p fields i past indices lt so.1 is,
           )
     ]

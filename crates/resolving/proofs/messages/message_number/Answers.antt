@@ -1,6 +1,6 @@
 use Rattle.std.proofs.Common.{Some, ap, ◌∙◌}
 use Rattle.std.specs.Prelude.{option_and_then, option_map, slice_get}
-use Rattle.resolving.proofs.KindLemmas.{message_found}
+use Rattle.resolving.proofs.TypeLemmas.{message_found}
 use Rattle.resolving.proofs.messages.message_number.Goals as goal
 
 pub returns : goal.returns

@@ -1,7 +1,7 @@
 use Rattle.std.proofs.Common.{false, subst, sym, take}
 use Rattle.std.proofs.lemmas.List.{take_all}
 use Rattle.tree.specs.declared.class as made
-use Rattle.program.specs.declared.kind.Scalar.TheVariants.{Int}
+use Rattle.program.specs.declared.types.Scalar.TheVariants.{Int}
 use Rattle.tree.specs.declared.types.Type.TheVariants.{Scalar}
 use Rattle.resolving.specs.Around.{program_in}
 use Rattle.resolving.specs.Frames.{IsFrame}

@@ -17,14 +17,14 @@ loop-class-preserved c =
     let p = program_in c.args.text.now trees in
     let i = c.loop-class.class in
     let methods = c.methods_of-methods.result.now in
-    let owning = ap (map (λ (row : Vec ℕ). row.items)) c.deref-in-loop-class.ensures.value ∙ (c.in_ok-fields.ensures c.args.text.now (record { scope = c.requires.scope; contracts = c.requires.contracts; before = c.deref.ensures.value ∙ c.in_ok-before.ensures })).1 in
+    let owning = ap (map (λ (sequence : Vec ℕ). sequence.items)) c.deref-in-loop-class.ensures.value ∙ (c.in_ok-fields.ensures c.args.text.now (record { scope = c.requires.scope; contracts = c.requires.contracts; before = c.deref.ensures.value ∙ c.in_ok-before.ensures })).1 in
     record {
       messages =
           c.in_ok-add_brought.ensures p (record { scope = c.requires.scope; contracts = c.requires.contracts; before = c.deref.ensures.value ∙ c.in_ok-before.ensures })
           ∙ ap (λ l. l ++ map (brought p) (flat_map messages_of (contract_of (definition_tree c.index-items-class.result.definition)))) c.loop-class.invariant.messages
           ∙ sym (brought_more p items i c.index-items-class.result c.loop-class-test.true c.index-items-class.is);
       methods =
-          c.in_ok-add_methods.ensures trees i (record { types = record { scope = c.requires.scope; contracts = c.requires.contracts; before = c.deref.ensures.value ∙ c.in_ok-before.ensures }; items = refl; owning = owning; class_is = refl; few = c.requires.few })
+          c.in_ok-add_methods.ensures trees i (record { directory = record { scope = c.requires.scope; contracts = c.requires.contracts; before = c.deref.ensures.value ∙ c.in_ok-before.ensures }; items = refl; owning = owning; class_is = refl; few = c.requires.few })
           ∙ ap (λ l. l ++ map (method_told p i) (map method_tree methods)) c.loop-class.invariant.methods
           ∙ ap (λ ms. first_told p items i ++ map (method_told p i) ms) c.methods_of-methods.ensures
           ∙ sym (items_more p items i c.index-items-class.result c.loop-class-test.true c.index-items-class.is);

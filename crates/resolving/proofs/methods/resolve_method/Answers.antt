@@ -23,4 +23,4 @@ returns c = λ items own round.
     let start = parameters_frame p method.params.items no_variables in
     let body = subst (λ l. IsTold text (statements_told p own (stays_here start) (statement_sequence (map statement_tree l)) start) statements after) c.deref-2.ensures.value
     (subst (λ s. IsTold text (statements_told p own s (statement_sequence (map statement_tree c.deref-2.result.now)) start) statements after) (c.here-stays.ensures start (number_is c.last.result start.last (c.last.ensures text start params))) (c.in_ok-statements.ensures items own start round params)) in
-    method_is p own method (record { name = method.name.place; takes = c.takes_some.result; gives = c.is_some.result; result = c.result_held.result; variables = c.into_variables.result; statements = c.in_ok-statements.statements; scope = c.last-scope.result; close = method.body.close.place }) after refl (c.takes_some.ensures ∙ ap takes_some c.deref-3.ensures.value) c.is_some.ensures (c.result_held.ensures p round.types) refl body c.into_variables.ensures c.last-scope.ensures
+    method_is p own method (record { name = method.name.place; takes = c.takes_some.result; gives = c.is_some.result; result = c.result_held.result; variables = c.into_variables.result; statements = c.in_ok-statements.statements; scope = c.last-scope.result; close = method.body.close.place }) after refl (c.takes_some.ensures ∙ ap takes_some c.deref-3.ensures.value) c.is_some.ensures (c.result_held.ensures p round.directory) refl body c.into_variables.ensures c.last-scope.ensures

@@ -2,7 +2,7 @@ use Rattle.std.proofs.Common.{Option, sym, ap, ◌∙◌, option_map}
 use Rattle.tree.specs.Values.{value_tree}
 use Rattle.tree.specs.declared.value.Value.{Value}
 use Rattle.resolving.specs.Around.{program_in}
-use Rattle.resolving.specs.Kinds.{type_held}
+use Rattle.resolving.specs.Types.{type_held}
 use Rattle.resolving.specs.Locals.{next_number}
 use Rattle.resolving.specs.Plain.{assigned, first_value}
 use Rattle.resolving.proofs.PlainLemmas.{told_as, first_assigned}

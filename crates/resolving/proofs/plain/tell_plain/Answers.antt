@@ -4,7 +4,7 @@ use Rattle.tree.specs.StatementTrees.{statement_tree}
 use Rattle.tree.specs.Values.{call_tree, value_tree}
 use Rattle.tree.specs.declared.statement as made
 use Rattle.resolving.specs.Around.{program_in}
-use Rattle.resolving.specs.Kinds.{type_held}
+use Rattle.resolving.specs.Types.{type_held}
 use Rattle.resolving.specs.Locals.{next_number}
 use Rattle.resolving.specs.Plain.{told, stated_call, started, first_value, written, channel, exchanged, returned, plain_told}
 use Rattle.tree.proofs.StatementTwins.{of_declare, of_assign, of_call, of_start, of_channel, of_exchange, of_return}

@@ -12,7 +12,7 @@ use Rattle.tree.specs.declared.expression.Factors as factor_lists
 use Rattle.tree.specs.declared.expression.Relation as relations
 use Rattle.tree.specs.declared.expression.RelationStep as relation_steps
 use Rattle.tree.proofs.ExpressionTwins.{disjunction_model, conjunction_model, equality_model, equality_step_model, relation_model, relation_step_model, factors_model, factor_model}
-use Rattle.resolving.proofs.FactorLemmas.{row_first, row_more, row_all}
+use Rattle.resolving.proofs.FactorLemmas.{sequence_first, sequence_more, sequence_all}
 use Rattle.resolving.proofs.ReadLemmas.{reads_first, reads_more, reads_all}
 use Rattle.resolving.proofs.reads.+expressions.Goals as goal
 
@@ -66,15 +66,15 @@ add_relation-returns t c =
 
 pub add_factors-each-init : goal.add_factors-each-init
 add_factors-each-init t c =
-    let row = factor_lists.out-Factors c.args.factors.now in
-    row_first c.args.text.now (unary_tree row.first) (unary_tree (factors.out-Factor row.second).unary) (factor_tree row.second) c.deref-factor-items.result.now (ap (λ (f : FactorTree). f.1) (factor_model row.second)) c.in_ok-add_unary.ensures c.in_ok-add_unary-2.ensures
+    let sequence = factor_lists.out-Factors c.args.factors.now in
+    sequence_first c.args.text.now (unary_tree sequence.first) (unary_tree (factors.out-Factor sequence.second).unary) (factor_tree sequence.second) c.deref-factor-items.result.now (ap (λ (f : FactorTree). f.1) (factor_model sequence.second)) c.in_ok-add_unary.ensures c.in_ok-add_unary-2.ensures
 
 pub add_factors-each-preserved : goal.add_factors-each-preserved
 add_factors-each-preserved t c =
-    let row = factor_lists.out-Factors c.args.factors.now in
-    row_more c.args.text.now (unary_tree row.first) (unary_tree (factors.out-Factor c.factor-item.result).unary) (factor_tree row.second) c.deref-factor-items.result.now c.each.factor-index c.factor-item.result c.each-test.true c.factor-item.is (ap (λ (f : FactorTree). f.1) (factor_model c.factor-item.result)) c.each.invariant c.in_ok-add_unary-3.ensures
+    let sequence = factor_lists.out-Factors c.args.factors.now in
+    sequence_more c.args.text.now (unary_tree sequence.first) (unary_tree (factors.out-Factor c.factor-item.result).unary) (factor_tree sequence.second) c.deref-factor-items.result.now c.each.factor-index c.factor-item.result c.each-test.true c.factor-item.is (ap (λ (f : FactorTree). f.1) (factor_model c.factor-item.result)) c.each.invariant c.in_ok-add_unary-3.ensures
 
 pub add_factors-returns : goal.add_factors-returns
 add_factors-returns t c =
-    let row = factor_lists.out-Factors c.args.factors.now in
-    row_all c.args.text.now (unary_tree row.first) (factor_tree row.second) c.deref-factor-items.result.now row.others.items c.each.factor-index (factors_tree c.args.factors.now) c.each-test.false c.deref-factor-items.ensures.value (factors_model c.args.factors.now) c.each.invariant
+    let sequence = factor_lists.out-Factors c.args.factors.now in
+    sequence_all c.args.text.now (unary_tree sequence.first) (factor_tree sequence.second) c.deref-factor-items.result.now sequence.others.items c.each.factor-index (factors_tree c.args.factors.now) c.each-test.false c.deref-factor-items.ensures.value (factors_model c.args.factors.now) c.each.invariant

@@ -6,7 +6,7 @@ use Rattle.tree.specs.declared.expression.Equality as equalitys
 use Rattle.tree.specs.declared.expression.Factors as factor_lists
 use Rattle.tree.specs.declared.expression.Relation as relations
 use Rattle.resolving.specs.Steps.{AddsReads}
-use Rattle.resolving.proofs.FactorLemmas.{row_reads}
+use Rattle.resolving.proofs.FactorLemmas.{sequence_reads}
 use Rattle.resolving.proofs.ReadLemmas.{chain_reads}
 use Rattle.resolving.proofs.reads.+expressions.Given as goal
 
@@ -28,5 +28,5 @@ invariant-add_relation-each l =
 
 abbrev pub invariant-add_factors-each : goal.invariant-add_factors-each
 invariant-add_factors-each l =
-    let row = factor_lists.out-Factors l.factors in
-    AddsReads l.text l.locals (row_reads l.text (unary_tree row.first) (factor_tree row.second) l.factor-items l.factor-index) l.fn.found.items l.found.items
+    let sequence = factor_lists.out-Factors l.factors in
+    AddsReads l.text l.locals (sequence_reads l.text (unary_tree sequence.first) (factor_tree sequence.second) l.factor-items l.factor-index) l.fn.found.items l.found.items

@@ -13,5 +13,5 @@ returns-in_err-contract c = λ items own f around frame.
 pub returns : goal.returns
 returns c = λ items own f around frame.
     let p = program_in c.args.text.now items in
-    c.message_sent.ensures p around.types
+    c.message_sent.ensures p around.directory
     ∙ ap (option_and_then (λ n. message_sent p n c.args.word)) (c.in_ok-contract.ensures items f frame)

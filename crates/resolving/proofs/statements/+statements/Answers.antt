@@ -18,7 +18,7 @@ use Rattle.resolving.specs.Reads.{reads}
 use Rattle.resolving.specs.Steps.{IsTold, walked}
 use Rattle.resolving.specs.Told.{Told, follow, made as remade, block_told, ended, others_told, awaited_as, awaited_message, awaited_params, cases_told, in_switch, statement_told, statements_told, test_told}
 use Rattle.resolving.proofs.BlockLemmas.{block_ends, if_told, made_told, number_is, told_as, test_ends}
-use Rattle.resolving.proofs.BodyLemmas.{row_told, walks_all, walks_more}
+use Rattle.resolving.proofs.BodyLemmas.{sequence_told, walks_all, walks_more}
 use Rattle.resolving.proofs.CaseLemmas.{CasesGo, bound_in, case_ends, cases_end, cases_more, cases_start, first_inside, other_inside, switch_cases}
 use Rattle.resolving.proofs.FlatLemmas.{flat_alone}
 use Rattle.resolving.proofs.KeepLemmas.{kept, case_extends, statements_extend}
@@ -45,7 +45,7 @@ tell_statements-returns t c = λ items own f round h.
     let p = program_in text items in
     let stays = staying_model c.args.stays in
     let xs = c.args.statements.now in
-    row_told p own stays (map statement_tree xs) f _ c.loop-statement.locals
+    sequence_told p own stays (map statement_tree xs) f _ c.loop-statement.locals
     (walks_all text (statement_told p own stays) statement_tree xs c.loop-statement.statement-index f _ c.loop-statement.locals c.loop-statement-test.false (c.loop-statement.invariant items own f round h))
 
 pub tell_tests-loop-test-preserved : goal.tell_tests-loop-test-preserved
@@ -76,13 +76,13 @@ tell_block-returns t c = λ items own f round h.
     let told = c.in_ok-statements.statements in
     let inside = c.tell_statements.new.locals in
     let after = c.leave.new.self in
-    let row = statement_sequence (map statement_tree block.statements.items) in
-    let t = statements_told p own stays row f in
+    let sequence = statement_sequence (map statement_tree block.statements.items) in
+    let t = statements_told p own stays sequence f in
     let inner = subst (λ xs. IsTold text (statements_told p own stays (statement_sequence (map statement_tree xs)) f) (seen.statement_sequence (map statement_model told.items)) inside) c.deref.ensures.value (c.in_ok-statements.ensures items own f round h) in
     let whole = block_model (made.Block.roll-Block (record { statements = told; forget = c.forget_past-forget.result })) in
     subst (λ b. IsTold text (block_told p own stays b f) whole after) (sym (block_is block))
     (subst (λ (b : BlockModel). IsTold text (ended block.close.place f t) b after) (sym (block_made told c.forget_past-forget.result))
-    (block_ends text block.close.place f t _ inside after c.len-outer.result c.last-last.result c.last.result c.forget_past-forget.result (kept f t.frame (statements_extend p own stays row f))
+    (block_ends text block.close.place f t _ inside after c.len-outer.result c.last-last.result c.last.result c.forget_past-forget.result (kept f t.frame (statements_extend p own stays sequence f))
     (c.len-outer.ensures text f h) (c.last-last.ensures text f h) (c.last.ensures text t.frame inner.frame) c.forget_past-forget.ensures c.leave.ensures inner))
 
 pub tell_if-returns : goal.tell_if-returns
@@ -184,9 +184,9 @@ tell_case-returns t c = λ items own f round h.
     let m = awaited_message p f case.endpoint case.message in
     let meant = c.awaited_message-meant.ensures items own f round h in
     let params = c.awaited_params-params.ensures ∙ ap awaited_params meant in
-    let row = statement_sequence (map statement_tree case.statements.items) in
+    let sequence = statement_sequence (map statement_tree case.statements.items) in
     let b = bound_in p case f in
-    let t = statements_told p own stays row b.frame in
+    let t = statements_told p own stays sequence b.frame in
     let binds = subst (λ bs. IsTold text (binds_told p (awaited_params m) bs f) targets.items brought) c.deref.ensures.value
     (subst (λ ps. IsTold text (binds_told p ps c.deref.result.now f) targets.items brought) params (c.in_ok-targets.ensures items own f round h)) in
     let inner = subst (λ xs. IsTold text (statements_told p own stays (statement_sequence (map statement_tree xs)) b.frame) (seen.statement_sequence (map statement_model told.items)) inside) c.deref-2.ensures.value
@@ -194,7 +194,7 @@ tell_case-returns t c = λ items own f round h.
     case_ends p own stays c.args.behind f case c.case_endpoint-endpoint.result c.awaited_as.result targets (made.Block.roll-Block (record { statements = told; forget = c.forget_past-forget.result })) after
     (c.case_endpoint-endpoint.ensures items f h) (c.awaited_as.ensures ∙ ap (awaited_as case.message) meant) binds.is
     (subst (λ (k : BlockModel). IsTold text (ended c.args.behind f t) k after) (sym (block_made told c.forget_past-forget.result))
-    (block_ends text c.args.behind f t _ inside after c.len-kept.result c.last-last.result c.last.result c.forget_past-forget.result (kept f t.frame (case_extends p own stays (awaited_params m) case.binds.items row f))
+    (block_ends text c.args.behind f t _ inside after c.len-kept.result c.last-last.result c.last.result c.forget_past-forget.result (kept f t.frame (case_extends p own stays (awaited_params m) case.binds.items sequence f))
     (c.len-kept.ensures text f h) (c.last-last.ensures text f h) (c.last.ensures text t.frame inner.frame) c.forget_past-forget.ensures c.leave.ensures inner))
 
 pub tell_cases-tell_case-requires : goal.tell_cases-tell_case-requires

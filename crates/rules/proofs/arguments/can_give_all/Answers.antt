@@ -23,21 +23,21 @@ loop-number-init c =
 
 pub returns-in-Some-can_give : goal.returns-in-Some-can_give
 returns-in-Some-can_give c =
-    let kinds = c.args.kinds.now in
+    let types = c.args.types.now in
     let given = c.args.arguments.now in
     let m = method_model c.args.here.now.method.now in
     let one = argument_checks m (row_model c.args.here.now.row.now) in
     let n = c.loop-number.number in
-    let lt = below_both (length kinds) (length given) n (subst (λ end. n < end) c.min-number-end.ensures c.loop-number-test.true) in
+    let lt = below_both (length types) (length given) n (subst (λ end. n < end) c.min-number-end.ensures c.loop-number-test.true) in
     left_found (breach_model (model_of c.args.here.now.program.now) m) _ _ _ _ c.can_give.result c.in-Some-can_give.breach
-    (ap (flat_map (λ x. one x.0 x.1)) (zip_more kinds given n _ _ lt.0 lt.1)) c.in-Some-can_give.is c.can_give.ensures c.loop-number.invariant
+    (ap (flat_map (λ x. one x.0 x.1)) (zip_more types given n _ _ lt.0 lt.1)) c.in-Some-can_give.is c.can_give.ensures c.loop-number.invariant
 
 pub returns : goal.returns
 returns c =
-    let kinds = c.args.kinds.now in
+    let types = c.args.types.now in
     let given = c.args.arguments.now in
     let m = method_model c.args.here.now.method.now in
     let one = argument_checks m (row_model c.args.here.now.row.now) in
     let n = c.loop-number.number in
     left_none (breach_model (model_of c.args.here.now.program.now) m) _ _
-    (ap (flat_map (λ x. one x.0 x.1)) (zip_none kinds given n (past_one (length kinds) (length given) n (subst (λ end. end ≤ n) c.min-number-end.ensures c.loop-number-test.false)))) c.loop-number.invariant
+    (ap (flat_map (λ x. one x.0 x.1)) (zip_none types given n (past_one (length types) (length given) n (subst (λ end. end ≤ n) c.min-number-end.ensures c.loop-number-test.false)))) c.loop-number.invariant

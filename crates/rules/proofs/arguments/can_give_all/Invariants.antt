@@ -9,4 +9,4 @@ abbrev pub invariant-loop-number : goal.invariant-loop-number
 invariant-loop-number l =
     let m = method_model l.here.method.now in
     let row = row_model l.here.row.now in
-    Left (all_arguments m row l.kinds l.arguments) (flat_map (λ x. argument_checks m row x.0 x.1) (zip (drop l.number l.kinds) (drop l.number l.arguments)))
+    Left (all_arguments m row l.types l.arguments) (flat_map (λ x. argument_checks m row x.0 x.1) (zip (drop l.number l.types) (drop l.number l.arguments)))

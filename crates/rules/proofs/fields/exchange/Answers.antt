@@ -19,7 +19,7 @@ returns-in-Some-can_be_inside-clause-outcome c =
     let row = row_model c.args.row.now in
     let e = c.args.exchange in
     let says = breach_model (model_of c.args.site.now.program.now) m in
-    let stands = subst (λ k. StandsFor says c.can_be_inside.result (option_map_or (λ kind. field_checks m row kind (payload e.given)) k [])) c.field_of-field.ensures.kind c.can_be_inside.ensures in
+    let stands = subst (λ k. StandsFor says c.can_be_inside.result (option_map_or (λ ty. field_checks m row ty (payload e.given)) k [])) c.field_of-field.ensures.ty c.can_be_inside.ensures in
     alone says _ c.can_be_inside.result (Some c.in-Some-can_be_inside.breach) _ c.in-Some-can_be_inside.is stands
     ∙ behind_one says (has_something m row e.holder) _ c.has_something.result _ c.in_default-has_something.is c.has_something.ensures
     ∙ behind_one says _ _ c.is_another.result _ c.in_default.is c.is_another.ensures
@@ -30,9 +30,9 @@ returns-clause-outcome c =
     let row = row_model c.args.row.now in
     let e = c.args.exchange in
     let says = breach_model (model_of c.args.site.now.program.now) m in
-    let kind = c.field_of-field.ensures.kind in
-    let stands = subst (λ k. StandsFor says c.can_be_inside.result (option_map_or (λ kind. field_checks m row kind (payload e.given)) k [])) kind c.can_be_inside.ensures in
-    let leaf = c.leaf_out_of.ensures.leaf ∙ ap (λ k. option_map_or declared_leaf k Nothing) kind in
+    let ty = c.field_of-field.ensures.ty in
+    let stands = subst (λ k. StandsFor says c.can_be_inside.result (option_map_or (λ ty. field_checks m row ty (payload e.given)) k [])) ty c.can_be_inside.ensures in
+    let leaf = c.leaf_out_of.ensures.leaf ∙ ap (λ k. option_map_or declared_leaf k Nothing) ty in
     ap (λ r. Goes ((c.args.next, r) ∷ [])) (c.set.ensures ∙ ap (set row e.given.variable.0) leaf)
     ∙ alone says _ c.can_be_inside.result None _ c.in_default-can_be_inside.is stands
     ∙ behind_one says (has_something m row e.holder) _ c.has_something.result _ c.in_default-has_something.is c.has_something.ensures

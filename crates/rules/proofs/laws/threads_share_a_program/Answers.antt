@@ -11,7 +11,7 @@ use Rattle.rules.specs.contracts.lowered.Program as program
 use Rattle.rules.specs.contracts.repeats.Repeats as repeats
 use Rattle.contracts.specs.contracts.sound.Sound as sound
 use Rattle.flow.specs.contracts.graph.Graph as graph
-use Rattle.program.specs.contracts.kind.HeapKind as kind
+use Rattle.program.specs.contracts.types.HeapType as ty
 use Rattle.rules.proofs.laws.threads_share_a_program.Goals as goal
 
 -- a list is shared where what stands in it is
@@ -31,7 +31,7 @@ returns c = declared_sync program.the_type (
       field_sync graph.the_row c.threads_share_a_graph.ensures,
       (
         field_sync repeats.the_row c.threads_share_repeats.ensures,
-        (field_sync (vec.the_row kind.the_row global.the_row ghosts) (list_sync kind.the_row c.threads_share_methods.ensures.kinds), tt),
+        (field_sync (vec.the_row ty.the_row global.the_row ghosts) (list_sync ty.the_row c.threads_share_methods.ensures.types), tt),
       ),
     ),
   ),

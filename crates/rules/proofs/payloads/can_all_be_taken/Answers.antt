@@ -25,23 +25,23 @@ loop-number-init c =
 
 pub returns-in-Some-can_be_taken : goal.returns-in-Some-can_be_taken
 returns-in-Some-can_be_taken c =
-    let kinds = c.args.kinds.now in
+    let types = c.args.types.now in
     let given = c.args.payloads.now in
     let p = model_of c.args.here.now.program.now in
     let m = method_model c.args.here.now.method.now in
     let one = taken_checks m (row_model c.args.here.now.row.now) (wrong_in p m c.args.taker) in
     let n = c.loop-number.number in
-    let lt = below_both (length kinds) (length given) n (subst (λ end. n < end) c.min-number-end.ensures c.loop-number-test.true) in
+    let lt = below_both (length types) (length given) n (subst (λ end. n < end) c.min-number-end.ensures c.loop-number-test.true) in
     left_found (breach_model p m) _ _ _ _ c.can_be_taken.result c.in-Some-can_be_taken.breach
-    (ap (flat_map (λ x. one x.0 x.1)) (taken_side kinds given n _ _ lt.0 lt.1)) c.in-Some-can_be_taken.is c.can_be_taken.ensures c.loop-number.invariant
+    (ap (flat_map (λ x. one x.0 x.1)) (taken_side types given n _ _ lt.0 lt.1)) c.in-Some-can_be_taken.is c.can_be_taken.ensures c.loop-number.invariant
 
 pub returns : goal.returns
 returns c =
-    let kinds = c.args.kinds.now in
+    let types = c.args.types.now in
     let given = c.args.payloads.now in
     let p = model_of c.args.here.now.program.now in
     let m = method_model c.args.here.now.method.now in
     let one = taken_checks m (row_model c.args.here.now.row.now) (wrong_in p m c.args.taker) in
     let n = c.loop-number.number in
     left_none (breach_model p m) _ _
-    (ap (flat_map (λ x. one x.0 x.1)) (taken_none kinds given n (past_one (length kinds) (length given) n (subst (λ end. end ≤ n) c.min-number-end.ensures c.loop-number-test.false)))) c.loop-number.invariant
+    (ap (flat_map (λ x. one x.0 x.1)) (taken_none types given n (past_one (length types) (length given) n (subst (λ end. end ≤ n) c.min-number-end.ensures c.loop-number-test.false)))) c.loop-number.invariant

@@ -12,4 +12,4 @@ invariant-loop-number l =
     let m = method_model l.here.method.now in
     let row = row_model l.here.row.now in
     let wrong = wrong_in (model_of l.here.program.now) m l.fn.taker in
-    Left (all_taken m (besides l.fn.taker) row wrong l.kinds (map payload l.payloads)) (flat_map (λ x. taken_checks m row wrong x.0 x.1) (zip (drop l.number l.kinds) (map payload (drop l.number l.payloads))))
+    Left (all_taken m (besides l.fn.taker) row wrong l.types (map payload l.payloads)) (flat_map (λ x. taken_checks m row wrong x.0 x.1) (zip (drop l.number l.types) (map payload (drop l.number l.payloads))))

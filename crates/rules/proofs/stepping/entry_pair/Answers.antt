@@ -12,10 +12,10 @@ use Rattle.rules.proofs.stepping.entry_pair.Goals as goal
 pub returns : goal.returns
 returns c =
     entry_is (slice_get (model_of c.args.program.now).methods c.args.method.0) c.method.result.now c.graph.result.now _ c.method.ensures.method c.graph.ensures
-    (c.in_ok-row.ensures ∙ ap (map (λ v. entry_leaf v.role v.kind)) c.deref.ensures.value)
+    (c.in_ok-row.ensures ∙ ap (map (λ v. entry_leaf v.role v.ty)) c.deref.ensures.value)
 
 pub first_row-requires-clause-numbered : goal.first_row-requires-clause-numbered
 first_row-requires-clause-numbered c =
     let p = model_of c.args.program.now in
-    subst (All (λ (v : Variable). IsNumbered (declared_leaf v.kind))) (sym c.deref.ensures.value)
-    (variables_numbered c.args.program.now.sounds.items p.contracts c.method.result.now.variables.items c.args.program.now.sound c.method.ensures.well_formed.kinds)
+    subst (All (λ (v : Variable). IsNumbered (declared_leaf v.ty))) (sym c.deref.ensures.value)
+    (variables_numbered c.args.program.now.sounds.items p.contracts c.method.result.now.variables.items c.args.program.now.sound c.method.ensures.well_formed.types)

@@ -4,9 +4,9 @@ use Rattle.tree.specs.Grammar.{access_word}
 use Rattle.syntax.specs.Firsts.{access_of}
 use Rattle.tree.specs.declared.item.Access.{Access}
 use Rattle.tree.specs.declared.item.Access.TheVariants as access
-use Rattle.syntax.proofs.Pieces.{stops_never}
-use Rattle.syntax.proofs.Words.{words_taken}
-use Rattle.syntax.proofs.AccessRules.{accesses}
+use Rattle.syntax.proofs.pieces.Pieces.{stops_never}
+use Rattle.syntax.proofs.pieces.Words.{words_taken}
+use Rattle.syntax.proofs.definitions.AccessRules.{accesses}
 use Rattle.syntax.proofs.access.access.Goals as goal
 
 pub returns : goal.returns

@@ -1,9 +1,9 @@
 use Rattle.std.proofs.lemmas.Bool.{iff_false}
 use Rattle.source.specs.declared.kind.Kind.TheVariants as kind
 use Rattle.syntax.specs.Reading.{never}
-use Rattle.syntax.proofs.Exits.{exits}
-use Rattle.syntax.proofs.Choices.{form_fails}
-use Rattle.syntax.proofs.KindLemmas.{kind_leads, not_leads}
+use Rattle.syntax.proofs.pieces.Exits.{exits}
+use Rattle.syntax.proofs.pieces.Choices.{form_fails}
+use Rattle.syntax.proofs.pieces.KindLemmas.{kind_leads, not_leads}
 use Rattle.tree.specs.StatementGrammar.{awaited}
 use Rattle.syntax.proofs.CaseRules.{message_form, closed_form}
 use Rattle.syntax.proofs.cases.awaited.Goals as goal

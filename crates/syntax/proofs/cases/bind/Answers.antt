@@ -1,14 +1,14 @@
 use Rattle.std.proofs.Common.{refl}
 use Rattle.std.proofs.lemmas.Bool.{iff_false}
 use Rattle.source.specs.declared.kind.Kind.TheVariants as kind
-use Rattle.syntax.proofs.Exits.{exits}
-use Rattle.syntax.proofs.Pieces.{fails_here, fails_after, fails_first, fails_second, wide_fails}
-use Rattle.syntax.proofs.Choices.{form_fails}
-use Rattle.syntax.proofs.KindLemmas.{kind_leads, not_leads}
-use Rattle.syntax.proofs.CursorLemmas.{named_piece}
+use Rattle.syntax.proofs.pieces.Exits.{exits}
+use Rattle.syntax.proofs.pieces.Pieces.{fails_here, fails_after, fails_first, fails_second, wide_fails}
+use Rattle.syntax.proofs.pieces.Choices.{form_fails}
+use Rattle.syntax.proofs.pieces.KindLemmas.{kind_leads, not_leads}
+use Rattle.syntax.proofs.pieces.CursorLemmas.{named_piece}
 use Rattle.tree.specs.StatementGrammar.{bind}
 use Rattle.syntax.specs.StatementParts.{bind_on, bind_at}
-use Rattle.syntax.proofs.TypeRules.{scalar_type_piece}
+use Rattle.syntax.proofs.definitions.TypeRules.{scalar_type_piece}
 use Rattle.syntax.proofs.CaseRules.{maybe_typed_piece, scalar_follows, named_bind_form, scalar_bind_form}
 use Rattle.syntax.proofs.cases.bind.Goals as goal
 

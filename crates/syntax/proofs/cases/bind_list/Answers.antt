@@ -1,12 +1,12 @@
 use Rattle.std.proofs.Common.{[], ◌∷◌, ◌++◌, refl, sym, ap, ◌∙◌}
 use Rattle.source.specs.declared.kind.Kind.TheVariants as kind
 use Rattle.tree.specs.Spelling.{listed}
-use Rattle.syntax.proofs.Exits.{exits}
-use Rattle.syntax.proofs.KindLemmas.{kind_leads, test_leads}
+use Rattle.syntax.proofs.pieces.Exits.{exits}
+use Rattle.syntax.proofs.pieces.KindLemmas.{kind_leads, test_leads}
 use Rattle.syntax.specs.Firsts.{opens_type}
 use Rattle.tree.specs.StatementGrammar.{bind}
 use Rattle.syntax.specs.StatementParts.{binds_on, binds_at}
-use Rattle.syntax.proofs.ListedOpen.{open_first_fails, open_more_fails, list_begun, list_more}
+use Rattle.syntax.proofs.pieces.ListedOpen.{open_first_fails, open_more_fails, list_begun, list_more}
 use Rattle.syntax.proofs.CaseRules.{bind_item}
 use Rattle.syntax.proofs.cases.bind_list.Goals as goal
 

@@ -1,7 +1,7 @@
 use Rattle.std.proofs.Common.{length}
 use Rattle.tree.specs.StatementGrammar.{bind}
 use Rattle.syntax.specs.StatementParts.{bind_at}
-use Rattle.syntax.proofs.ListedOpen.{ListRead}
+use Rattle.syntax.proofs.pieces.ListedOpen.{ListRead}
 use Rattle.syntax.proofs.cases.bind_list.Given as goal
 
 abbrev pub invariant-more : goal.invariant-more

@@ -1,7 +1,7 @@
 use Rattle.tree.specs.Spelling.{listed, parens}
 use Rattle.syntax.specs.Reading.{never}
-use Rattle.syntax.proofs.Exits.{exits}
-use Rattle.syntax.proofs.Enclosed.{parens_open_fails, parens_fails, parens_close_fails}
+use Rattle.syntax.proofs.pieces.Exits.{exits}
+use Rattle.syntax.proofs.pieces.Enclosed.{parens_open_fails, parens_fails, parens_close_fails}
 use Rattle.tree.specs.StatementGrammar.{bind}
 use Rattle.syntax.proofs.CaseRules.{binds_inside, bind_list_piece}
 use Rattle.syntax.proofs.cases.binds.Goals as goal

@@ -1,8 +1,8 @@
 use Rattle.tree.specs.Spelling.{comma}
-use Rattle.syntax.proofs.Exits.{exits}
+use Rattle.syntax.proofs.pieces.Exits.{exits}
 use Rattle.tree.specs.StatementGrammar.{bind}
 use Rattle.syntax.specs.StatementParts.{bind_on, bind_at}
-use Rattle.syntax.proofs.ListedOpen.{open_comma_fails, open_item_fails}
+use Rattle.syntax.proofs.pieces.ListedOpen.{open_comma_fails, open_item_fails}
 use Rattle.syntax.proofs.CaseRules.{bind_item}
 use Rattle.syntax.proofs.cases.comma_bind.Goals as goal
 

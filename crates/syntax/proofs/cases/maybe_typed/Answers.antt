@@ -1,10 +1,10 @@
 use Rattle.std.proofs.Common.{refl, sym, ap, ◌∙◌}
 use Rattle.tree.specs.Spelling.{optional}
 use Rattle.syntax.specs.Reading.{never, optional_at}
-use Rattle.syntax.proofs.Exits.{exits}
-use Rattle.syntax.proofs.Beginnings.{splits_self}
-use Rattle.syntax.proofs.Options.{opt_fails}
-use Rattle.syntax.proofs.KindLemmas.{test_leads}
+use Rattle.syntax.proofs.pieces.Exits.{exits}
+use Rattle.syntax.proofs.pieces.Beginnings.{splits_self}
+use Rattle.syntax.proofs.pieces.Options.{opt_fails}
+use Rattle.syntax.proofs.pieces.KindLemmas.{test_leads}
 use Rattle.syntax.specs.StatementParts.{typed, opens_tail, bind_on}
 use Rattle.syntax.proofs.CaseRules.{typed_piece, typed_starts}
 use Rattle.syntax.proofs.cases.maybe_typed.Goals as goal

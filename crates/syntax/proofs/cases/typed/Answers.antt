@@ -1,9 +1,9 @@
 use Rattle.syntax.specs.Reading.{never}
-use Rattle.syntax.proofs.Exits.{exits}
-use Rattle.syntax.proofs.Pieces.{fails_first, fails_second}
-use Rattle.syntax.proofs.CursorLemmas.{named_piece}
+use Rattle.syntax.proofs.pieces.Exits.{exits}
+use Rattle.syntax.proofs.pieces.Pieces.{fails_first, fails_second}
+use Rattle.syntax.proofs.pieces.CursorLemmas.{named_piece}
 use Rattle.syntax.specs.StatementParts.{typed}
-use Rattle.syntax.proofs.TypeForms.{named_tail_piece}
+use Rattle.syntax.proofs.definitions.TypeForms.{named_tail_piece}
 use Rattle.syntax.proofs.CaseRules.{tail_follows}
 use Rattle.syntax.proofs.cases.typed.Goals as goal
 

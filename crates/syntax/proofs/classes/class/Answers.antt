@@ -1,12 +1,12 @@
 use Rattle.std.proofs.Common.{refl}
 use Rattle.source.specs.declared.kind.Kind.TheVariants as kind
 use Rattle.syntax.specs.Reading.{never}
-use Rattle.syntax.proofs.Exits.{exits}
-use Rattle.syntax.proofs.Pieces.{fails_here, fails_after, via_fails, next}
-use Rattle.syntax.proofs.CursorLemmas.{fixed_piece, named_piece}
+use Rattle.syntax.proofs.pieces.Exits.{exits}
+use Rattle.syntax.proofs.pieces.Pieces.{fails_here, fails_after, via_fails, next}
+use Rattle.syntax.proofs.pieces.CursorLemmas.{fixed_piece, named_piece}
 use Rattle.tree.specs.Trees.{class_tree}
 use Rattle.tree.specs.Programs.{class}
-use Rattle.syntax.proofs.ClassRules.{methods_piece, class_to, class_from}
+use Rattle.syntax.proofs.definitions.ClassRules.{methods_piece, class_to, class_from}
 use Rattle.syntax.proofs.classes.class.Goals as goal
 
 pub returns-in_err-expect : goal.returns-in_err-expect

@@ -1,9 +1,9 @@
 use Rattle.tree.specs.Spelling.{comma}
 use Rattle.syntax.specs.Reading.{never}
-use Rattle.syntax.proofs.Exits.{exits}
-use Rattle.syntax.proofs.Listed.{comma_first_fails, comma_item_fails}
+use Rattle.syntax.proofs.pieces.Exits.{exits}
+use Rattle.syntax.proofs.pieces.Listed.{comma_first_fails, comma_item_fails}
 use Rattle.tree.specs.Programs.{parameter}
-use Rattle.syntax.proofs.ClassRules.{parameter_item}
+use Rattle.syntax.proofs.definitions.ClassRules.{parameter_item}
 use Rattle.syntax.proofs.classes.comma_parameter.Goals as goal
 
 pub returns-in_err-expect : goal.returns-in_err-expect

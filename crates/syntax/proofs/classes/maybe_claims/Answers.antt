@@ -2,12 +2,12 @@ use Rattle.source.specs.declared.kind.Kind.TheVariants as kind
 use Rattle.tree.specs.Symbols.{is_kind}
 use Rattle.tree.specs.Spelling.{when}
 use Rattle.syntax.specs.Reading.{when_at}
-use Rattle.syntax.proofs.Exits.{exits}
-use Rattle.syntax.proofs.Beginnings.{splits_self}
-use Rattle.syntax.proofs.KindLemmas.{kind_leads}
+use Rattle.syntax.proofs.pieces.Exits.{exits}
+use Rattle.syntax.proofs.pieces.Beginnings.{splits_self}
+use Rattle.syntax.proofs.pieces.KindLemmas.{kind_leads}
 use Rattle.tree.specs.Programs.{claims_words}
-use Rattle.syntax.proofs.Options.{when_fails}
-use Rattle.syntax.proofs.ClassRules.{claims_piece, claims_starts}
+use Rattle.syntax.proofs.pieces.Options.{when_fails}
+use Rattle.syntax.proofs.definitions.ClassRules.{claims_piece, claims_starts}
 use Rattle.syntax.proofs.classes.maybe_claims.Goals as goal
 
 pub returns-in_err-claims : goal.returns-in_err-claims

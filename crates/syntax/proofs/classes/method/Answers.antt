@@ -1,14 +1,14 @@
 use Rattle.std.proofs.Common.{refl}
 use Rattle.source.specs.declared.kind.Kind.TheVariants as kind
 use Rattle.syntax.specs.Reading.{never}
-use Rattle.syntax.proofs.Exits.{exits}
-use Rattle.syntax.proofs.Pieces.{fails_here, fails_after, fails_first, fails_second, via_fails, next}
-use Rattle.syntax.proofs.CursorLemmas.{fixed_piece, named_piece}
+use Rattle.syntax.proofs.pieces.Exits.{exits}
+use Rattle.syntax.proofs.pieces.Pieces.{fails_here, fails_after, fails_first, fails_second, via_fails, next}
+use Rattle.syntax.proofs.pieces.CursorLemmas.{fixed_piece, named_piece}
 use Rattle.tree.specs.Trees.{method_tree}
 use Rattle.tree.specs.Programs.{method}
-use Rattle.syntax.proofs.AccessRules.{access_piece}
+use Rattle.syntax.proofs.definitions.AccessRules.{access_piece}
 use Rattle.syntax.proofs.StatementWays.{block_piece}
-use Rattle.syntax.proofs.ClassRules.{parameters_piece, result_piece, result_follows, result_end, method_follows, method_to, method_from}
+use Rattle.syntax.proofs.definitions.ClassRules.{parameters_piece, result_piece, result_follows, result_end, method_follows, method_to, method_from}
 use Rattle.syntax.proofs.classes.method.Goals as goal
 
 pub returns-in_err-expect : goal.returns-in_err-expect

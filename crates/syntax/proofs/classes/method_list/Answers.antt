@@ -1,14 +1,14 @@
 use Rattle.std.proofs.Common.{map, refl, sym, ap, ◌∙◌}
 use Rattle.std.specs.List.{flat_map}
 use Rattle.tree.specs.Symbols.{by_kind}
-use Rattle.syntax.proofs.Exits.{exits}
-use Rattle.syntax.proofs.Beginnings.{splits_self}
-use Rattle.syntax.proofs.Repeats.{many_fails, ended_leaves}
-use Rattle.syntax.proofs.KindLemmas.{test_leads}
+use Rattle.syntax.proofs.pieces.Exits.{exits}
+use Rattle.syntax.proofs.pieces.Beginnings.{splits_self}
+use Rattle.syntax.proofs.pieces.Repeats.{many_fails, ended_leaves}
+use Rattle.syntax.proofs.pieces.KindLemmas.{test_leads}
 use Rattle.syntax.specs.Firsts.{opens_method}
 use Rattle.tree.specs.Trees.{method_tree}
 use Rattle.tree.specs.Programs.{method}
-use Rattle.syntax.proofs.ClassRules.{method_piece, method_starts}
+use Rattle.syntax.proofs.definitions.ClassRules.{method_piece, method_starts}
 use Rattle.syntax.proofs.classes.method_list.Goals as goal
 
 pub returns-in_err-method : goal.returns-in_err-method

@@ -1,11 +1,11 @@
 use Rattle.std.proofs.Common.{refl}
 use Rattle.syntax.specs.Reading.{never}
-use Rattle.syntax.proofs.Exits.{exits}
-use Rattle.syntax.proofs.Pieces.{fails_first, fails_second, via_fails}
-use Rattle.syntax.proofs.CursorLemmas.{named_piece}
+use Rattle.syntax.proofs.pieces.Exits.{exits}
+use Rattle.syntax.proofs.pieces.Pieces.{fails_first, fails_second, via_fails}
+use Rattle.syntax.proofs.pieces.CursorLemmas.{named_piece}
 use Rattle.tree.specs.Programs.{parameter}
-use Rattle.syntax.proofs.TypeForms.{type_piece, type_follows}
-use Rattle.syntax.proofs.ClassRules.{maybe_claims_piece, typed_name_piece, claims_follows, parameter_to, parameter_from}
+use Rattle.syntax.proofs.definitions.TypeForms.{type_piece, type_follows}
+use Rattle.syntax.proofs.definitions.ClassRules.{maybe_claims_piece, typed_name_piece, claims_follows, parameter_to, parameter_from}
 use Rattle.syntax.proofs.classes.parameter.Goals as goal
 
 pub returns-in_err-claims : goal.returns-in_err-claims

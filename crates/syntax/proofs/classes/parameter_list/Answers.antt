@@ -4,12 +4,12 @@ use Rattle.source.specs.declared.kind.Kind.TheVariants as kind
 use Rattle.tree.specs.Symbols.{by_kind}
 use Rattle.tree.specs.Spelling.{comma, listed}
 use Rattle.syntax.specs.Reading.{listed_on, listed_at}
-use Rattle.syntax.proofs.Exits.{exits}
-use Rattle.syntax.proofs.Listed.{listed_first_fails, listed_more_fails}
-use Rattle.syntax.proofs.KindLemmas.{kind_leads, test_leads}
+use Rattle.syntax.proofs.pieces.Exits.{exits}
+use Rattle.syntax.proofs.pieces.Listed.{listed_first_fails, listed_more_fails}
+use Rattle.syntax.proofs.pieces.KindLemmas.{kind_leads, test_leads}
 use Rattle.syntax.specs.Firsts.{opens_parameter}
 use Rattle.tree.specs.Programs.{parameter}
-use Rattle.syntax.proofs.ClassRules.{parameter_item}
+use Rattle.syntax.proofs.definitions.ClassRules.{parameter_item}
 use Rattle.syntax.proofs.classes.parameter_list.Goals as goal
 
 pub returns-in_err-parameter : goal.returns-in_err-parameter

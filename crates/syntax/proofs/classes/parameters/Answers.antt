@@ -1,9 +1,9 @@
 use Rattle.tree.specs.Spelling.{listed, parens}
 use Rattle.syntax.specs.Reading.{never}
-use Rattle.syntax.proofs.Exits.{exits}
-use Rattle.syntax.proofs.Enclosed.{parens_open_fails, parens_fails, parens_close_fails}
+use Rattle.syntax.proofs.pieces.Exits.{exits}
+use Rattle.syntax.proofs.pieces.Enclosed.{parens_open_fails, parens_fails, parens_close_fails}
 use Rattle.tree.specs.Programs.{parameter}
-use Rattle.syntax.proofs.ClassRules.{parameters_inside, parameter_list_piece}
+use Rattle.syntax.proofs.definitions.ClassRules.{parameters_inside, parameter_list_piece}
 use Rattle.syntax.proofs.classes.parameters.Goals as goal
 
 pub returns-in_err-left : goal.returns-in_err-left

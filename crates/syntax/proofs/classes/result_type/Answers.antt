@@ -1,14 +1,14 @@
 use Rattle.std.proofs.Common.{refl}
 use Rattle.std.proofs.lemmas.Bool.{iff_false}
 use Rattle.source.specs.declared.kind.Kind.TheVariants as kind
-use Rattle.syntax.proofs.Exits.{exits}
-use Rattle.syntax.proofs.Pieces.{wide_fails}
-use Rattle.syntax.proofs.Choices.{form_fails}
-use Rattle.syntax.proofs.KindLemmas.{kind_leads, not_leads}
+use Rattle.syntax.proofs.pieces.Exits.{exits}
+use Rattle.syntax.proofs.pieces.Pieces.{wide_fails}
+use Rattle.syntax.proofs.pieces.Choices.{form_fails}
+use Rattle.syntax.proofs.pieces.KindLemmas.{kind_leads, not_leads}
 use Rattle.syntax.specs.Types.{type_on}
 use Rattle.tree.specs.Programs.{result_type}
 use Rattle.syntax.specs.ClassParts.{result_at}
-use Rattle.syntax.proofs.ClassRules.{void_form, type_form}
+use Rattle.syntax.proofs.definitions.ClassRules.{void_form, type_form}
 use Rattle.syntax.proofs.classes.result_type.Goals as goal
 
 pub returns-in_err-expect : goal.returns-in_err-expect

@@ -3,11 +3,11 @@ use Rattle.source.specs.declared.kind.Kind.TheVariants as kind
 use Rattle.syntax.specs.Reading.{never}
 use Rattle.tree.specs.Trees.{message_tree, state_tree, member_tree, contract_tree}
 use Rattle.tree.specs.Grammar.{contract}
-use Rattle.syntax.proofs.Exits.{exits}
-use Rattle.syntax.proofs.Pieces.{next, fails_here, fails_after, fails_first, fails_second, via_fails}
-use Rattle.syntax.proofs.CursorLemmas.{fixed_piece, placed_piece, named_piece}
-use Rattle.syntax.proofs.BodyRules.{state_piece}
-use Rattle.syntax.proofs.ContractRules.{messages_piece, messages_follow, members_piece, members_follow, members_end_piece, state_follows, states_end_piece, inside_piece, contract_to, contract_from}
+use Rattle.syntax.proofs.pieces.Exits.{exits}
+use Rattle.syntax.proofs.pieces.Pieces.{next, fails_here, fails_after, fails_first, fails_second, via_fails}
+use Rattle.syntax.proofs.pieces.CursorLemmas.{fixed_piece, placed_piece, named_piece}
+use Rattle.syntax.proofs.definitions.BodyRules.{state_piece}
+use Rattle.syntax.proofs.definitions.ContractRules.{messages_piece, messages_follow, members_piece, members_follow, members_end_piece, state_follows, states_end_piece, inside_piece, contract_to, contract_from}
 use Rattle.syntax.proofs.contracts.contract.Goals as goal
 
 pub returns-in_err-expect : goal.returns-in_err-expect

@@ -3,11 +3,11 @@ use Rattle.tree.specs.Trees.{member_tree}
 use Rattle.tree.specs.Grammar.{member}
 use Rattle.syntax.specs.Firsts.{opens_message}
 use Rattle.syntax.specs.States.{state_on, member_at}
-use Rattle.syntax.proofs.Exits.{exits}
-use Rattle.syntax.proofs.Pieces.{wide_fails}
-use Rattle.syntax.proofs.Choices.{form_fails}
-use Rattle.syntax.proofs.KindLemmas.{test_leads, other_leads}
-use Rattle.syntax.proofs.ContractRules.{message_form, state_form}
+use Rattle.syntax.proofs.pieces.Exits.{exits}
+use Rattle.syntax.proofs.pieces.Pieces.{wide_fails}
+use Rattle.syntax.proofs.pieces.Choices.{form_fails}
+use Rattle.syntax.proofs.pieces.KindLemmas.{test_leads, other_leads}
+use Rattle.syntax.proofs.definitions.ContractRules.{message_form, state_form}
 use Rattle.syntax.proofs.contracts.member.Goals as goal
 
 pub returns-in_err-message : goal.returns-in_err-message

@@ -7,10 +7,10 @@ use Rattle.tree.specs.Grammar.{member}
 use Rattle.syntax.specs.Firsts.{opens_member}
 use Rattle.syntax.specs.Reading.{many_at}
 use Rattle.syntax.specs.States.{member_at, members_on}
-use Rattle.syntax.proofs.Exits.{exits}
-use Rattle.syntax.proofs.Repeats.{many_fails}
-use Rattle.syntax.proofs.KindLemmas.{test_leads}
-use Rattle.syntax.proofs.ContractRules.{member_piece, member_starts, member_splits, member_leaves, members_end_at}
+use Rattle.syntax.proofs.pieces.Exits.{exits}
+use Rattle.syntax.proofs.pieces.Repeats.{many_fails}
+use Rattle.syntax.proofs.pieces.KindLemmas.{test_leads}
+use Rattle.syntax.proofs.definitions.ContractRules.{member_piece, member_starts, member_splits, member_leaves, members_end_at}
 use Rattle.syntax.proofs.contracts.members.Goals as goal
 
 pub returns-in_err-member : goal.returns-in_err-member

@@ -4,11 +4,11 @@ use Rattle.tree.specs.Symbols.{by_kind}
 use Rattle.tree.specs.Trees.{message_tree}
 use Rattle.tree.specs.Grammar.{message}
 use Rattle.syntax.specs.Firsts.{opens_message}
-use Rattle.syntax.proofs.Exits.{exits}
-use Rattle.syntax.proofs.Beginnings.{splits_self}
-use Rattle.syntax.proofs.Repeats.{many_fails, ended_leaves}
-use Rattle.syntax.proofs.KindLemmas.{test_leads}
-use Rattle.syntax.proofs.MessageRules.{message_piece, message_starts}
+use Rattle.syntax.proofs.pieces.Exits.{exits}
+use Rattle.syntax.proofs.pieces.Beginnings.{splits_self}
+use Rattle.syntax.proofs.pieces.Repeats.{many_fails, ended_leaves}
+use Rattle.syntax.proofs.pieces.KindLemmas.{test_leads}
+use Rattle.syntax.proofs.definitions.MessageRules.{message_piece, message_starts}
 use Rattle.syntax.proofs.contracts.messages.Goals as goal
 
 pub returns-in_err-message : goal.returns-in_err-message

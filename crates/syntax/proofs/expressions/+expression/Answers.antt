@@ -11,18 +11,18 @@ use Rattle.tree.specs.Expressions.{Number, True, False, level, expression, step,
 use Rattle.syntax.specs.ExpressionReads.{level_on, level_at, step_at, steps_end, factor_at, factors_end, atom_at, target_at, target_on}
 use Rattle.tree.specs.Factors.{factor}
 use Rattle.tree.specs.ExpressionTrees.{expression_tree, disjunction_tree, conjunction_tree, equality_tree, equality_step_tree, relation_tree, relation_step_tree, sum_tree, factor_tree, factors_tree, unary_tree, prefixed_tree, atom_tree, target_tree, unmarked}
-use Rattle.syntax.proofs.Exits.{exits}
-use Rattle.syntax.proofs.KindLemmas.{kind_leads, test_leads, test_stops}
-use Rattle.syntax.proofs.Enclosed.{parens_open_fails, parens_fails, parens_close_fails, brackets_open_fails, brackets_fails, brackets_close_fails}
+use Rattle.syntax.proofs.pieces.Exits.{exits}
+use Rattle.syntax.proofs.pieces.KindLemmas.{kind_leads, test_leads, test_stops}
+use Rattle.syntax.proofs.pieces.Enclosed.{parens_open_fails, parens_fails, parens_close_fails, brackets_open_fails, brackets_fails, brackets_close_fails}
 use Rattle.syntax.proofs.AtomRules.{in_parens, in_brackets, index, target_form, parens_form, number_form, number_leads}
 use Rattle.syntax.proofs.AloneRules.{summed_is_read}
-use Rattle.syntax.proofs.Repeats.{last_read}
+use Rattle.syntax.proofs.pieces.Repeats.{last_read}
 use Rattle.syntax.proofs.FactorRules.{factor_mark_fails, factor_unary_fails, factor_fails, second_fails, other_factors_fail, factors_are_read, unary_is_sum}
 use Rattle.syntax.proofs.ExpressionFails.{first_fails, others_fail, unary_fails, mark_fails, behind_fails, step_fails, chain_is_read, expression_piece, prefixes_fail, atom_fails, variable_fails, dotted_fails, indexed_fails, unary_is_read, step_tail, atom_is_read}
 use Rattle.tree.proofs.ExpressionTwins.{of_factors}
 use Rattle.syntax.proofs.TreeLemmas.{summed_made, disjunction_made, conjunction_made, equality_made, relation_made, termed_made, factors_made, plain_made, prefixed_made, prefixed_parts, number_made, true_made, false_made}
-use Rattle.syntax.proofs.Pieces.{wide_fails, stops_never}
-use Rattle.syntax.proofs.Choices.{form_fails}
+use Rattle.syntax.proofs.pieces.Pieces.{wide_fails, stops_never}
+use Rattle.syntax.proofs.pieces.Choices.{form_fails}
 use Rattle.syntax.proofs.expressions.+expression.Goals as goal
 
 pub expression_from-returns-in_err-sum-clause-read : goal.expression_from-returns-in_err-sum-clause-read

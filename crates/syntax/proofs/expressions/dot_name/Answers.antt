@@ -2,9 +2,9 @@ use Rattle.std.proofs.Common.{refl}
 use Rattle.source.specs.declared.kind.Kind.TheVariants as kind
 use Rattle.syntax.specs.Reading.{never}
 use Rattle.tree.specs.Expressions.{dot_name}
-use Rattle.syntax.proofs.Exits.{exits}
-use Rattle.syntax.proofs.Pieces.{fails_here, fails_after, via_fails}
-use Rattle.syntax.proofs.CursorLemmas.{fixed_piece, named_piece}
+use Rattle.syntax.proofs.pieces.Exits.{exits}
+use Rattle.syntax.proofs.pieces.Pieces.{fails_here, fails_after, via_fails}
+use Rattle.syntax.proofs.pieces.CursorLemmas.{fixed_piece, named_piece}
 use Rattle.syntax.proofs.AtomRules.{dot_to, dot_from}
 use Rattle.syntax.proofs.expressions.dot_name.Goals as goal
 

@@ -3,10 +3,10 @@ use Rattle.std.specs.List.{flat_map}
 use Rattle.tree.specs.Symbols.{by_kind}
 use Rattle.tree.specs.Operators.{prefix}
 use Rattle.syntax.specs.OperatorReads.{opens_prefix}
-use Rattle.syntax.proofs.Exits.{exits}
-use Rattle.syntax.proofs.Beginnings.{splits_self}
-use Rattle.syntax.proofs.Repeats.{many_fails, ended_leaves}
-use Rattle.syntax.proofs.KindLemmas.{test_leads}
+use Rattle.syntax.proofs.pieces.Exits.{exits}
+use Rattle.syntax.proofs.pieces.Beginnings.{splits_self}
+use Rattle.syntax.proofs.pieces.Repeats.{many_fails, ended_leaves}
+use Rattle.syntax.proofs.pieces.KindLemmas.{test_leads}
 use Rattle.syntax.proofs.OperatorRules.{prefix_piece, prefix_starts}
 use Rattle.syntax.proofs.expressions.prefixes.Goals as goal
 

@@ -1,12 +1,12 @@
 use Rattle.std.proofs.lemmas.Bool.{iff_false}
 use Rattle.source.specs.declared.kind.Kind.TheVariants as kind
 use Rattle.syntax.specs.Reading.{never}
-use Rattle.syntax.proofs.Exits.{exits}
-use Rattle.syntax.proofs.Choices.{form_fails}
-use Rattle.syntax.proofs.KindLemmas.{kind_leads, neither_leads}
+use Rattle.syntax.proofs.pieces.Exits.{exits}
+use Rattle.syntax.proofs.pieces.Choices.{form_fails}
+use Rattle.syntax.proofs.pieces.KindLemmas.{kind_leads, neither_leads}
 use Rattle.tree.specs.Programs.{definition}
 use Rattle.tree.specs.Trees.{definition_tree}
-use Rattle.syntax.proofs.ItemRules.{contract_form, class_form, struct_form}
+use Rattle.syntax.proofs.definitions.ItemRules.{contract_form, class_form, struct_form}
 use Rattle.syntax.proofs.items.definition.Goals as goal
 
 pub returns-in_err-contract : goal.returns-in_err-contract

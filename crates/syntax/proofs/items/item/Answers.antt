@@ -2,10 +2,10 @@ use Rattle.std.proofs.Common.{refl}
 use Rattle.syntax.specs.Reading.{never}
 use Rattle.tree.specs.Trees.{item_tree}
 use Rattle.tree.specs.Programs.{item}
-use Rattle.syntax.proofs.Exits.{exits}
-use Rattle.syntax.proofs.Pieces.{fails_second, via_fails}
-use Rattle.syntax.proofs.AccessRules.{access_piece}
-use Rattle.syntax.proofs.ItemRules.{access_follows, item_to, item_from}
+use Rattle.syntax.proofs.pieces.Exits.{exits}
+use Rattle.syntax.proofs.pieces.Pieces.{fails_second, via_fails}
+use Rattle.syntax.proofs.definitions.AccessRules.{access_piece}
+use Rattle.syntax.proofs.definitions.ItemRules.{access_follows, item_to, item_from}
 use Rattle.syntax.proofs.items.item.Goals as goal
 
 pub returns-in_err-definition : goal.returns-in_err-definition

@@ -3,11 +3,11 @@ use Rattle.tree.specs.Symbols.{by_kind}
 use Rattle.tree.specs.Trees.{item_tree}
 use Rattle.tree.specs.Programs.{program}
 use Rattle.syntax.specs.Firsts.{opens_item}
-use Rattle.syntax.proofs.Exits.{exits}
-use Rattle.syntax.proofs.Beginnings.{splits_self}
-use Rattle.syntax.proofs.Repeats.{many_fails, ended_leaves}
-use Rattle.syntax.proofs.KindLemmas.{test_leads}
-use Rattle.syntax.proofs.ItemRules.{item_piece, item_starts}
+use Rattle.syntax.proofs.pieces.Exits.{exits}
+use Rattle.syntax.proofs.pieces.Beginnings.{splits_self}
+use Rattle.syntax.proofs.pieces.Repeats.{many_fails, ended_leaves}
+use Rattle.syntax.proofs.pieces.KindLemmas.{test_leads}
+use Rattle.syntax.proofs.definitions.ItemRules.{item_piece, item_starts}
 use Rattle.syntax.proofs.items.items.Goals as goal
 
 pub returns-in_err-item : goal.returns-in_err-item

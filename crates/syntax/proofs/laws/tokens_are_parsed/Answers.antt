@@ -1,5 +1,5 @@
 use Rattle.std.proofs.Common.{[]}
-use Rattle.syntax.proofs.Tops.{spelled}
+use Rattle.syntax.proofs.pieces.Tops.{spelled}
 use Rattle.syntax.proofs.SpelledTokens.{program_tokens}
 use Rattle.syntax.proofs.laws.tokens_are_parsed.Goals as goal
 

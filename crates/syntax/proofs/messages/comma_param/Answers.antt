@@ -1,9 +1,9 @@
 use Rattle.syntax.specs.Reading.{never}
 use Rattle.tree.specs.Spelling.{comma}
 use Rattle.tree.specs.Grammar.{param}
-use Rattle.syntax.proofs.Exits.{exits}
-use Rattle.syntax.proofs.Listed.{comma_first_fails, comma_item_fails}
-use Rattle.syntax.proofs.TypeForms.{param_item}
+use Rattle.syntax.proofs.pieces.Exits.{exits}
+use Rattle.syntax.proofs.pieces.Listed.{comma_first_fails, comma_item_fails}
+use Rattle.syntax.proofs.definitions.TypeForms.{param_item}
 use Rattle.syntax.proofs.messages.comma_param.Goals as goal
 
 pub returns-in_err-expect : goal.returns-in_err-expect

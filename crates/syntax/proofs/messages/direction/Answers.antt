@@ -3,10 +3,10 @@ use Rattle.tree.specs.Symbols.{is_placed}
 use Rattle.tree.specs.Grammar.{direction_word}
 use Rattle.program.specs.declared.contract.Direction.{Direction}
 use Rattle.program.specs.declared.contract.Direction.TheVariants as direction
-use Rattle.syntax.proofs.Pieces.{stops_never}
+use Rattle.syntax.proofs.pieces.Pieces.{stops_never}
 use Rattle.syntax.specs.Firsts.{direction_of}
-use Rattle.syntax.proofs.Words.{words_fails, words_taken}
-use Rattle.syntax.proofs.MessageRules.{directions}
+use Rattle.syntax.proofs.pieces.Words.{words_fails, words_taken}
+use Rattle.syntax.proofs.definitions.MessageRules.{directions}
 use Rattle.syntax.proofs.messages.direction.Goals as goal
 
 pub returns-in_default : goal.returns-in_default

@@ -3,11 +3,11 @@ use Rattle.source.specs.declared.kind.Kind.TheVariants as kind
 use Rattle.syntax.specs.Reading.{never}
 use Rattle.tree.specs.Grammar.{message}
 use Rattle.tree.specs.Trees.{message_tree}
-use Rattle.syntax.proofs.Exits.{exits}
-use Rattle.syntax.proofs.Pieces.{next, fails_here, fails_after, via_fails}
-use Rattle.syntax.proofs.CursorLemmas.{fixed_piece, named_piece}
-use Rattle.syntax.proofs.Words.{words_piece}
-use Rattle.syntax.proofs.MessageRules.{directions, message_to, message_from, params_piece}
+use Rattle.syntax.proofs.pieces.Exits.{exits}
+use Rattle.syntax.proofs.pieces.Pieces.{next, fails_here, fails_after, via_fails}
+use Rattle.syntax.proofs.pieces.CursorLemmas.{fixed_piece, named_piece}
+use Rattle.syntax.proofs.pieces.Words.{words_piece}
+use Rattle.syntax.proofs.definitions.MessageRules.{directions, message_to, message_from, params_piece}
 use Rattle.syntax.proofs.messages.message.Goals as goal
 
 pub returns-in_err-direction : goal.returns-in_err-direction

@@ -1,10 +1,10 @@
 use Rattle.std.proofs.Common.{refl}
 use Rattle.syntax.specs.Reading.{never}
 use Rattle.tree.specs.Grammar.{param}
-use Rattle.syntax.proofs.Exits.{exits}
-use Rattle.syntax.proofs.Pieces.{fails_first, fails_second, via_fails}
-use Rattle.syntax.proofs.CursorLemmas.{named_piece}
-use Rattle.syntax.proofs.TypeForms.{param_to, param_from, type_piece, type_follows}
+use Rattle.syntax.proofs.pieces.Exits.{exits}
+use Rattle.syntax.proofs.pieces.Pieces.{fails_first, fails_second, via_fails}
+use Rattle.syntax.proofs.pieces.CursorLemmas.{named_piece}
+use Rattle.syntax.proofs.definitions.TypeForms.{param_to, param_from, type_piece, type_follows}
 use Rattle.syntax.proofs.messages.param.Goals as goal
 
 pub returns-in_err-ty : goal.returns-in_err-ty

@@ -6,10 +6,10 @@ use Rattle.tree.specs.Spelling.{comma, listed}
 use Rattle.syntax.specs.Reading.{listed_on, listed_at}
 use Rattle.tree.specs.Grammar.{param}
 use Rattle.syntax.specs.Firsts.{opens_type}
-use Rattle.syntax.proofs.Exits.{exits}
-use Rattle.syntax.proofs.KindLemmas.{kind_leads, test_leads}
-use Rattle.syntax.proofs.Listed.{listed_first_fails, listed_more_fails}
-use Rattle.syntax.proofs.TypeForms.{param_item}
+use Rattle.syntax.proofs.pieces.Exits.{exits}
+use Rattle.syntax.proofs.pieces.KindLemmas.{kind_leads, test_leads}
+use Rattle.syntax.proofs.pieces.Listed.{listed_first_fails, listed_more_fails}
+use Rattle.syntax.proofs.definitions.TypeForms.{param_item}
 use Rattle.syntax.proofs.messages.param_list.Goals as goal
 
 pub returns-in_err-param : goal.returns-in_err-param

@@ -1,9 +1,9 @@
 use Rattle.syntax.specs.Reading.{never}
 use Rattle.tree.specs.Spelling.{listed, parens}
 use Rattle.tree.specs.Grammar.{param}
-use Rattle.syntax.proofs.Exits.{exits}
-use Rattle.syntax.proofs.Enclosed.{parens_open_fails, parens_fails, parens_close_fails}
-use Rattle.syntax.proofs.MessageRules.{params_inside, param_list_piece}
+use Rattle.syntax.proofs.pieces.Exits.{exits}
+use Rattle.syntax.proofs.pieces.Enclosed.{parens_open_fails, parens_fails, parens_close_fails}
+use Rattle.syntax.proofs.definitions.MessageRules.{params_inside, param_list_piece}
 use Rattle.syntax.proofs.messages.params.Goals as goal
 
 pub returns-in_err-left : goal.returns-in_err-left

@@ -4,8 +4,8 @@ use Rattle.tree.specs.Operators.{equality_word}
 use Rattle.syntax.specs.OperatorReads.{equality_of}
 use Rattle.tree.specs.declared.expression.EqualityOperator.{EqualityOperator}
 use Rattle.tree.specs.declared.expression.EqualityOperator.TheVariants as equality
-use Rattle.syntax.proofs.Pieces.{stops_never}
-use Rattle.syntax.proofs.Words.{words_fails, words_taken}
+use Rattle.syntax.proofs.pieces.Pieces.{stops_never}
+use Rattle.syntax.proofs.pieces.Words.{words_fails, words_taken}
 use Rattle.syntax.proofs.OperatorRules.{equalities}
 use Rattle.syntax.proofs.operators.equality_operator.Goals as goal
 

@@ -4,9 +4,9 @@ use Rattle.tree.specs.Symbols.{is_kind}
 use Rattle.tree.specs.Spelling.{word, when}
 use Rattle.tree.specs.Factors.{factor_operator}
 use Rattle.syntax.specs.Reading.{never, when_at, Takes, Fails}
-use Rattle.syntax.proofs.Exits.{exits}
-use Rattle.syntax.proofs.Beginnings.{fails_leads}
-use Rattle.syntax.proofs.Choices.{form_fails}
+use Rattle.syntax.proofs.pieces.Exits.{exits}
+use Rattle.syntax.proofs.pieces.Beginnings.{fails_leads}
+use Rattle.syntax.proofs.pieces.Choices.{form_fails}
 use Rattle.syntax.proofs.OperatorRules.{terms_form}
 use Rattle.syntax.proofs.operators.factor_operator.Goals as goal
 

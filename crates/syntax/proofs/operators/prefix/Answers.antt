@@ -4,8 +4,8 @@ use Rattle.tree.specs.Operators.{prefix_word}
 use Rattle.syntax.specs.OperatorReads.{prefix_of}
 use Rattle.tree.specs.declared.expression.PrefixOperator.{PrefixOperator}
 use Rattle.tree.specs.declared.expression.PrefixOperator.TheVariants as prefixes
-use Rattle.syntax.proofs.Pieces.{via_fails, stops_never}
-use Rattle.syntax.proofs.Words.{marks_fails, marks_taken}
+use Rattle.syntax.proofs.pieces.Pieces.{via_fails, stops_never}
+use Rattle.syntax.proofs.pieces.Words.{marks_fails, marks_taken}
 use Rattle.syntax.proofs.OperatorRules.{prefix_marks, prefix_to, prefix_from}
 use Rattle.syntax.proofs.operators.prefix.Goals as goal
 

@@ -4,8 +4,8 @@ use Rattle.tree.specs.Operators.{relation_word}
 use Rattle.syntax.specs.OperatorReads.{relation_of}
 use Rattle.tree.specs.declared.expression.RelationOperator.{RelationOperator}
 use Rattle.tree.specs.declared.expression.RelationOperator.TheVariants as relation
-use Rattle.syntax.proofs.Pieces.{stops_never}
-use Rattle.syntax.proofs.Words.{words_fails, words_taken}
+use Rattle.syntax.proofs.pieces.Pieces.{stops_never}
+use Rattle.syntax.proofs.pieces.Words.{words_fails, words_taken}
 use Rattle.syntax.proofs.OperatorRules.{relations}
 use Rattle.syntax.proofs.operators.relation_operator.Goals as goal
 

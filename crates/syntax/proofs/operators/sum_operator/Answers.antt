@@ -2,9 +2,9 @@ use Rattle.source.specs.declared.kind.Kind.TheVariants as kind
 use Rattle.std.proofs.lemmas.Bool.{iff_false}
 use Rattle.syntax.specs.Reading.{never}
 use Rattle.tree.specs.Operators.{sum_operator}
-use Rattle.syntax.proofs.Exits.{exits}
-use Rattle.syntax.proofs.Choices.{form_fails}
-use Rattle.syntax.proofs.KindLemmas.{kind_leads, not_leads}
+use Rattle.syntax.proofs.pieces.Exits.{exits}
+use Rattle.syntax.proofs.pieces.Choices.{form_fails}
+use Rattle.syntax.proofs.pieces.KindLemmas.{kind_leads, not_leads}
 use Rattle.syntax.proofs.OperatorRules.{minus_form, plus_form}
 use Rattle.syntax.proofs.operators.sum_operator.Goals as goal
 

@@ -8,9 +8,9 @@ use Rattle.tree.specs.Trees.{item_tree}
 use Rattle.syntax.specs.declared.cursor.Stuck.{Stuck}
 use Rattle.syntax.specs.declared.cursor.Stuck.TheVariants.{Unexpected}
 use Rattle.syntax.specs.declared.fault.SyntaxFault.TheVariants.{At}
-use Rattle.syntax.proofs.ItemRules.{program_piece}
-use Rattle.syntax.proofs.FewLemmas.{few_symbols}
-use Rattle.syntax.proofs.Tops.{left_ok, left_err, parsed, wrong_rest, wrong_piece, one_tree, not_wrong}
+use Rattle.syntax.proofs.definitions.ItemRules.{program_piece}
+use Rattle.syntax.proofs.pieces.FewLemmas.{few_symbols}
+use Rattle.syntax.proofs.pieces.Tops.{left_ok, left_err, parsed, wrong_rest, wrong_piece, one_tree, not_wrong}
 use Rattle.syntax.proofs.parsing.parse.Goals as goal
 
 same_at : {T : Type 0} (m k : ℕ) → IsErrOf {T = T} (Err (At m)) (At k) → m ≡ k

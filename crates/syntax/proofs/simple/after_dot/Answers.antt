@@ -1,15 +1,15 @@
 use Rattle.std.proofs.Common.{refl, sym, ap, ◌∙◌}
 use Rattle.std.proofs.lemmas.Bool.{iff_false}
 use Rattle.source.specs.declared.kind.Kind.TheVariants as kind
-use Rattle.syntax.proofs.Exits.{exits}
-use Rattle.syntax.proofs.Pieces.{fails_here, fails_first, fails_second}
-use Rattle.syntax.proofs.Choices.{form_fails}
-use Rattle.syntax.proofs.KindLemmas.{kind_leads, test_leads}
+use Rattle.syntax.proofs.pieces.Exits.{exits}
+use Rattle.syntax.proofs.pieces.Pieces.{fails_here, fails_first, fails_second}
+use Rattle.syntax.proofs.pieces.Choices.{form_fails}
+use Rattle.syntax.proofs.pieces.KindLemmas.{kind_leads, test_leads}
 use Rattle.syntax.specs.Firsts.{opens_side}
 use Rattle.tree.specs.StatementTrees.{statement_tree}
 use Rattle.tree.specs.StatementGrammar.{statement}
 use Rattle.syntax.specs.StatementFirsts.{statement_on, statement_at}
-use Rattle.syntax.proofs.EndpointRules.{endpoint_end_piece}
+use Rattle.syntax.proofs.definitions.EndpointRules.{endpoint_end_piece}
 use Rattle.syntax.proofs.SimpleRules.{declared_piece}
 use Rattle.syntax.proofs.NameRests.{member_rest_piece, ended_form, made_form, end_follows, member_form}
 use Rattle.syntax.proofs.NamedForms.{dot_lift, member_leads}

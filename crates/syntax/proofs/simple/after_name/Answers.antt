@@ -1,12 +1,12 @@
 use Rattle.source.specs.declared.kind.Kind.TheVariants as kind
-use Rattle.syntax.proofs.Exits.{exits}
-use Rattle.syntax.proofs.Pieces.{fails_here, fails_after}
-use Rattle.syntax.proofs.Choices.{form_fails}
-use Rattle.syntax.proofs.KindLemmas.{kind_leads}
+use Rattle.syntax.proofs.pieces.Exits.{exits}
+use Rattle.syntax.proofs.pieces.Pieces.{fails_here, fails_after}
+use Rattle.syntax.proofs.pieces.Choices.{form_fails}
+use Rattle.syntax.proofs.pieces.KindLemmas.{kind_leads}
 use Rattle.tree.specs.StatementTrees.{statement_tree}
 use Rattle.tree.specs.StatementGrammar.{statement}
 use Rattle.syntax.specs.StatementFirsts.{statement_on, statement_at}
-use Rattle.syntax.proofs.TypeRules.{pointer_piece}
+use Rattle.syntax.proofs.definitions.TypeRules.{pointer_piece}
 use Rattle.syntax.proofs.SimpleRules.{declared_piece}
 use Rattle.syntax.proofs.NameRests.{pointed_form}
 use Rattle.syntax.proofs.NamedForms.{name_lift}

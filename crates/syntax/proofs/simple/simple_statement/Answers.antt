@@ -1,13 +1,13 @@
 use Rattle.std.proofs.Common.{Some, refl, ap, ◌∙◌}
-use Rattle.syntax.proofs.Exits.{exits}
-use Rattle.syntax.proofs.Pieces.{fails_here, fails_first, fails_second, wide_fails}
-use Rattle.syntax.proofs.Choices.{form_fails}
+use Rattle.syntax.proofs.pieces.Exits.{exits}
+use Rattle.syntax.proofs.pieces.Pieces.{fails_here, fails_first, fails_second, wide_fails}
+use Rattle.syntax.proofs.pieces.Choices.{form_fails}
 use Rattle.tree.specs.StatementTrees.{statement_tree}
 use Rattle.tree.specs.StatementGrammar.{statement}
 use Rattle.syntax.specs.StatementFirsts.{statement_on, statement_at}
 use Rattle.syntax.specs.declared.leads.Lead.TheVariants as lead
 use Rattle.syntax.specs.declared.leads.SimpleLead.TheVariants as simple
-use Rattle.syntax.proofs.TypeRules.{scalar_type_piece}
+use Rattle.syntax.proofs.definitions.TypeRules.{scalar_type_piece}
 use Rattle.syntax.proofs.SimpleRules.{declared_piece}
 use Rattle.syntax.proofs.NameRests.{name_rest_piece}
 use Rattle.syntax.proofs.NamedForms.{named_form}

@@ -1,9 +1,9 @@
 use Rattle.std.proofs.Common.{refl}
 use Rattle.source.specs.declared.kind.Kind.TheVariants as kind
 use Rattle.syntax.specs.Reading.{never}
-use Rattle.syntax.proofs.Exits.{exits}
-use Rattle.syntax.proofs.Pieces.{fails_here, fails_after, fails_first, fails_second, via_fails}
-use Rattle.syntax.proofs.CursorLemmas.{fixed_piece}
+use Rattle.syntax.proofs.pieces.Exits.{exits}
+use Rattle.syntax.proofs.pieces.Pieces.{fails_here, fails_after, fails_first, fails_second, via_fails}
+use Rattle.syntax.proofs.pieces.CursorLemmas.{fixed_piece}
 use Rattle.tree.specs.Values.{value_tree}
 use Rattle.syntax.specs.StatementParts.{assigned}
 use Rattle.syntax.proofs.SimpleRules.{value_follows, value_end, assigned_to, assigned_from}

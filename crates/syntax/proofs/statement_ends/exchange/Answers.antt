@@ -2,9 +2,9 @@ use Rattle.std.proofs.Common.{refl}
 use Rattle.source.specs.declared.kind.Kind.TheVariants as kind
 use Rattle.syntax.specs.Reading.{never}
 use Rattle.tree.specs.StatementGrammar.{exchange}
-use Rattle.syntax.proofs.Exits.{exits}
-use Rattle.syntax.proofs.Pieces.{fails_here, fails_after, via_fails, next}
-use Rattle.syntax.proofs.CursorLemmas.{fixed_piece, placed_piece, named_piece}
+use Rattle.syntax.proofs.pieces.Exits.{exits}
+use Rattle.syntax.proofs.pieces.Pieces.{fails_here, fails_after, via_fails, next}
+use Rattle.syntax.proofs.pieces.CursorLemmas.{fixed_piece, placed_piece, named_piece}
 use Rattle.syntax.proofs.SimpleRules.{exchange_to, exchange_from}
 use Rattle.syntax.proofs.statement_ends.exchange.Goals as goal
 

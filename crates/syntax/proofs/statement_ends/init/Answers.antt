@@ -1,8 +1,8 @@
 use Rattle.std.proofs.Common.{refl}
 use Rattle.source.specs.declared.kind.Kind.TheVariants as kind
-use Rattle.syntax.proofs.Exits.{exits}
-use Rattle.syntax.proofs.Pieces.{fails_here, fails_after, via_fails}
-use Rattle.syntax.proofs.CursorLemmas.{fixed_piece}
+use Rattle.syntax.proofs.pieces.Exits.{exits}
+use Rattle.syntax.proofs.pieces.Pieces.{fails_here, fails_after, via_fails}
+use Rattle.syntax.proofs.pieces.CursorLemmas.{fixed_piece}
 use Rattle.tree.specs.Values.{value_tree}
 use Rattle.syntax.specs.ValueReads.{value_on, value_at}
 use Rattle.tree.specs.StatementGrammar.{init}

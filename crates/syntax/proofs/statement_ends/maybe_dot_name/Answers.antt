@@ -2,10 +2,10 @@ use Rattle.source.specs.declared.kind.Kind.TheVariants as kind
 use Rattle.tree.specs.Symbols.{is_kind}
 use Rattle.tree.specs.Spelling.{optional}
 use Rattle.syntax.specs.Reading.{never, optional_at}
-use Rattle.syntax.proofs.Exits.{exits}
-use Rattle.syntax.proofs.Beginnings.{splits_self}
-use Rattle.syntax.proofs.Options.{opt_fails}
-use Rattle.syntax.proofs.KindLemmas.{kind_leads}
+use Rattle.syntax.proofs.pieces.Exits.{exits}
+use Rattle.syntax.proofs.pieces.Beginnings.{splits_self}
+use Rattle.syntax.proofs.pieces.Options.{opt_fails}
+use Rattle.syntax.proofs.pieces.KindLemmas.{kind_leads}
 use Rattle.tree.specs.Expressions.{dot_name}
 use Rattle.syntax.proofs.AtomRules.{dot_piece}
 use Rattle.syntax.proofs.ValueForms.{dot_starts}

@@ -2,14 +2,14 @@ use Rattle.std.proofs.Common.{refl, sym, ap, ◌∙◌}
 use Rattle.tree.specs.Symbols.{by_kind}
 use Rattle.tree.specs.Spelling.{optional}
 use Rattle.syntax.specs.Reading.{optional_at}
-use Rattle.syntax.proofs.Exits.{exits}
-use Rattle.syntax.proofs.KindLemmas.{test_leads}
+use Rattle.syntax.proofs.pieces.Exits.{exits}
+use Rattle.syntax.proofs.pieces.KindLemmas.{test_leads}
 use Rattle.std.specs.Option.{option_map}
 use Rattle.tree.specs.Expressions.{expression}
 use Rattle.syntax.specs.ExpressionReads.{opens_expression, expression_at}
 use Rattle.tree.specs.ExpressionTrees.{expression_tree}
 use Rattle.syntax.specs.StatementParts.{result_on}
-use Rattle.syntax.proofs.Options.{open_opt_fails}
+use Rattle.syntax.proofs.pieces.Options.{open_opt_fails}
 use Rattle.syntax.proofs.SimpleRules.{result_opens}
 use Rattle.syntax.proofs.ExpressionFails.{expression_piece, expression_starts}
 use Rattle.syntax.proofs.statement_ends.maybe_expression.Goals as goal

@@ -2,14 +2,14 @@ use Rattle.source.specs.declared.kind.Kind.TheVariants as kind
 use Rattle.tree.specs.Symbols.{is_kind}
 use Rattle.tree.specs.Spelling.{optional}
 use Rattle.syntax.specs.Reading.{optional_at}
-use Rattle.syntax.proofs.Exits.{exits}
-use Rattle.syntax.proofs.KindLemmas.{kind_leads}
+use Rattle.syntax.proofs.pieces.Exits.{exits}
+use Rattle.syntax.proofs.pieces.KindLemmas.{kind_leads}
 use Rattle.std.specs.Option.{option_map}
 use Rattle.tree.specs.Values.{value_tree}
 use Rattle.syntax.specs.ValueReads.{value_at}
 use Rattle.tree.specs.StatementGrammar.{init}
 use Rattle.syntax.specs.StatementParts.{init_on}
-use Rattle.syntax.proofs.Options.{open_opt_fails}
+use Rattle.syntax.proofs.pieces.Options.{open_opt_fails}
 use Rattle.syntax.proofs.SimpleRules.{init_piece, init_starts, init_opens}
 use Rattle.syntax.proofs.statement_ends.maybe_init.Goals as goal
 

@@ -3,13 +3,13 @@ use Rattle.std.specs.List.{flat_map}
 use Rattle.std.proofs.lemmas.Bool.{iff_false}
 use Rattle.source.specs.declared.kind.Kind.TheVariants as kind
 use Rattle.syntax.specs.Reading.{never, Stops}
-use Rattle.syntax.proofs.Exits.{exits}
-use Rattle.syntax.proofs.Pieces.{fails_here, fails_after, fails_first, fails_second, via_fails, wide_fails, next, stops_never}
-use Rattle.syntax.proofs.Repeats.{many_fails}
-use Rattle.syntax.proofs.Choices.{form_fails, form_reads}
-use Rattle.syntax.proofs.Enclosed.{braced_open_fails, braced_fails, braced_close_fails}
-use Rattle.syntax.proofs.KindLemmas.{kind_leads, not_leads, test_leads}
-use Rattle.syntax.proofs.CursorLemmas.{fixed_piece, placed_piece}
+use Rattle.syntax.proofs.pieces.Exits.{exits}
+use Rattle.syntax.proofs.pieces.Pieces.{fails_here, fails_after, fails_first, fails_second, via_fails, wide_fails, next, stops_never}
+use Rattle.syntax.proofs.pieces.Repeats.{many_fails}
+use Rattle.syntax.proofs.pieces.Choices.{form_fails, form_reads}
+use Rattle.syntax.proofs.pieces.Enclosed.{braced_open_fails, braced_fails, braced_close_fails}
+use Rattle.syntax.proofs.pieces.KindLemmas.{kind_leads, not_leads, test_leads}
+use Rattle.syntax.proofs.pieces.CursorLemmas.{fixed_piece, placed_piece}
 use Rattle.tree.specs.ExpressionTrees.{expression_tree}
 use Rattle.tree.specs.StatementTrees.{statement_tree, block_tree, case_tree, if_tree, switch_tree, test_tree}
 use Rattle.tree.specs.StatementGrammar.{statement, block, test, case}
@@ -21,11 +21,11 @@ use Rattle.syntax.proofs.StatementLeads.{lead_leads, statement_starts}
 use Rattle.syntax.proofs.StatementForms.{block_form, if_form, while_form, switch_form}
 use Rattle.std.specs.Prelude.{is_some}
 use Rattle.tree.specs.Symbols.{Fixed}
-use Rattle.syntax.proofs.Beginnings.{begun_shorter}
+use Rattle.syntax.proofs.pieces.Beginnings.{begun_shorter}
 use Rattle.syntax.proofs.StatementFolds.{made_switch, rolled_block, rolled_case, rolled_if, rolled_else, rolled_switch, rolled_test}
 use Rattle.syntax.proofs.StatementCycle.{block_fails, block_inside, case_fails, case_starts, case_splits, case_leaves, statement_splits, statement_leaves, if_to, if_from, last_form, further_form, switch_to, switch_from, case_follows, cases_follow, test_fails}
 use Rattle.syntax.proofs.StatementWays.{statement_piece, statements_piece, block_piece, others_piece, case_piece, cases_piece, cases_end_piece, switch_end_piece}
-use Rattle.syntax.proofs.StatementReads.{block_read, case_read, if_fails, if_read, row_read, row_ended, shorter_more, switch_read, test_read}
+use Rattle.syntax.proofs.StatementReads.{block_read, case_read, if_fails, if_read, sequence_read, sequence_ended, shorter_more, switch_read, test_read}
 use Rattle.syntax.proofs.ExpressionFails.{parens_expression_piece}
 use Rattle.syntax.proofs.statements.+statement.Goals as goal
 
@@ -67,8 +67,8 @@ cases-returns-in_err-case t c = exits (λ v. map case_tree v.items) (flat_map ca
 
 pub cases-each-preserved : goal.cases-each-preserved
 cases-each-preserved t c = record {
-  read = row_read case_tree case c.in_ok-case.field-0 c.each.all.items c.push.new.all.items _ _ _ c.in_ok-push.ensures c.each.invariant.read c.in_ok-case.ensures.0;
-  ended = row_ended case_tree case_at c.in_ok-case.field-0 c.each.all.items c.push.new.all.items _ c.in_ok-push.ensures c.in_ok-case.ensures.1;
+  read = sequence_read case_tree case c.in_ok-case.field-0 c.each.all.items c.push.new.all.items _ _ _ c.in_ok-push.ensures c.each.invariant.read c.in_ok-case.ensures.0;
+  ended = sequence_ended case_tree case_at c.in_ok-case.field-0 c.each.all.items c.push.new.all.items _ c.in_ok-push.ensures c.in_ok-case.ensures.1;
   shorter = shorter_more _ _ _ (begun_shorter (case_tree c.in_ok-case.field-0) _ _ case_starts c.in_ok-case.ensures.0) c.each.invariant.shorter;
 }
 
@@ -126,8 +126,8 @@ statements-each-smaller t c = begun_shorter (statement_tree c.in_ok-statement.fi
 
 pub statements-each-preserved : goal.statements-each-preserved
 statements-each-preserved t c = record {
-  read = row_read statement_tree statement c.in_ok-statement.field-0 c.each.all.items c.push.new.all.items _ _ _ c.in_ok-push.ensures c.each.invariant.read c.in_ok-statement.ensures.0;
-  ended = row_ended statement_tree statement_at c.in_ok-statement.field-0 c.each.all.items c.push.new.all.items _ c.in_ok-push.ensures c.in_ok-statement.ensures.1;
+  read = sequence_read statement_tree statement c.in_ok-statement.field-0 c.each.all.items c.push.new.all.items _ _ _ c.in_ok-push.ensures c.each.invariant.read c.in_ok-statement.ensures.0;
+  ended = sequence_ended statement_tree statement_at c.in_ok-statement.field-0 c.each.all.items c.push.new.all.items _ c.in_ok-push.ensures c.in_ok-statement.ensures.1;
   shorter = shorter_more _ _ _ (begun_shorter (statement_tree c.in_ok-statement.field-0) _ _ statement_starts c.in_ok-statement.ensures.0) c.each.invariant.shorter;
 }
 

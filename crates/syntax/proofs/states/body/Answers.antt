@@ -4,11 +4,11 @@ use Rattle.source.specs.declared.kind.Kind.TheVariants as kind
 use Rattle.tree.specs.Trees.{body_tree}
 use Rattle.tree.specs.Grammar.{body}
 use Rattle.syntax.specs.States.{body_at, state_on}
-use Rattle.syntax.proofs.Exits.{exits}
-use Rattle.syntax.proofs.Pieces.{wide_fails}
-use Rattle.syntax.proofs.Choices.{form_fails}
-use Rattle.syntax.proofs.KindLemmas.{kind_leads, neither_leads}
-use Rattle.syntax.proofs.BodyRules.{one_form, line_form, empty_form}
+use Rattle.syntax.proofs.pieces.Exits.{exits}
+use Rattle.syntax.proofs.pieces.Pieces.{wide_fails}
+use Rattle.syntax.proofs.pieces.Choices.{form_fails}
+use Rattle.syntax.proofs.pieces.KindLemmas.{kind_leads, neither_leads}
+use Rattle.syntax.proofs.definitions.BodyRules.{one_form, line_form, empty_form}
 use Rattle.syntax.proofs.states.body.Goals as goal
 
 pub returns-in_err-paths : goal.returns-in_err-paths

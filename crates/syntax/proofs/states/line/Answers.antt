@@ -3,11 +3,11 @@ use Rattle.source.specs.declared.kind.Kind.TheVariants as kind
 use Rattle.syntax.specs.Reading.{never}
 use Rattle.tree.specs.Trees.{path_tree}
 use Rattle.tree.specs.Grammar.{line}
-use Rattle.syntax.proofs.Exits.{exits}
-use Rattle.syntax.proofs.Pieces.{fails_first, fails_second, via_fails}
-use Rattle.syntax.proofs.CursorLemmas.{fixed_piece}
-use Rattle.syntax.proofs.StateRules.{path_piece}
-use Rattle.syntax.proofs.BodyRules.{line_to, line_from, path_follows}
+use Rattle.syntax.proofs.pieces.Exits.{exits}
+use Rattle.syntax.proofs.pieces.Pieces.{fails_first, fails_second, via_fails}
+use Rattle.syntax.proofs.pieces.CursorLemmas.{fixed_piece}
+use Rattle.syntax.proofs.definitions.StateRules.{path_piece}
+use Rattle.syntax.proofs.definitions.BodyRules.{line_to, line_from, path_follows}
 use Rattle.syntax.proofs.states.line.Goals as goal
 
 pub returns-in_err-path : goal.returns-in_err-path

@@ -4,11 +4,11 @@ use Rattle.source.specs.declared.kind.Kind.TheVariants as kind
 use Rattle.tree.specs.Symbols.{is_kind}
 use Rattle.tree.specs.Trees.{path_tree}
 use Rattle.tree.specs.Grammar.{line}
-use Rattle.syntax.proofs.Exits.{exits}
-use Rattle.syntax.proofs.Beginnings.{splits_self}
-use Rattle.syntax.proofs.Repeats.{many_fails, ended_leaves}
-use Rattle.syntax.proofs.KindLemmas.{kind_leads}
-use Rattle.syntax.proofs.BodyRules.{line_piece, line_starts}
+use Rattle.syntax.proofs.pieces.Exits.{exits}
+use Rattle.syntax.proofs.pieces.Beginnings.{splits_self}
+use Rattle.syntax.proofs.pieces.Repeats.{many_fails, ended_leaves}
+use Rattle.syntax.proofs.pieces.KindLemmas.{kind_leads}
+use Rattle.syntax.proofs.definitions.BodyRules.{line_piece, line_starts}
 use Rattle.syntax.proofs.states.line_list.Goals as goal
 
 pub returns-in_err-line : goal.returns-in_err-line

@@ -2,10 +2,10 @@ use Rattle.std.proofs.Common.{map, refl}
 use Rattle.source.specs.declared.kind.Kind.TheVariants as kind
 use Rattle.tree.specs.Trees.{path_tree}
 use Rattle.syntax.specs.States.{one, one_at, state_on}
-use Rattle.syntax.proofs.Exits.{exits}
-use Rattle.syntax.proofs.Pieces.{next, fails_here, fails_after, via_fails}
-use Rattle.syntax.proofs.CursorLemmas.{fixed_piece}
-use Rattle.syntax.proofs.BodyRules.{one_to, one_from, lines_piece, semicolon_piece}
+use Rattle.syntax.proofs.pieces.Exits.{exits}
+use Rattle.syntax.proofs.pieces.Pieces.{next, fails_here, fails_after, via_fails}
+use Rattle.syntax.proofs.pieces.CursorLemmas.{fixed_piece}
+use Rattle.syntax.proofs.definitions.BodyRules.{one_to, one_from, lines_piece, semicolon_piece}
 use Rattle.syntax.proofs.states.one.Goals as goal
 
 pub returns-in_err-expect : goal.returns-in_err-expect

@@ -3,9 +3,9 @@ use Rattle.tree.specs.Symbols.{by_kind}
 use Rattle.tree.specs.Trees.{PathTree, path_tree}
 use Rattle.tree.specs.Grammar.{path}
 use Rattle.syntax.specs.Firsts.{opens_sign}
-use Rattle.syntax.proofs.Exits.{exits}
-use Rattle.syntax.proofs.KindLemmas.{test_leads}
-use Rattle.syntax.proofs.StateRules.{path_name_fails, path_hop_fails, path_more_fails}
+use Rattle.syntax.proofs.pieces.Exits.{exits}
+use Rattle.syntax.proofs.pieces.KindLemmas.{test_leads}
+use Rattle.syntax.proofs.definitions.StateRules.{path_name_fails, path_hop_fails, path_more_fails}
 use Rattle.syntax.proofs.states.path.Goals as goal
 
 pub returns-in_err-message : goal.returns-in_err-message

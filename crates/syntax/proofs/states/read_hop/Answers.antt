@@ -2,11 +2,11 @@ use Rattle.std.proofs.Common.{refl}
 use Rattle.source.specs.declared.kind.Kind.TheVariants as kind
 use Rattle.syntax.specs.Reading.{never}
 use Rattle.syntax.specs.States.{hop}
-use Rattle.syntax.proofs.Exits.{exits}
-use Rattle.syntax.proofs.Pieces.{next, fails_here, fails_after, via_fails}
-use Rattle.syntax.proofs.CursorLemmas.{fixed_piece, named_piece}
-use Rattle.syntax.proofs.Words.{marks_piece}
-use Rattle.syntax.proofs.StateRules.{signs, hop_to, hop_from}
+use Rattle.syntax.proofs.pieces.Exits.{exits}
+use Rattle.syntax.proofs.pieces.Pieces.{next, fails_here, fails_after, via_fails}
+use Rattle.syntax.proofs.pieces.CursorLemmas.{fixed_piece, named_piece}
+use Rattle.syntax.proofs.pieces.Words.{marks_piece}
+use Rattle.syntax.proofs.definitions.StateRules.{signs, hop_to, hop_from}
 use Rattle.syntax.proofs.states.read_hop.Goals as goal
 
 pub returns-in_err-sign : goal.returns-in_err-sign

@@ -3,10 +3,10 @@ use Rattle.tree.specs.Symbols.{is_placed}
 use Rattle.tree.specs.Grammar.{sign_word}
 use Rattle.program.specs.declared.contract.Sign.{Sign}
 use Rattle.program.specs.declared.contract.Sign.TheVariants as sign
-use Rattle.syntax.proofs.Pieces.{stops_never}
+use Rattle.syntax.proofs.pieces.Pieces.{stops_never}
 use Rattle.syntax.specs.Firsts.{sign_of}
-use Rattle.syntax.proofs.Words.{marks_fails, marks_taken}
-use Rattle.syntax.proofs.StateRules.{signs}
+use Rattle.syntax.proofs.pieces.Words.{marks_fails, marks_taken}
+use Rattle.syntax.proofs.definitions.StateRules.{signs}
 use Rattle.syntax.proofs.states.sign.Goals as goal
 
 pub returns-in_default : goal.returns-in_default

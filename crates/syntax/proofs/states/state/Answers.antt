@@ -3,10 +3,10 @@ use Rattle.source.specs.declared.kind.Kind.TheVariants as kind
 use Rattle.tree.specs.Trees.{state_tree}
 use Rattle.tree.specs.Grammar.{state}
 use Rattle.syntax.specs.States.{state_on, state_at}
-use Rattle.syntax.proofs.Exits.{exits}
-use Rattle.syntax.proofs.Pieces.{next, fails_here, fails_after, via_fails}
-use Rattle.syntax.proofs.CursorLemmas.{fixed_piece, named_piece}
-use Rattle.syntax.proofs.BodyRules.{state_to, state_from, body_piece}
+use Rattle.syntax.proofs.pieces.Exits.{exits}
+use Rattle.syntax.proofs.pieces.Pieces.{next, fails_here, fails_after, via_fails}
+use Rattle.syntax.proofs.pieces.CursorLemmas.{fixed_piece, named_piece}
+use Rattle.syntax.proofs.definitions.BodyRules.{state_to, state_from, body_piece}
 use Rattle.syntax.proofs.states.state.Goals as goal
 
 pub returns-in_err-expect : goal.returns-in_err-expect

@@ -1,13 +1,13 @@
 use Rattle.std.proofs.Common.{refl}
 use Rattle.source.specs.declared.kind.Kind.TheVariants as kind
 use Rattle.syntax.specs.Reading.{never}
-use Rattle.syntax.proofs.Exits.{exits}
-use Rattle.syntax.proofs.Pieces.{fails_first, fails_here, fails_after, fails_second, via_fails}
-use Rattle.syntax.proofs.CursorLemmas.{fixed_piece, named_piece}
+use Rattle.syntax.proofs.pieces.Exits.{exits}
+use Rattle.syntax.proofs.pieces.Pieces.{fails_first, fails_here, fails_after, fails_second, via_fails}
+use Rattle.syntax.proofs.pieces.CursorLemmas.{fixed_piece, named_piece}
 use Rattle.tree.specs.Programs.{field}
-use Rattle.syntax.proofs.TypeForms.{type_piece}
-use Rattle.syntax.proofs.AccessRules.{access_piece}
-use Rattle.syntax.proofs.StructRules.{named_end_piece, type_ends, field_to, field_from, field_follows}
+use Rattle.syntax.proofs.definitions.TypeForms.{type_piece}
+use Rattle.syntax.proofs.definitions.AccessRules.{access_piece}
+use Rattle.syntax.proofs.definitions.StructRules.{named_end_piece, type_ends, field_to, field_from, field_follows}
 use Rattle.syntax.proofs.structs.field.Goals as goal
 
 pub returns-in_err-ty : goal.returns-in_err-ty

@@ -1,13 +1,13 @@
 use Rattle.std.proofs.Common.{refl, sym, ap, ◌∙◌}
 use Rattle.std.specs.List.{flat_map}
 use Rattle.tree.specs.Symbols.{by_kind}
-use Rattle.syntax.proofs.Exits.{exits}
-use Rattle.syntax.proofs.Beginnings.{splits_self}
-use Rattle.syntax.proofs.Repeats.{many_fails, ended_leaves}
-use Rattle.syntax.proofs.KindLemmas.{test_leads}
+use Rattle.syntax.proofs.pieces.Exits.{exits}
+use Rattle.syntax.proofs.pieces.Beginnings.{splits_self}
+use Rattle.syntax.proofs.pieces.Repeats.{many_fails, ended_leaves}
+use Rattle.syntax.proofs.pieces.KindLemmas.{test_leads}
 use Rattle.tree.specs.Programs.{field}
 use Rattle.syntax.specs.Firsts.{opens_field}
-use Rattle.syntax.proofs.StructRules.{field_piece, field_starts}
+use Rattle.syntax.proofs.definitions.StructRules.{field_piece, field_starts}
 use Rattle.syntax.proofs.structs.field_list.Goals as goal
 
 pub returns-in_err-field : goal.returns-in_err-field

@@ -1,12 +1,12 @@
 use Rattle.std.proofs.Common.{refl}
 use Rattle.source.specs.declared.kind.Kind.TheVariants as kind
 use Rattle.syntax.specs.Reading.{never}
-use Rattle.syntax.proofs.Exits.{exits}
-use Rattle.syntax.proofs.Pieces.{fails_here, fails_after, via_fails, next}
-use Rattle.syntax.proofs.CursorLemmas.{fixed_piece, named_piece}
+use Rattle.syntax.proofs.pieces.Exits.{exits}
+use Rattle.syntax.proofs.pieces.Pieces.{fails_here, fails_after, via_fails, next}
+use Rattle.syntax.proofs.pieces.CursorLemmas.{fixed_piece, named_piece}
 use Rattle.tree.specs.Programs.{struct}
 use Rattle.tree.specs.Trees.{struct_tree}
-use Rattle.syntax.proofs.StructRules.{fields_piece, struct_to, struct_from}
+use Rattle.syntax.proofs.definitions.StructRules.{fields_piece, struct_to, struct_from}
 use Rattle.syntax.proofs.structs.structure.Goals as goal
 
 pub returns-in_err-expect : goal.returns-in_err-expect

@@ -2,10 +2,10 @@ use Rattle.std.proofs.Common.{refl}
 use Rattle.source.specs.declared.kind.Kind.TheVariants as kind
 use Rattle.syntax.specs.Reading.{never}
 use Rattle.syntax.specs.Types.{array_tail}
-use Rattle.syntax.proofs.Exits.{exits}
-use Rattle.syntax.proofs.Pieces.{fails_here, fails_after, via_fails, next}
-use Rattle.syntax.proofs.CursorLemmas.{fixed_piece}
-use Rattle.syntax.proofs.TypeRules.{array_to, array_from, bang_in_heap_piece}
+use Rattle.syntax.proofs.pieces.Exits.{exits}
+use Rattle.syntax.proofs.pieces.Pieces.{fails_here, fails_after, via_fails, next}
+use Rattle.syntax.proofs.pieces.CursorLemmas.{fixed_piece}
+use Rattle.syntax.proofs.definitions.TypeRules.{array_to, array_from, bang_in_heap_piece}
 use Rattle.syntax.proofs.types.array_tail.Goals as goal
 
 pub returns-in_err-expect : goal.returns-in_err-expect

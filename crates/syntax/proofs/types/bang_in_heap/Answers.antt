@@ -1,9 +1,9 @@
 use Rattle.std.proofs.Common.{refl}
 use Rattle.syntax.specs.Reading.{never}
 use Rattle.syntax.specs.Types.{bang_in_heap}
-use Rattle.syntax.proofs.Exits.{exits}
-use Rattle.syntax.proofs.Pieces.{fails_second, via_fails}
-use Rattle.syntax.proofs.TypeRules.{bang_to, bang_from, bang_piece, bang_follows}
+use Rattle.syntax.proofs.pieces.Exits.{exits}
+use Rattle.syntax.proofs.pieces.Pieces.{fails_second, via_fails}
+use Rattle.syntax.proofs.definitions.TypeRules.{bang_to, bang_from, bang_piece, bang_follows}
 use Rattle.syntax.proofs.types.bang_in_heap.Goals as goal
 
 pub returns-in_err-in_heap : goal.returns-in_err-in_heap

@@ -1,6 +1,6 @@
 use Rattle.syntax.specs.Types.{endpoint_end, endpoint_on, endpoint_at}
-use Rattle.syntax.proofs.Exits.{exits}
-use Rattle.syntax.proofs.EndpointRules.{side_fails, colon_fails, in_heap_fails}
+use Rattle.syntax.proofs.pieces.Exits.{exits}
+use Rattle.syntax.proofs.definitions.EndpointRules.{side_fails, colon_fails, in_heap_fails}
 use Rattle.syntax.proofs.types.endpoint_end.Goals as goal
 
 pub returns-in_err-side : goal.returns-in_err-side

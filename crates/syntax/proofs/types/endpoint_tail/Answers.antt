@@ -1,10 +1,10 @@
 use Rattle.syntax.specs.Types.{endpoint_tail, endpoint_on, endpoint_at}
 use Rattle.source.specs.declared.kind.Kind.TheVariants as kind
 use Rattle.std.proofs.Common.{refl}
-use Rattle.syntax.proofs.Exits.{exits}
-use Rattle.syntax.proofs.Pieces.{fails_here, fails_after, via_fails}
-use Rattle.syntax.proofs.CursorLemmas.{fixed_piece}
-use Rattle.syntax.proofs.EndpointRules.{dot_to, dot_from, endpoint_end_piece}
+use Rattle.syntax.proofs.pieces.Exits.{exits}
+use Rattle.syntax.proofs.pieces.Pieces.{fails_here, fails_after, via_fails}
+use Rattle.syntax.proofs.pieces.CursorLemmas.{fixed_piece}
+use Rattle.syntax.proofs.definitions.EndpointRules.{dot_to, dot_from, endpoint_end_piece}
 use Rattle.syntax.proofs.types.endpoint_tail.Goals as goal
 
 pub returns-in_err-expect : goal.returns-in_err-expect

@@ -3,11 +3,11 @@ use Rattle.tree.specs.Symbols.{is_kind}
 use Rattle.tree.specs.Spelling.{optional}
 use Rattle.syntax.specs.Reading.{never, optional_at}
 use Rattle.syntax.specs.Types.{array_tail}
-use Rattle.syntax.proofs.Exits.{exits}
-use Rattle.syntax.proofs.Beginnings.{splits_self}
-use Rattle.syntax.proofs.Options.{opt_fails}
-use Rattle.syntax.proofs.KindLemmas.{kind_leads}
-use Rattle.syntax.proofs.TypeRules.{array_piece, array_starts}
+use Rattle.syntax.proofs.pieces.Exits.{exits}
+use Rattle.syntax.proofs.pieces.Beginnings.{splits_self}
+use Rattle.syntax.proofs.pieces.Options.{opt_fails}
+use Rattle.syntax.proofs.pieces.KindLemmas.{kind_leads}
+use Rattle.syntax.proofs.definitions.TypeRules.{array_piece, array_starts}
 use Rattle.syntax.proofs.types.maybe_array.Goals as goal
 
 pub returns-in_err-array_tail : goal.returns-in_err-array_tail

@@ -3,11 +3,11 @@ use Rattle.tree.specs.Symbols.{is_kind}
 use Rattle.tree.specs.Spelling.{optional}
 use Rattle.syntax.specs.Reading.{never, optional_at}
 use Rattle.tree.specs.Grammar.{colon_name}
-use Rattle.syntax.proofs.Exits.{exits}
-use Rattle.syntax.proofs.Beginnings.{splits_self}
-use Rattle.syntax.proofs.Options.{opt_fails}
-use Rattle.syntax.proofs.KindLemmas.{kind_leads}
-use Rattle.syntax.proofs.EndpointRules.{colon_piece, colon_starts}
+use Rattle.syntax.proofs.pieces.Exits.{exits}
+use Rattle.syntax.proofs.pieces.Beginnings.{splits_self}
+use Rattle.syntax.proofs.pieces.Options.{opt_fails}
+use Rattle.syntax.proofs.pieces.KindLemmas.{kind_leads}
+use Rattle.syntax.proofs.definitions.EndpointRules.{colon_piece, colon_starts}
 use Rattle.syntax.proofs.types.maybe_colon_name.Goals as goal
 
 pub returns-in_err-colon_name : goal.returns-in_err-colon_name

@@ -4,11 +4,11 @@ use Rattle.tree.specs.Spelling.{when}
 use Rattle.syntax.specs.Reading.{when_at}
 use Rattle.tree.specs.Grammar.{in_heap_words}
 use Rattle.syntax.specs.Types.{endpoint_on}
-use Rattle.syntax.proofs.Exits.{exits}
-use Rattle.syntax.proofs.Options.{when_fails}
-use Rattle.syntax.proofs.KindLemmas.{kind_leads}
-use Rattle.syntax.proofs.TypeRules.{in_heap_piece, in_heap_starts}
-use Rattle.syntax.proofs.EndpointRules.{heap_splits}
+use Rattle.syntax.proofs.pieces.Exits.{exits}
+use Rattle.syntax.proofs.pieces.Options.{when_fails}
+use Rattle.syntax.proofs.pieces.KindLemmas.{kind_leads}
+use Rattle.syntax.proofs.definitions.TypeRules.{in_heap_piece, in_heap_starts}
+use Rattle.syntax.proofs.definitions.EndpointRules.{heap_splits}
 use Rattle.syntax.proofs.types.maybe_in_heap.Goals as goal
 
 pub returns-in_err-in_heap : goal.returns-in_err-in_heap

@@ -2,11 +2,11 @@ use Rattle.std.proofs.Common.{refl}
 use Rattle.source.specs.declared.kind.Kind.TheVariants as kind
 use Rattle.std.proofs.lemmas.Bool.{iff_false}
 use Rattle.syntax.specs.Types.{named_tail, endpoint_on, tail_at}
-use Rattle.syntax.proofs.Exits.{exits}
-use Rattle.syntax.proofs.Pieces.{wide_fails}
-use Rattle.syntax.proofs.Choices.{form_fails}
-use Rattle.syntax.proofs.KindLemmas.{kind_leads, not_leads}
-use Rattle.syntax.proofs.TypeForms.{pointer_form, endpoint_form}
+use Rattle.syntax.proofs.pieces.Exits.{exits}
+use Rattle.syntax.proofs.pieces.Pieces.{wide_fails}
+use Rattle.syntax.proofs.pieces.Choices.{form_fails}
+use Rattle.syntax.proofs.pieces.KindLemmas.{kind_leads, not_leads}
+use Rattle.syntax.proofs.definitions.TypeForms.{pointer_form, endpoint_form}
 use Rattle.syntax.proofs.types.named_tail.Goals as goal
 
 pub returns-in_err-pointer_tail : goal.returns-in_err-pointer_tail

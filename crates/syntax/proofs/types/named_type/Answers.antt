@@ -1,9 +1,9 @@
 use Rattle.std.proofs.Common.{refl}
 use Rattle.syntax.specs.Types.{named_type, endpoint_on, named_at}
-use Rattle.syntax.proofs.Exits.{exits}
-use Rattle.syntax.proofs.Pieces.{fails_here, fails_after, via_fails}
-use Rattle.syntax.proofs.CursorLemmas.{named_piece}
-use Rattle.syntax.proofs.TypeForms.{named_to, named_from, named_tail_piece}
+use Rattle.syntax.proofs.pieces.Exits.{exits}
+use Rattle.syntax.proofs.pieces.Pieces.{fails_here, fails_after, via_fails}
+use Rattle.syntax.proofs.pieces.CursorLemmas.{named_piece}
+use Rattle.syntax.proofs.definitions.TypeForms.{named_to, named_from, named_tail_piece}
 use Rattle.syntax.proofs.types.named_type.Goals as goal
 
 pub returns-in_err-name : goal.returns-in_err-name

@@ -1,12 +1,12 @@
 use Rattle.std.proofs.Common.{◌≡◌, false, refl, sym, ap, ◌∙◌}
 use Rattle.tree.specs.Symbols.{is_placed}
 use Rattle.tree.specs.Grammar.{scalar_word}
-use Rattle.program.specs.declared.kind.Scalar.{Scalar}
-use Rattle.program.specs.declared.kind.Scalar.TheVariants as scalar
-use Rattle.syntax.proofs.Pieces.{stops_never}
+use Rattle.program.specs.declared.types.Scalar.{Scalar}
+use Rattle.program.specs.declared.types.Scalar.TheVariants as scalar
+use Rattle.syntax.proofs.pieces.Pieces.{stops_never}
 use Rattle.syntax.specs.Firsts.{scalar_of}
-use Rattle.syntax.proofs.Words.{words_fails, words_taken}
-use Rattle.syntax.proofs.TypeRules.{scalars}
+use Rattle.syntax.proofs.pieces.Words.{words_fails, words_taken}
+use Rattle.syntax.proofs.definitions.TypeRules.{scalars}
 use Rattle.syntax.proofs.types.scalar.Goals as goal
 
 pub returns-in_default : goal.returns-in_default

@@ -2,10 +2,10 @@ use Rattle.std.proofs.Common.{refl}
 use Rattle.source.specs.declared.kind.Kind.TheVariants as kind
 use Rattle.tree.specs.Symbols.{is_kind}
 use Rattle.syntax.specs.Types.{scalar_type, scalar_at}
-use Rattle.syntax.proofs.Exits.{exits}
-use Rattle.syntax.proofs.Pieces.{fails_here, fails_after, via_fails}
-use Rattle.syntax.proofs.Words.{words_piece}
-use Rattle.syntax.proofs.TypeRules.{scalars, scalar_to, scalar_from, maybe_array_piece}
+use Rattle.syntax.proofs.pieces.Exits.{exits}
+use Rattle.syntax.proofs.pieces.Pieces.{fails_here, fails_after, via_fails}
+use Rattle.syntax.proofs.pieces.Words.{words_piece}
+use Rattle.syntax.proofs.definitions.TypeRules.{scalars, scalar_to, scalar_from, maybe_array_piece}
 use Rattle.syntax.proofs.types.scalar_type.Goals as goal
 
 pub returns-in_err-scalar : goal.returns-in_err-scalar

@@ -1,12 +1,12 @@
 use Rattle.std.proofs.Common.{◌≡◌, false, refl, sym, ap, ◌∙◌}
 use Rattle.tree.specs.Symbols.{is_placed}
 use Rattle.tree.specs.Grammar.{side_word}
-use Rattle.program.specs.declared.kind.Side.{Side}
-use Rattle.program.specs.declared.kind.Side.TheVariants as side
-use Rattle.syntax.proofs.Pieces.{stops_never}
+use Rattle.program.specs.declared.types.Side.{Side}
+use Rattle.program.specs.declared.types.Side.TheVariants as side
+use Rattle.syntax.proofs.pieces.Pieces.{stops_never}
 use Rattle.syntax.specs.Firsts.{side_of}
-use Rattle.syntax.proofs.Words.{words_fails, words_taken}
-use Rattle.syntax.proofs.TypeRules.{sides}
+use Rattle.syntax.proofs.pieces.Words.{words_fails, words_taken}
+use Rattle.syntax.proofs.definitions.TypeRules.{sides}
 use Rattle.syntax.proofs.types.side.Goals as goal
 
 pub returns-in_default : goal.returns-in_default

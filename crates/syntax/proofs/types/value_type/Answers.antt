@@ -4,11 +4,11 @@ use Rattle.std.proofs.Common.{sym, subst}
 use Rattle.syntax.specs.Reading.{Stops}
 use Rattle.tree.specs.Grammar.{value_type}
 use Rattle.syntax.specs.Types.{type_on, type_at}
-use Rattle.syntax.proofs.Exits.{exits}
-use Rattle.syntax.proofs.Pieces.{wide_fails}
-use Rattle.syntax.proofs.Choices.{form_fails, form_reads}
-use Rattle.syntax.proofs.KindLemmas.{kind_leads, not_leads}
-use Rattle.syntax.proofs.TypeForms.{named_form, scalar_form, named_wide, scalar_wide, stops_named}
+use Rattle.syntax.proofs.pieces.Exits.{exits}
+use Rattle.syntax.proofs.pieces.Pieces.{wide_fails}
+use Rattle.syntax.proofs.pieces.Choices.{form_fails, form_reads}
+use Rattle.syntax.proofs.pieces.KindLemmas.{kind_leads, not_leads}
+use Rattle.syntax.proofs.definitions.TypeForms.{named_form, scalar_form, named_wide, scalar_wide, stops_named}
 use Rattle.syntax.proofs.types.value_type.Goals as goal
 
 pub returns-in_err-named_type : goal.returns-in_err-named_type

@@ -1,8 +1,8 @@
 use Rattle.source.specs.declared.kind.Kind.TheVariants as kind
 use Rattle.syntax.specs.Reading.{never}
 use Rattle.tree.specs.Values.{call_tree, call}
-use Rattle.syntax.proofs.Exits.{exits}
-use Rattle.syntax.proofs.KindLemmas.{kind_leads}
+use Rattle.syntax.proofs.pieces.Exits.{exits}
+use Rattle.syntax.proofs.pieces.KindLemmas.{kind_leads}
 use Rattle.syntax.proofs.ValueForms.{arguments_fail}
 use Rattle.syntax.proofs.values.call_from.Goals as goal
 

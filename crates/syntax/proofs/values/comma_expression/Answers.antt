@@ -2,8 +2,8 @@ use Rattle.tree.specs.Spelling.{comma}
 use Rattle.tree.specs.Expressions.{expression}
 use Rattle.syntax.specs.ExpressionReads.{expression_on, expression_at}
 use Rattle.tree.specs.ExpressionTrees.{expression_tree}
-use Rattle.syntax.proofs.Exits.{exits}
-use Rattle.syntax.proofs.ListedOpen.{open_comma_fails, open_item_fails}
+use Rattle.syntax.proofs.pieces.Exits.{exits}
+use Rattle.syntax.proofs.pieces.ListedOpen.{open_comma_fails, open_item_fails}
 use Rattle.syntax.proofs.ValueRules.{expression_item}
 use Rattle.syntax.proofs.values.comma_expression.Goals as goal
 

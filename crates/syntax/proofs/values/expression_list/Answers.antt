@@ -6,9 +6,9 @@ use Rattle.tree.specs.Expressions.{expression}
 use Rattle.syntax.specs.ExpressionReads.{opens_expression}
 use Rattle.tree.specs.ExpressionTrees.{expression_tree}
 use Rattle.syntax.specs.ValueReads.{expressions_on, expressions_at}
-use Rattle.syntax.proofs.Exits.{exits}
-use Rattle.syntax.proofs.KindLemmas.{kind_leads, test_leads}
-use Rattle.syntax.proofs.ListedOpen.{open_first_fails, open_more_fails, list_begun, list_more}
+use Rattle.syntax.proofs.pieces.Exits.{exits}
+use Rattle.syntax.proofs.pieces.KindLemmas.{kind_leads, test_leads}
+use Rattle.syntax.proofs.pieces.ListedOpen.{open_first_fails, open_more_fails, list_begun, list_more}
 use Rattle.syntax.proofs.ValueRules.{expression_item}
 use Rattle.syntax.proofs.values.expression_list.Goals as goal
 

@@ -2,7 +2,7 @@ use Rattle.std.proofs.Common.{length, map}
 use Rattle.tree.specs.Expressions.{expression}
 use Rattle.syntax.specs.ExpressionReads.{expression_at}
 use Rattle.tree.specs.ExpressionTrees.{expression_tree}
-use Rattle.syntax.proofs.ListedOpen.{ListRead}
+use Rattle.syntax.proofs.pieces.ListedOpen.{ListRead}
 use Rattle.syntax.proofs.values.expression_list.Given as goal
 
 abbrev pub invariant-more : goal.invariant-more

@@ -2,9 +2,9 @@ use Rattle.std.proofs.lemmas.Bool.{iff_false}
 use Rattle.source.specs.declared.kind.Kind.TheVariants as kind
 use Rattle.syntax.specs.Reading.{never}
 use Rattle.tree.specs.Values.{made_tree, made_spelling}
-use Rattle.syntax.proofs.Exits.{exits}
-use Rattle.syntax.proofs.Choices.{form_fails}
-use Rattle.syntax.proofs.KindLemmas.{kind_leads, not_leads}
+use Rattle.syntax.proofs.pieces.Exits.{exits}
+use Rattle.syntax.proofs.pieces.Choices.{form_fails}
+use Rattle.syntax.proofs.pieces.KindLemmas.{kind_leads, not_leads}
 use Rattle.syntax.proofs.ValueFails.{struct_form, array_form}
 use Rattle.syntax.proofs.values.made.Goals as goal
 

@@ -2,10 +2,10 @@ use Rattle.std.proofs.Common.{refl}
 use Rattle.syntax.specs.Reading.{never}
 use Rattle.tree.specs.ExpressionTrees.{expression_tree}
 use Rattle.tree.specs.Values.{made_array}
-use Rattle.syntax.proofs.Exits.{exits}
-use Rattle.syntax.proofs.Pieces.{fails_here, fails_after, via_fails}
-use Rattle.syntax.proofs.Words.{words_piece}
-use Rattle.syntax.proofs.TypeRules.{scalars}
+use Rattle.syntax.proofs.pieces.Exits.{exits}
+use Rattle.syntax.proofs.pieces.Pieces.{fails_here, fails_after, via_fails}
+use Rattle.syntax.proofs.pieces.Words.{words_piece}
+use Rattle.syntax.proofs.definitions.TypeRules.{scalars}
 use Rattle.syntax.proofs.ExpressionFails.{index_piece}
 use Rattle.syntax.proofs.ValueFails.{array_to}
 use Rattle.syntax.proofs.values.made_array.Goals as goal

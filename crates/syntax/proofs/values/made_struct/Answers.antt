@@ -2,9 +2,9 @@ use Rattle.std.proofs.Common.{refl, map}
 use Rattle.syntax.specs.Reading.{never}
 use Rattle.tree.specs.ExpressionTrees.{expression_tree}
 use Rattle.tree.specs.Values.{made_struct}
-use Rattle.syntax.proofs.Exits.{exits}
-use Rattle.syntax.proofs.Pieces.{fails_here, fails_after, via_fails}
-use Rattle.syntax.proofs.CursorLemmas.{named_piece}
+use Rattle.syntax.proofs.pieces.Exits.{exits}
+use Rattle.syntax.proofs.pieces.Pieces.{fails_here, fails_after, via_fails}
+use Rattle.syntax.proofs.pieces.CursorLemmas.{named_piece}
 use Rattle.syntax.proofs.ValueRules.{arguments_piece}
 use Rattle.syntax.proofs.ValueFails.{struct_to, struct_from}
 use Rattle.syntax.proofs.values.made_struct.Goals as goal

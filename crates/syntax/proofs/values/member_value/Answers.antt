@@ -9,8 +9,8 @@ use Rattle.tree.specs.ExpressionTrees.{expression_tree}
 use Rattle.syntax.proofs.TreeLemmas.{field_made}
 use Rattle.tree.specs.Values.{value_tree, value_spelling}
 use Rattle.syntax.specs.ValueReads.{value_on, value_at}
-use Rattle.syntax.proofs.Exits.{exits}
-use Rattle.syntax.proofs.KindLemmas.{kind_leads, not_leads}
+use Rattle.syntax.proofs.pieces.Exits.{exits}
+use Rattle.syntax.proofs.pieces.KindLemmas.{kind_leads, not_leads}
 use Rattle.syntax.proofs.ValueFails.{call_fails, member_fails}
 use Rattle.syntax.proofs.ValueEnds.{value_ends, member_ends}
 use Rattle.syntax.proofs.values.member_value.Goals as goal

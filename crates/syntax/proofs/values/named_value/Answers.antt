@@ -8,8 +8,8 @@ use Rattle.syntax.specs.ExpressionReads.{expression_on}
 use Rattle.tree.specs.ExpressionTrees.{expression_tree}
 use Rattle.tree.specs.Values.{value_tree, value_spelling}
 use Rattle.syntax.specs.ValueReads.{value_on, value_at}
-use Rattle.syntax.proofs.Exits.{exits}
-use Rattle.syntax.proofs.KindLemmas.{kind_leads, neither_leads}
+use Rattle.syntax.proofs.pieces.Exits.{exits}
+use Rattle.syntax.proofs.pieces.KindLemmas.{kind_leads, neither_leads}
 use Rattle.syntax.proofs.ValueFails.{call_fails, named_fails, dot_fails}
 use Rattle.syntax.proofs.ValueEnds.{value_ends, named_ends, target_expression_fails}
 use Rattle.syntax.proofs.values.named_value.Goals as goal

@@ -2,8 +2,8 @@ use Rattle.std.proofs.Common.{map}
 use Rattle.syntax.specs.Reading.{never}
 use Rattle.tree.specs.ExpressionTrees.{expression_tree}
 use Rattle.tree.specs.Values.{arguments}
-use Rattle.syntax.proofs.Exits.{exits}
-use Rattle.syntax.proofs.Enclosed.{parens_open_fails, parens_fails, parens_close_fails}
+use Rattle.syntax.proofs.pieces.Exits.{exits}
+use Rattle.syntax.proofs.pieces.Enclosed.{parens_open_fails, parens_fails, parens_close_fails}
 use Rattle.syntax.proofs.ValueRules.{arguments_inside, expression_list_piece}
 use Rattle.syntax.proofs.values.read_arguments.Goals as goal
 

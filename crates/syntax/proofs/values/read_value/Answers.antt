@@ -5,8 +5,8 @@ use Rattle.syntax.specs.Reading.{Reads}
 use Rattle.tree.specs.ExpressionTrees.{expression_tree}
 use Rattle.tree.specs.Values.{value_tree, value_spelling}
 use Rattle.syntax.specs.ValueReads.{value_on, value_at}
-use Rattle.syntax.proofs.Exits.{exits}
-use Rattle.syntax.proofs.KindLemmas.{kind_leads, neither_leads}
+use Rattle.syntax.proofs.pieces.Exits.{exits}
+use Rattle.syntax.proofs.pieces.KindLemmas.{kind_leads, neither_leads}
 use Rattle.syntax.proofs.ValueFails.{new_fails, plain_fails}
 use Rattle.syntax.proofs.ValueEnds.{value_ends, plain_ends}
 use Rattle.syntax.proofs.values.read_value.Goals as goal

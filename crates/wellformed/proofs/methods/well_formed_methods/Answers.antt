@@ -7,7 +7,7 @@ use Rattle.declarations.specs.Resolution.{resolved_contracts}
 use Rattle.program.specs.Methods.{method_model}
 use Rattle.resolving.specs.Brought.{messages_told}
 use Rattle.resolving.specs.Fields.{structs_told}
-use Rattle.program.specs.Programs.{kind_lists}
+use Rattle.program.specs.Programs.{type_lists}
 use Rattle.program.specs.WellFormed.{AreWellFormed}
 use Rattle.program.specs.Lists.{Each}
 use Rattle.wellformed.specs.Bare.{IsBare}
@@ -23,9 +23,9 @@ new-requires c =
     let told = resolved_contracts p.text (contracts_of p.items) in
     let fits = subst (λ ms. AreWellFormed told (messages_told p) (structs_told p) ms) (sym c.in_ok-messages.ensures.resolved) (well_formed p c.requires.clean) in
     let has = subst (λ ss. AreWellFormed told (messages_told p) ss (map method_model c.in_ok-messages.field-0.methods.items)) (sym c.in_ok-messages.ensures.structs) fits in
-    let brings = subst (λ ms. AreWellFormed told ms (kind_lists c.in_ok-messages.field-0.structs.items) (map method_model c.in_ok-messages.field-0.methods.items)) (sym c.in_ok-messages.ensures.messages) has in
+    let brings = subst (λ ms. AreWellFormed told ms (type_lists c.in_ok-messages.field-0.structs.items) (map method_model c.in_ok-messages.field-0.methods.items)) (sym c.in_ok-messages.ensures.messages) has in
     record {
-      well_formed = subst (λ cs. AreWellFormed cs (kind_lists c.in_ok-messages.field-0.messages.items) (kind_lists c.in_ok-messages.field-0.structs.items) (map method_model c.in_ok-messages.field-0.methods.items)) (sym c.requires.contracts) brings;
+      well_formed = subst (λ cs. AreWellFormed cs (type_lists c.in_ok-messages.field-0.messages.items) (type_lists c.in_ok-messages.field-0.structs.items) (map method_model c.in_ok-messages.field-0.methods.items)) (sym c.requires.contracts) brings;
     }
 
 pub returns-clause-bare : goal.returns-clause-bare

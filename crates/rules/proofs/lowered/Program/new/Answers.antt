@@ -13,4 +13,4 @@ invariant_of-result-clause-told c =
     (c.in_ok-repeats.ensures ∙ ap (map (λ g. again_in (graph_model g))) c.deref.ensures.value) (c.in_ok-graphs.ensures ∙ ap (map graph_of) c.list.ensures.list)
 
 pub invariant_of-result-clause-asked : goal.invariant_of-result-clause-asked
-invariant_of-result-clause-asked c = c.in_ok-parameters.ensures ∙ ap (map (λ m. map (λ v. v.kind) (parameters m))) c.list-2.ensures.list
+invariant_of-result-clause-asked c = c.in_ok-parameters.ensures ∙ ap (map (λ m. map (λ v. v.ty) (parameters m))) c.list-2.ensures.list

@@ -1,5 +1,5 @@
 use Rattle.std.proofs.lemmas.Bool.{iff_false}
-use Rattle.syntax.proofs.CursorLemmas.{placed_fails}
+use Rattle.syntax.proofs.pieces.CursorLemmas.{placed_fails}
 use Rattle.syntax.proofs.cursor.Cursor.expect_span.Goals as goal
 
 pub returns-else-is_next : goal.returns-else-is_next

@@ -1,5 +1,5 @@
 use Rattle.std.proofs.Common.{◌∙◌}
-use Rattle.syntax.proofs.CursorLemmas.{symbols_some}
+use Rattle.syntax.proofs.pieces.CursorLemmas.{symbols_some}
 use Rattle.syntax.proofs.cursor.Cursor.peek.Goals as goal
 
 pub returns-then-self-clause-some : goal.returns-then-self-clause-some

@@ -1,6 +1,6 @@
 use Rattle.std.proofs.Common.{refl}
 use Rattle.std.proofs.lemmas.Bool.{iff_false}
-use Rattle.syntax.proofs.KindLemmas.{kind_stops}
+use Rattle.syntax.proofs.pieces.KindLemmas.{kind_stops}
 use Rattle.syntax.proofs.cursor.Cursor.placed_if.Goals as goal
 
 pub returns-else-is_next : goal.returns-else-is_next

@@ -1,6 +1,0 @@
-use Rattle.declarations.specs.Program.{Program}
-use Rattle.declarations.specs.Scopes.{IsScope, AreNoted}
-use Rattle.declarations.proofs.noted.NotedKinds.of.Given as goal
-
-abbrev pub invariant-loop-written : goal.invariant-loop-written
-invariant-loop-written l = (p : Program) → IsScope p l.scope → AreNoted p l.noted

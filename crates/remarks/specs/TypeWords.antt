@@ -1,0 +1,52 @@
+-- Types, and what is asked of something, in words.
+use Rattle.std.specs.Prelude.{ℕ, List, [], ◌++◌, codes, if◌then◌else◌, length, nat_lt, slice_get, take}
+use Rattle.std.specs.Option.{option_map_or}
+use Rattle.std.specs.Str.Lossy.{utf8_lossy}
+use Rattle.program.specs.declared.types.Scalar.{Scalar}
+use Rattle.program.specs.declared.types.Scalar.TheVariants.{Int, Byte, Bool}
+use Rattle.program.specs.declared.types.Side.TheVariants.{Imp, Exp}
+use Rattle.declarations.specs.Program.{Program}
+use Rattle.tree.specs.Trees.{defined_name}
+use Rattle.declarations.specs.declared.value_type.ValueType.{ValueType}
+use Rattle.declarations.specs.declared.value_type.ValueType.TheVariants as ty
+use Rattle.declarations.specs.declared.mistake.Demand.{Demand}
+use Rattle.declarations.specs.declared.mistake.Demand.TheVariants as demand
+use Rattle.remarks.specs.declared.listing.TheConstants.{MAX_NAME}
+use Rattle.tables.specs.Words.{word_at}
+
+-- A long name is cut, since any number of remarks can have the name of one item.
+abbrev pub cut_name : List ℕ → List ℕ
+cut_name word = if nat_lt MAX_NAME (length word) then utf8_lossy (take MAX_NAME word) ++ codes ".." else utf8_lossy word
+
+-- the name of the item before which so many stand
+abbrev pub item_name : Program → ℕ → List ℕ
+item_name p n = option_map_or (λ i. cut_name (word_at p.text (defined_name i.definition))) (slice_get p.items n) []
+
+abbrev pub scalar_words : Scalar → List ℕ
+scalar_words Int = codes "int"
+scalar_words Byte = codes "byte"
+scalar_words Bool = codes "bool"
+
+-- what is of this type
+abbrev pub type_words : Program → ValueType → List ℕ
+type_words p (ty.Scalar s) = scalar_words s
+type_words p (ty.Pointer n) = codes "a block of " ++ item_name p n
+type_words p (ty.Array s) = codes "an array of " ++ scalar_words s
+type_words p (ty.Endpoint Imp n) = item_name p n ++ codes ".Imp"
+type_words p (ty.Endpoint Exp n) = item_name p n ++ codes ".Exp"
+type_words p ty.Missing = codes "nothing"
+type_words p ty.Unknown = codes "something unknown"
+
+-- what is asked
+abbrev pub demand_words : Program → Demand → List ℕ
+demand_words p (demand.OfType k) = type_words p k
+demand_words p demand.Number = codes "a number"
+demand_words p demand.Truth = codes "bool"
+demand_words p demand.Scalar = codes "a number or bool"
+demand_words p demand.Block = codes "a block"
+demand_words p demand.NoBlock = codes "no block"
+demand_words p demand.Pointer = codes "a block of a struct"
+demand_words p demand.Array = codes "an array"
+demand_words p demand.Fields = codes "something with fields"
+demand_words p demand.Endpoint = codes "an endpoint"
+demand_words p (demand.EndOf n) = codes "an end of " ++ item_name p n

@@ -1,0 +1,99 @@
+-- Contracts and structs by the places of their items.
+use Rattle.std.proofs.Common.{◌≡◌, ℕ, zero, suc, ◌<◌, ◌≤◌, List, [], ◌∷◌, ◌++◌, length, map, get_or, sym, refl, ap, ◌∙◌, arith, Bor}
+use Rattle.std.specs.List.{HoldsAt}
+use Rattle.std.specs.Prelude.{MatchOption, Option, None, Some, option_map, slice_get, string_bytes}
+use Rattle.std.proofs.lemmas.List.{length-map, take_all}
+use Rattle.std.proofs.lemmas.Option.{slice_get-map, slice_get_past, slice_get_read}
+use Rattle.tree.specs.Trees.{contracts_of}
+use Rattle.declarations.specs.Declarations.{messages_of, states_of}
+use Rattle.declarations.specs.Program.{Program}
+use Rattle.program.specs.Parts.{contract_model, message_model, state_model}
+use Rattle.declarations.specs.Resolution.{each_behind, message_count, resolved_contract, resolved_contracts, state_count}
+use Rattle.program.specs.declared.contract.Contract.{Contract}
+use Rattle.program.specs.declared.contract.Message.{Message}
+use Rattle.program.specs.declared.contract.State.{State}
+use Rattle.program.specs.declared.number.ContractId.{ContractId}
+use Rattle.program.specs.declared.types.HeapType.{HeapType}
+use Rattle.program.specs.declared.types.HeapType.TheVariants.{Struct}
+use Rattle.resolving.specs.Around.{IsDirectory}
+use Rattle.resolving.specs.Counts.{contracts_before, structs_before}
+use Rattle.resolving.specs.Types.{contract_at, number_at}
+use Rattle.resolving.specs.declared.around.Directory.{Directory}
+use Rattle.resolving.specs.declared.counts.Before.{Before}
+use Rattle.resolving.proofs.CountLemmas.{count_read, counts_long}
+
+-- what a look-up in a list in memory answers
+abbrev pub LooksUp : {X : Type 0} → List X → ℕ → Option (Bor X) → Type 0
+LooksUp xs k r = MatchOption r (length xs ≤ k) (λ x. (k < length xs) × HoldsAt (λ y. x.now ≡ y) xs k)
+
+-- what is looked up, without where it lies in memory
+seen_at : {X Y : Type 0} (seen : X → Y) (xs : List X) (k : ℕ) (r : Option (Bor X)) → LooksUp xs k r → option_map (λ x. seen x.now) r ≡ slice_get (map seen xs) k
+seen_at seen xs k None past = let long = length-map xs seen in sym (slice_get_past (map seen xs) k (omega (arith, past, long)))
+seen_at seen xs k (Some x) found = sym (slice_get-map seen xs k ∙ ap (option_map seen) (slice_get_read xs (length xs) k x.now refl found.0 (found.1 x.now)))
+
+-- the numbers of a state and of a message that are looked up in a contract
+pub state_found : (contract : Contract) (states : List State) (at : ℕ) (r : Option (Bor State)) → states ≡ contract.states.items → LooksUp states at r
+    → option_map (λ s. s.now.id) r ≡ option_map (λ s. s.id) (slice_get (contract_model contract).parts.states at)
+state_found contract states at None same found =
+    let parts = state_model (string_bytes contract.state_names) in
+    ap (option_map (λ s. s.id)) (seen_at parts states at None found ∙ ap (λ l. slice_get (map parts l) at) same)
+state_found contract states at (Some s) same found =
+    let parts = state_model (string_bytes contract.state_names) in
+    ap (option_map (λ s. s.id)) (seen_at parts states at (Some s) found ∙ ap (λ l. slice_get (map parts l) at) same)
+
+pub message_found : (contract : Contract) (messages : List Message) (at : ℕ) (r : Option (Bor Message)) → messages ≡ contract.messages.items → LooksUp messages at r
+    → option_map (λ m. m.now.id) r ≡ option_map (λ m. m.id) (slice_get (contract_model contract).parts.messages at)
+message_found contract messages at None same found = ap (option_map (λ m. m.id)) (seen_at message_model messages at None found ∙ ap (λ l. slice_get (map message_model l) at) same)
+message_found contract messages at (Some m) same found = ap (option_map (λ m. m.id)) (seen_at message_model messages at (Some m) found ∙ ap (λ l. slice_get (map message_model l) at) same)
+
+singles : {X Y : Type 0} (f : List X → X → Y) (before xs : List X) → length (each_behind (λ b x. f b x ∷ []) before xs) ≡ length xs
+singles f before [] = refl
+singles f before (x ∷ xs) = let rest = singles f (before ++ x ∷ []) xs in omega (arith, rest)
+
+-- no contract stands behind the last item
+pub contract_past : (p : Program) (t : Directory) (place : ℕ) → IsDirectory p t → length t.before.now ≤ place → contract_at p place ≡ None
+contract_past p t place h past =
+    let contracts = contracts_of p.items in
+    let long = ap length h.before ∙ counts_long p.items in
+    let many = singles (λ b c. resolved_contract p.text (message_count b) (state_count b) c.name (messages_of c) (states_of c)) [] contracts in
+    let all = ap (λ items. length (contracts_of items)) (take_all place p.items (omega (arith, past, long))) in
+    slice_get_past (resolved_contracts p.text contracts) (contracts_before p.items place) (omega (arith, many, all))
+
+-- the contract that is looked up by the number that is counted at an item
+pub contract_found : (p : Program) (t : Directory) (place : ℕ) (b : Before) (contracts : List Contract) (r : Option (Bor Contract)) → IsDirectory p t → place < length t.before.now → b ≡ get_or t.before.now place b
+    → contracts ≡ t.resolved.now.contracts.items → LooksUp contracts b.contracts r → option_map (λ c. contract_model c.now) r ≡ contract_at p place
+contract_found p t place b contracts r h lt is same found =
+    seen_at contract_model contracts b.contracts r found
+    ∙ ap (λ l. slice_get (map contract_model l) b.contracts) same
+    ∙ ap (λ l. slice_get l b.contracts) h.contracts
+    ∙ ap (λ (x : Before). slice_get (resolved_contracts p.text (contracts_of p.items)) x.contracts) (count_read p.items t.before.now place b h.before lt is)
+
+-- its number
+pub number_found : (p : Program) (t : Directory) (place : ℕ) (b : Before) (contracts : List Contract) (c : Bor Contract) → IsDirectory p t → place < length t.before.now → b ≡ get_or t.before.now place b
+    → contracts ≡ t.resolved.now.contracts.items → LooksUp contracts b.contracts (Some c) → Some (record { 0 = b.contracts }) ≡ number_at p place
+number_found p t place b contracts c h lt is same found =
+    let number : ℕ → ContractId = λ n. record { 0 = n } in
+    ap (λ (x : Before). Some (number x.contracts)) (count_read p.items t.before.now place b h.before lt is)
+    ∙ ap (option_map (λ s. number (contracts_before p.items place))) (contract_found p t place b contracts (Some c) h lt is same found)
+
+there : {X Y : Type 0} (y : Y) (xs : List X) (n : ℕ) → n < length xs → option_map (λ x. y) (slice_get xs n) ≡ Some y
+there y [] n lt = absurd (omega (arith, lt))
+there y (x ∷ xs) zero lt = refl
+there y (x ∷ xs) (suc n) lt = there y xs n (omega (arith, lt))
+
+abbrev struct_of : ℕ → HeapType
+struct_of n = Struct (record { 0 = n })
+
+-- no struct stands behind the last item
+pub struct_past : (p : Program) (t : Directory) (place : ℕ) → IsDirectory p t → length t.before.now ≤ place → None ≡ option_map (λ i. struct_of (structs_before p.items place)) (slice_get p.items place)
+struct_past p t place h past =
+    let long = ap length h.before ∙ counts_long p.items in
+    sym (ap (option_map (λ i. struct_of (structs_before p.items place))) (slice_get_past p.items place (omega (arith, past, long))))
+
+-- the number of a struct that is counted at an item
+pub struct_found : (p : Program) (t : Directory) (place : ℕ) (b : Before) → IsDirectory p t → place < length t.before.now → b ≡ get_or t.before.now place b
+    → Some (struct_of b.structs) ≡ option_map (λ i. struct_of (structs_before p.items place)) (slice_get p.items place)
+struct_found p t place b h lt is =
+    let long = ap length h.before ∙ counts_long p.items in
+    ap (λ (x : Before). Some (struct_of x.structs)) (count_read p.items t.before.now place b h.before lt is)
+    ∙ sym (there (struct_of (structs_before p.items place)) p.items place (omega (arith, lt, long)))

@@ -1,0 +1,68 @@
+-- What types hold, with a number for each of their names.
+use Rattle.std.specs.Prelude.{ℕ, Option, None, Some, option_map, option_and_then, slice_get}
+use Rattle.std.specs.Option.{option_map_or}
+use Rattle.source.specs.declared.token.Span.{Span}
+use Rattle.tree.specs.Trees.{contracts_of}
+use Rattle.tree.specs.declared.types as type_nodes
+use Rattle.tree.specs.declared.types.Heap.TheVariants as heap
+use Rattle.program.specs.declared.types.Side.{Side}
+use Rattle.tree.specs.declared.types.Type.TheVariants as type
+use Rattle.declarations.specs.Types.{type_meant}
+use Rattle.declarations.specs.Indices.{contract_index, state_index}
+use Rattle.declarations.specs.Program.{Program}
+use Rattle.program.specs.Parts.{ContractModel}
+use Rattle.declarations.specs.Resolution.{resolved_contracts}
+use Rattle.declarations.specs.declared.value_type as names
+use Rattle.declarations.specs.declared.value_type.ValueType.TheVariants as name
+use Rattle.program.specs.declared.number.ContractId.{ContractId}
+use Rattle.program.specs.declared.number.StateId.{StateId}
+use Rattle.program.specs.declared.types.HeapType.{HeapType}
+use Rattle.program.specs.declared.types.HeapType.TheVariants.{Struct, Array, Endpoint}
+use Rattle.resolving.specs.Counts.{contracts_before, structs_before}
+
+-- the contract that is the item at this place, with its names resolved
+abbrev pub contract_at : Program → ℕ → Option ContractModel
+contract_at p n = slice_get (resolved_contracts p.text (contracts_of p.items)) (contracts_before p.items n)
+
+-- the number of the state of this name
+abbrev pub named_state : Program → ℕ → ContractModel → Span → Option StateId
+named_state p n c name = option_map (λ s. s.id) (option_and_then (slice_get c.parts.states) (state_index p n name))
+
+-- the state that is written, or else the first one of the contract
+abbrev pub state_of : Program → ℕ → ContractModel → Option Span → StateId
+state_of p n c state = option_map_or (λ s. s) (option_and_then (named_state p n c) state) c.parts.first
+
+abbrev pub contract_number : Program → ℕ → ContractId
+contract_number p n = record { 0 = contracts_before p.items n }
+
+-- the number of the contract of this name
+abbrev pub number_at : Program → ℕ → Option ContractId
+number_at p n = option_map (λ c. contract_number p n) (contract_at p n)
+
+abbrev pub contract_named : Program → Span → Option ContractId
+contract_named p name = option_and_then (number_at p) (contract_index p name)
+
+abbrev pub endpoint_held : Program → ℕ → Side → Option Span → Option HeapType
+endpoint_held p n side state = option_map (λ c. Endpoint (contract_number p n) side (state_of p n c state)) (contract_at p n)
+
+-- what a variable of this type holds, where it is of the exchange heap
+abbrev pub heap_type : Program → names.ValueType.ValueType → Option Span → Option HeapType
+heap_type p (name.Pointer n) state = option_map (λ i. Struct (record { 0 = structs_before p.items n })) (slice_get p.items n)
+heap_type p (name.Array element) state = Some (Array element)
+heap_type p (name.Endpoint side n) state = endpoint_held p n side state
+heap_type p (name.Scalar s) state = None
+heap_type p name.Missing state = None
+heap_type p name.Unknown state = None
+
+-- the state that a type names
+abbrev pub state_in : type_nodes.Type.Type → Option Span
+state_in (type.Heap (heap.Endpoint contract side state bang in_heap)) = state
+state_in _ = None
+
+-- what a variable of this type holds
+abbrev pub type_held : Program → type_nodes.Type.Type → Option HeapType
+type_held p t = heap_type p (type_meant p t) (state_in t)
+
+-- what a method gives, where it is of the exchange heap
+abbrev pub result_held : Program → Option type_nodes.Type.Type → Option HeapType
+result_held p t = option_and_then (type_held p) t

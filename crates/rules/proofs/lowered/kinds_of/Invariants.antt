@@ -1,5 +1,0 @@
-use Rattle.rules.proofs.KindLemmas.{Listed}
-use Rattle.rules.proofs.lowered.kinds_of.Given as goal
-
-abbrev pub invariant-loop-variable : goal.invariant-loop-variable
-invariant-loop-variable l = Listed l.method.variables.items l.variable-index l.kinds.items

@@ -1,0 +1,11 @@
+pub mod TypeRules
+pub mod EndpointRules
+pub mod TypeForms
+pub mod MessageRules
+pub mod StateRules
+pub mod BodyRules
+pub mod ContractRules
+pub mod AccessRules
+pub mod StructRules
+pub mod ClassRules
+pub mod ItemRules

@@ -1,0 +1,16 @@
+pub mod Pieces
+pub mod Beginnings
+pub mod Repeats
+pub mod Options
+pub mod Choices
+pub mod CursorLemmas
+pub mod KindLemmas
+pub mod Words
+pub mod FewLemmas
+pub mod Listed
+pub mod ListedOpen
+pub mod Exits
+pub mod Enclosed
+pub mod Tops
+pub mod Chains
+pub mod SharedFronts
