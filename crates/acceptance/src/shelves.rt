@@ -2,7 +2,7 @@
 
 ghost use Rattle.std.specs.Prelude.{◌≡◌, IfOk, length};
 ghost use Rattle.rules.specs.Programs.{model_of};
-ghost use Rattle.analyse.specs.Tasks.{task_program};
+ghost use Rattle.tasks.specs.Tasks.{task_program};
 ghost use Rattle.analyse.specs.Workers.{IsWorkerOf};
 
 use analyse::{Task, Verdict, Worker, analyse, give_up_all, tasks};

@@ -2,7 +2,7 @@
 
 ghost use Rattle.std.specs.Prelude.{◌≡◌, length};
 ghost use Rattle.rules.specs.Programs.{model_of};
-ghost use Rattle.analyse.specs.Tasks.{task_program};
+ghost use Rattle.tasks.specs.Tasks.{task_program};
 ghost use Rattle.analyse.specs.Workers.{IsWorkerOf};
 
 use crate::steps::{FREED_AND_READ, only};

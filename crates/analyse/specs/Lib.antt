@@ -8,9 +8,9 @@ pub mod Reach
 pub mod Remembering
 pub mod RowKeys
 pub mod Searches
-pub mod Tasks
 pub mod Told
 pub mod Traces
 pub mod Trails
+pub mod VerdictParts
 pub mod Verdicts
 pub mod Workers

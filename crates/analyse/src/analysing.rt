@@ -6,18 +6,19 @@ ghost use Rattle.source.specs.Findings.{finding_model};
 ghost use Rattle.reports.specs.Orders.{report_cmp};
 ghost use Rattle.intern.specs.View.{Grows};
 ghost use Rattle.rules.specs.Programs.{model_of};
-ghost use Rattle.analyse.specs.Tasks.{findings_of, number_of, program_of, task_program, verdict_number};
+ghost use Rattle.tasks.specs.Tasks.{number_of, task_program};
+ghost use Rattle.analyse.specs.VerdictParts.{findings_of, program_of, verdict_number};
 ghost use Rattle.analyse.specs.Verdicts.{HasTooMany, IsMethodVerdict};
 ghost use Rattle.analyse.specs.Workers.{HasLeftTable, HaveIds, IsAtTable, IsWorkerOf, ReachesFar, view_of};
 
 use crate::searching::verdict_of;
-use crate::task::Task;
 use crate::verdict::Verdict;
 use crate::worker::Worker;
 use intern::Rows;
 use rules::Program;
 use source::Memory;
 use std::alloc::Global;
+use tasks::Task;
 
 /// The most pairs of a point and a row that may be reached in a method.
 pub const MOST_PAIRS: usize = 20_000;
@@ -52,9 +53,9 @@ pub fn analyse(
         → HaveIds (model_of program.now) (number_of task) (view_of worker.new)) }
     ensures kept { IfErr result (λ e. e.0 ≡ task) }
 {
-    match verdict_of(alloc, program, task.method, rows, worker) {
+    match verdict_of(alloc, program, task.method(), rows, worker) {
         Ok(findings) => {
-            let Task { method, program } = task;
+            let (method, program) = task.spend();
             Ok(Verdict {
                 method,
                 program,

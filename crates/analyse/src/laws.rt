@@ -5,7 +5,7 @@ ghost use Rattle.source.specs.Findings.{FindingModel};
 ghost use Rattle.program.specs.Methods.{MethodModel};
 ghost use Rattle.program.specs.Programs.{ProgramModel};
 ghost use Rattle.rules.specs.Outcomes.{Pair};
-ghost use Rattle.rules.specs.Rows.{IsRowOf};
+ghost use Rattle.rows.specs.Rows.{IsRowOf};
 ghost use Rattle.rules.specs.Steps.{entry_of, outcome};
 ghost use Rattle.analyse.specs.Reach.{Reached};
 ghost use Rattle.analyse.specs.Verdicts.{IsMethodVerdict};

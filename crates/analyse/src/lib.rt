@@ -1,7 +1,6 @@
 //! The verdict of a method: what is found at the pairs of a point and a row that can be reached.
 #![tactic(auto)]
 
-mod all_tasks;
 mod analysing;
 mod breaches;
 mod findings;
@@ -19,16 +18,14 @@ mod seating;
 mod seen;
 mod site;
 mod stopped;
-mod task;
 mod told;
 mod tracing;
 mod trail;
 mod verdict;
 mod worker;
 
-pub use all_tasks::{give_up_all, tasks};
 pub use analysing::{MOST_PAIRS, analyse};
-pub use task::Task;
+pub use tasks::{Task, give_up_all, tasks};
 pub use tracing::trails_of;
 pub use trail::{Failure, Trails};
 pub use verdict::Verdict;

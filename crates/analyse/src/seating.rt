@@ -2,7 +2,7 @@
 
 ghost use Rattle.std.specs.Prelude.{◌≡◌};
 ghost use Rattle.intern.specs.Seats.{IsSeatOf};
-ghost use Rattle.intern.specs.declared.rows.Rows.{Rows};
+ghost use Rattle.intern.specs.declared.row_table.Rows.{Rows};
 ghost use Rattle.analyse.specs.Workers.{IsAtTable, IsWorkerOf, seat_of};
 
 use crate::own::OwnRows;

@@ -24,7 +24,7 @@ pub struct Verdict {
 }
 
 impl Verdict {
-    ghost use Rattle.analyse.specs.Tasks.{findings_of, program_of, verdict_number};
+    ghost use Rattle.analyse.specs.VerdictParts.{findings_of, program_of, verdict_number};
 
     /// The method.
     pub fn method(&self) -> MethodId

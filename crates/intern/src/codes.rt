@@ -1,12 +1,12 @@
 //! The numbers of leaves, which stand in words.
 
 ghost use Rattle.std.specs.Prelude.{◌≡◌, ◌<◌};
-ghost use Rattle.rules.specs.Leaves.{IsNumbered};
+ghost use Rattle.rows.specs.Leaves.{IsNumbered};
 ghost use Rattle.intern.specs.Codes.{code};
 ghost use Rattle.intern.specs.declared.codes.TheConstants.{LEAF_CODES};
 
 use program::MOST_STATES;
-use rules::Leaf;
+use rows::Leaf;
 
 /// The numbers of leaves are below this: one each for nothing, a block and an endpoint that is cut off, and one for each state.
 pub const LEAF_CODES: u64 = MOST_STATES as u64 + 3;

@@ -4,22 +4,22 @@ ghost use Rattle.std.specs.Prelude.{◌≡◌, ◌+◌, ◌*◌, ◌<◌, ℕ, L
 ghost use Rattle.std.specs.Thread.{IsSync};
 ghost use Rattle.atomic_table.specs.Table.{State};
 ghost use Rattle.program.specs.declared.limits.TheConstants.{MOST_VARIABLES};
-ghost use Rattle.rules.specs.Leaves.{IsNumbered};
-ghost use Rattle.rules.specs.declared.row.Leaf.{Leaf};
+ghost use Rattle.rows.specs.Leaves.{IsNumbered};
+ghost use Rattle.rows.specs.declared.row.Leaf.{Leaf};
 ghost use Rattle.intern.specs.Codes.{code};
 ghost use Rattle.intern.specs.Layout.{word};
 ghost use Rattle.intern.specs.Rule.{Filled};
 ghost use Rattle.intern.specs.Seats.{IsOfEmptyTable, IsSeatOf, IsStateFor, slots_of, view};
 ghost use Rattle.intern.specs.RowIds.{HasNoRoom, IsFaithful, IsKnown, Names};
 ghost use Rattle.intern.specs.View.{Grows, IsInside, IsSound, IsWalk, Knowledge, View};
-ghost use Rattle.intern.specs.contracts.rows.Rows as rows;
+ghost use Rattle.intern.specs.contracts.row_table.Rows as rows;
 ghost use Rattle.intern.specs.declared.layout.TheConstants.{LEAVES, LENGTHS, MOST_LOOKS, MOST_SLOTS};
-ghost use Rattle.intern.specs.declared.rows.Rows.{Rows};
+ghost use Rattle.intern.specs.declared.row_table.Rows.{Rows};
 ghost use Rattle.intern.specs.declared.seat.Seat.{Seat};
 ghost use Rattle.intern.specs.declared.row_id.RowId.{RowId};
 ghost use Rattle.intern.specs.declared.row_id.RowId.TheVariants.{At};
 
-use crate::rows::Rows;
+use crate::row_table::Rows;
 
 /// The limits in digits, and the word.
 pub fn limits()

@@ -9,7 +9,7 @@ ghost use Rattle.intern.specs.View.{Grows};
 
 use crate::fault::InternNew;
 use crate::layout::MOST_SLOTS;
-use crate::rows::Rows;
+use crate::row_table::Rows;
 use crate::seat::Seat;
 use crate::table::{Halves, Look};
 use atomic_table::Table;

@@ -2,7 +2,7 @@
 use Rattle.std.proofs.Common.{◌≡◌, ℕ, ◌+◌, ◌<◌, ◌≤◌, List, All, ap, ◌∙◌, sym, subst, arith, length, get_or, vec_len}
 use Rattle.std.specs.Global.{Vec}
 use Rattle.crossbeam_deque.specs.Handles.{IsPassOf, stealer_deque, worker_deque, worker_flavor, worker_view}
-use Rattle.analyse.specs.declared.task.Task.{Task}
+use Rattle.tasks.specs.declared.task.Task.{Task}
 use Rattle.pool.specs.Rule.{copies}
 use Rattle.pool.specs.Counts.{Owner, Ticket, all_put}
 use Rattle.pool.specs.Owners.{AreThieves, EachChanges, GotParts, IsWhole, Keeps, LostParts, Thief, Took, owner_parts}

@@ -6,7 +6,7 @@ use Rattle.std.proofs.lemmas.List.{get_or_append_left, get_or_push, map-append}
 use Rattle.std.proofs.lemmas.List.Elements.{All-append, All-nil, All-push}
 use Rattle.std.proofs.lemmas.List.Sums.{sum_by_push}
 use Rattle.crossbeam_deque.specs.Handles.{worker_view}
-use Rattle.analyse.specs.declared.task.Task.{Task}
+use Rattle.tasks.specs.declared.task.Task.{Task}
 use Rattle.pool.specs.Rule.{copies}
 use Rattle.pool.specs.Counts.{Owner, Ticket, all_taken, method_of, taken_by, times, times_done}
 use Rattle.pool.specs.Owners.{EachChanges, Thief, Took}

@@ -8,7 +8,7 @@ use Rattle.crossbeam_deque.specs.Handles.{view, worker_view, IsPassOf, stealer_d
 use Rattle.crossbeam_deque.specs.Steals.{MatchSteal}
 use Rattle.crossbeam_deque.specs.declared.steal.Steal.{Steal}
 use Rattle.crossbeam_deque.specs.declared.steal.Steal.TheVariants.{Empty, Success, Retry}
-use Rattle.analyse.specs.declared.task.Task.{Task}
+use Rattle.tasks.specs.declared.task.Task.{Task}
 use Rattle.pool.specs.declared.held.HeldTask.{HeldTask}
 use Rattle.pool.specs.declared.held.Hand.{Hand}
 use Rattle.pool.specs.Rule.{hand, copies, IsPart}

@@ -3,7 +3,7 @@ use Rattle.std.specs.Prelude.{◌≡◌, ℕ, ◌+◌, ◌<◌, List, [], ◌++�
 use Rattle.crossbeam_deque.specs.Handles.{IsPassOf, stealer_deque, stealer_flavor, view, worker_deque, worker_flavor, worker_view}
 use Rattle.crossbeam_deque.specs.declared.handles.Stealer.{Stealer}
 use Rattle.std.specs.declared.alloc.Global.{Global}
-use Rattle.analyse.specs.declared.task.Task.{Task}
+use Rattle.tasks.specs.declared.task.Task.{Task}
 use Rattle.pool.specs.Counts.{Owner, Ticket}
 use Rattle.pool.specs.declared.deque.Sharing.{Sharing}
 use Rattle.pool.specs.declared.held.Hand.{Hand}

@@ -2,7 +2,7 @@
 use Rattle.std.specs.Prelude.{◌≡◌, ℕ, ◌<◌, List, [], All, length, slice_index_or, sum_by}
 use Rattle.std.specs.Global.{Vec}
 use Rattle.crossbeam_deque.specs.Handles.{IsPassOf, stealer_deque, stealer_flavor, view, worker_deque, worker_view}
-use Rattle.analyse.specs.declared.task.Task.{Task}
+use Rattle.tasks.specs.declared.task.Task.{Task}
 use Rattle.pool.specs.Counts.{Owner, Ticket, taken_by}
 use Rattle.pool.specs.Owners.{CutOff, Thief}
 use Rattle.pool.specs.declared.held.HeldTask.{HeldTask}

@@ -2,7 +2,7 @@
 use Rattle.std.specs.Prelude.{◌≡◌, ◌==◌, ℕ, ◌<◌, List, [], ◌++◌, count_by, sum_by}
 use mathlib.Core.Option.{some}
 use lib.ListN.{get_elem?}
-use Rattle.analyse.specs.Tasks.{number_of}
+use Rattle.tasks.specs.Tasks.{number_of}
 use Rattle.pool.specs.declared.held.Hand.{Hand}
 use Rattle.pool.specs.declared.held.HeldTask.{HeldTask}
 

@@ -2,7 +2,7 @@
 use Rattle.std.specs.Prelude.{◌≡◌, ℕ, ◌+◌, ◌<◌, List, [], All, IfOk, Result, length, slice_index_or}
 use Rattle.std.specs.Global.{Vec}
 use Rattle.crossbeam_deque.specs.Handles.{worker_view}
-use Rattle.analyse.specs.declared.task.Task.{Task}
+use Rattle.tasks.specs.declared.task.Task.{Task}
 use Rattle.source.specs.declared.fault.Memory.{Memory}
 use Rattle.pool.specs.Rule.{copies}
 use Rattle.pool.specs.Counts.{Owner, Ticket, all_taken, method_of, taken_by, times_done}

@@ -2,16 +2,16 @@
 
 ghost use Rattle.std.specs.Prelude.{◌≡◌, ◌<◌, ◌+◌, ℕ, [], ◌∷◌, All, IfOk, OnOk, length, map, vec_len};
 ghost use Rattle.crossbeam_deque.specs.Handles.{worker_flavor};
-ghost use Rattle.analyse.specs.Tasks.{number_of};
+ghost use Rattle.tasks.specs.Tasks.{number_of};
 ghost use Rattle.pool.specs.Counts.{all_put, times};
 ghost use Rattle.pool.specs.Owners.{AreFilled, AreThieves};
 
 use crate::deque::{Owner, Puts, Thief};
 use crate::held::HeldTask;
 use crate::job::Job;
-use analyse::{Task, give_up_all};
 use source::Memory;
 use std::alloc::Global;
+use tasks::{Task, give_up_all};
 
 /// So many deques with nothing in them, each with room for so many tasks at first.
 ///

@@ -2,8 +2,8 @@
 
 ghost use Rattle.std.specs.Prelude.{◌≡◌};
 
-use analyse::Task;
 use std::collections::LinkedList;
+use tasks::Task;
 
 /// A task in a deque. It gives the task up where it is dropped, so a deque that is dropped gives up all that is left in it.
 pub struct HeldTask {

@@ -1,11 +1,11 @@
 //! What workers do with a task.
 
 ghost use Rattle.std.specs.Prelude.{◌≡◌, ℕ, IfErr, IfOk};
-ghost use Rattle.analyse.specs.Tasks.{number_of};
-ghost use Rattle.analyse.specs.declared.task.Task.{Task};
+ghost use Rattle.tasks.specs.Tasks.{number_of};
+ghost use Rattle.tasks.specs.declared.task.Task.{Task};
 
-use analyse::Task;
 use source::Memory;
+use tasks::Task;
 
 /// What workers do with a task. It holds what it needs, and says which tasks and seats it accepts and what its result promises.
 pub trait Job: Sync {

@@ -1,7 +1,7 @@
 //! Tasks shared out over workers.
 
 ghost use Rattle.std.specs.Prelude.{◌≡◌, ℕ, ◌<◌, ◌≤◌, ◌⊎◌, ◌↔◌, All, IfOk, IsErrOf, length, map, vec_len};
-ghost use Rattle.analyse.specs.Tasks.{number_of};
+ghost use Rattle.tasks.specs.Tasks.{number_of};
 ghost use Rattle.pool.specs.Counts.{method_of, times, times_done};
 ghost use Rattle.pool.specs.Stints.{AreGathered, IsStint, owner_of};
 
@@ -15,11 +15,11 @@ use crate::gathering::{Gathered, gather};
 use crate::job::Job;
 use crate::stints::{Common, Stint, stints};
 use crate::threads::run_all;
-use analyse::{Task, give_up_all};
 use source::Memory;
 use std::alloc::Global;
 use std::sync::Wait;
 use std::thread::Threads;
+use tasks::{Task, give_up_all};
 
 /// The most workers.
 pub const MOST_WORKERS: usize = 64;

@@ -18,7 +18,7 @@ use Rattle.rules.specs.Outcomes.{Check, Pair, checked, refused}
 use Rattle.rules.specs.Repeats.{first_again, told_again}
 use Rattle.rules.specs.Texts.{twice}
 use Rattle.rules.specs.declared.breach.Breach.{Breach}
-use Rattle.rules.specs.declared.row.Leaf.{Leaf}
+use Rattle.rows.specs.declared.row.Leaf.{Leaf}
 use Rattle.flow.proofs.EndpointLemmas.{same_test, at_same, was_not, was_there}
 
 -- so many arguments were looked at, the variables of these are in the set, and none of them was given before

@@ -11,7 +11,7 @@ use Rattle.rules.specs.Outcomes.{Check, checked, refused}
 use Rattle.rules.specs.RuleTable.{is_not_back}
 use Rattle.rules.specs.Texts.{not_back}
 use Rattle.rules.specs.declared.breach.Breach.{Breach}
-use Rattle.rules.specs.declared.row.Leaf.{Leaf}
+use Rattle.rows.specs.declared.row.Leaf.{Leaf}
 
 module _ (p : ProgramModel) (m : MethodModel) (row : List Leaf) (place : Place) where
   abbrev pub back_check : ℕ → Check

@@ -25,7 +25,7 @@ use Rattle.contracts.specs.Bounds.{sign_to}
 use Rattle.contracts.specs.Leaving.{edges_from, name_among, sign_from}
 use Rattle.rules.specs.Ends.{IsEndOf, IsNoEnd}
 use Rattle.rules.specs.Endpoints.{declared_leaf}
-use Rattle.rules.specs.Leaves.{IsNumbered}
+use Rattle.rows.specs.Leaves.{IsNumbered}
 
 -- a sound contract is whole
 whole_at : (sounds : List Sound) (contracts : List ContractModel) (n : ℕ) (c : ContractModel) → map sound_parts sounds ≡ map (λ (x : ContractModel). x.parts) contracts → slice_get contracts n ≡ Some c → ∥ IsWhole c.parts ∥₁

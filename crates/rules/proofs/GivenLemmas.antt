@@ -8,7 +8,7 @@ use Rattle.rules.specs.Checks.{first_kept}
 use Rattle.rules.specs.Mentions.{given_back, is_kept, name_of}
 use Rattle.rules.specs.Outcomes.{Check, Pair, Step, Fails, checked, refused}
 use Rattle.rules.specs.Texts.{still_owned}
-use Rattle.rules.specs.declared.row.Leaf.{Leaf}
+use Rattle.rows.specs.declared.row.Leaf.{Leaf}
 
 -- what comes of the first variable that still has something, if there is one, and what of the checks behind
 abbrev pub given : MethodModel → Place → Option ℕ → List Check → List Pair → Step Pair FindingModel

@@ -5,10 +5,10 @@ use Rattle.std.proofs.lemmas.Option.{slice_get-get_or, slice_get_past}
 use Rattle.program.specs.Methods.{MethodModel}
 use Rattle.program.specs.declared.statement.Mention.{Mention}
 use Rattle.rules.specs.Checks.{first_kept}
-use Rattle.rules.specs.Leaves.{is_something}
+use Rattle.rows.specs.Leaves.{is_something}
 use Rattle.rules.specs.Mentions.{is_kept, is_lent, is_named}
-use Rattle.rules.specs.Rows.{given, is_owned}
-use Rattle.rules.specs.declared.row.Leaf.{Leaf}
+use Rattle.rows.specs.Rows.{given, is_owned}
+use Rattle.rows.specs.declared.row.Leaf.{Leaf}
 
 none_of : (a b : Bool) → (a && (b && false)) ≡ false
 none_of true true = refl

@@ -7,7 +7,7 @@ use Rattle.program.specs.declared.number.VarId.{VarId}
 use Rattle.program.specs.declared.statement.Mention.{Mention}
 use Rattle.rules.specs.Checks.{IsFirst, IsPlain, LeadsTo, first_kept, if_kept, kept_or}
 use Rattle.rules.specs.Scopes.{between, declared_between, is_this}
-use Rattle.rules.specs.declared.row.Leaf.{Leaf}
+use Rattle.rows.specs.declared.row.Leaf.{Leaf}
 use Rattle.rules.proofs.ScopeLemmas.{between_more, between_none, between_this, kept_append}
 
 -- a variable behind the outer one is another

@@ -8,7 +8,7 @@ use Rattle.program.specs.declared.types.HeapType.{HeapType}
 use Rattle.program.specs.declared.statement.Mention.{Mention}
 use Rattle.rules.specs.Arguments.{claimed, payload}
 use Rattle.rules.specs.Repeats.{first_again}
-use Rattle.rules.specs.declared.row.Leaf.{Leaf}
+use Rattle.rows.specs.declared.row.Leaf.{Leaf}
 use Rattle.rules.proofs.ArgumentLemmas.{zip_nil}
 
 -- whether it is one of these, or one of the first payloads is this variable

@@ -12,7 +12,7 @@ use Rattle.flow.specs.Lowering.{graph_of}
 use Rattle.program.specs.declared.method.Method.{Method}
 use Rattle.program.specs.Methods.{MethodModel, method_model, variable_model}
 use Rattle.program.specs.Programs.{ProgramModel}
-use Rattle.rules.specs.declared.row.Leaf.{Leaf}
+use Rattle.rows.specs.declared.row.Leaf.{Leaf}
 use Rattle.rules.specs.Breaches.{breach_in, breach_model}
 use Rattle.rules.specs.Onwards.{condition_at}
 use Rattle.rules.specs.Outcomes.{Goes, Pair}

@@ -19,7 +19,7 @@ use Rattle.rules.specs.Endpoints.{brought, declared_leaf, field_of, fields_of, f
 use Rattle.rules.specs.Switches.{awaited_edges, bound_leaves, closed, comes_at, pair_at, received, switch_checks, switch_pairs}
 use Rattle.program.specs.declared.call.Argument.{Argument}
 use Rattle.program.specs.declared.statement.Mention.{Mention}
-use Rattle.rules.specs.Rows.{IsRowOf, leaf_at}
+use Rattle.rows.specs.Rows.{IsRowOf, leaf_at}
 use Rattle.rules.specs.Arguments.{all_arguments, all_fields, all_payloads, claimed, field_checks, given_leaf, lacks_edge, payload, sent_leaf, target_checks}
 use Rattle.rules.specs.Mentions.{given_back, has_nothing, has_something, is_another, is_not_lent}
 use Rattle.rules.specs.Outcomes.{Check, Fails, Goes, Pair, Step, checked, refused}
@@ -27,8 +27,8 @@ use Rattle.rules.specs.RuleTable.{back_checks, instruction_outcome, value_checks
 use Rattle.rules.specs.Scopes.{declared_between}
 use Rattle.rules.specs.Texts.{not_sent}
 use Rattle.rules.specs.Steps.{entry_leaf, method_entry, method_outcome, outcome, point_outcome}
-use Rattle.rules.specs.declared.row.Leaf.{Leaf}
-use Rattle.rules.specs.declared.row.Leaf.TheVariants.{Nothing, Block, CutOff, State}
+use Rattle.rows.specs.declared.row.Leaf.{Leaf}
+use Rattle.rows.specs.declared.row.Leaf.TheVariants.{Nothing, Block, CutOff, State}
 use Rattle.rules.proofs.ProgramLemmas.{outcome_is}
 
 pub claimed_size : (row : List Leaf) (arguments : List Argument) → length (claimed row arguments) ≡ length row

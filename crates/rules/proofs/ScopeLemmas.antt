@@ -7,7 +7,7 @@ use Rattle.program.specs.declared.statement.Mention.{Mention}
 use Rattle.rules.specs.Checks.{first_kept, if_kept, kept_or}
 use Rattle.rules.specs.Mentions.{is_kept}
 use Rattle.rules.specs.Scopes.{between, is_this}
-use Rattle.rules.specs.declared.row.Leaf.{Leaf}
+use Rattle.rows.specs.declared.row.Leaf.{Leaf}
 
 kept_none : (a : Option ℕ) → kept_or a None ≡ a
 kept_none None = refl

@@ -15,7 +15,7 @@ use Rattle.flow.specs.Graphs.{Instruction, Exchange, New}
 use Rattle.rules.specs.Outcomes.{Fails, Goes}
 use Rattle.rules.specs.RuleTable.{instruction_outcome}
 use Rattle.rules.specs.Texts.{lent, not_owned, overwritten, twice, wrong_for_field}
-use Rattle.rules.specs.declared.row.Leaf.TheVariants.{Nothing, Block, State, CutOff}
+use Rattle.rows.specs.declared.row.Leaf.TheVariants.{Nothing, Block, State, CutOff}
 
 abbrev at : ℕ → Place
 at col = record { line = 1; col = col }

@@ -12,7 +12,7 @@ use Rattle.rules.specs.Mentions.{name_of}
 use Rattle.rules.specs.Outcomes.{Check, refused}
 use Rattle.rules.specs.Switches.{bound_leaves}
 use Rattle.rules.specs.Texts.{not_covered}
-use Rattle.rules.specs.declared.row.Leaf.{Leaf}
+use Rattle.rows.specs.declared.row.Leaf.{Leaf}
 use Rattle.rules.specs.Endpoints.{declared_leaf}
 use Rattle.program.specs.declared.types.HeapType.{HeapType}
 use Rattle.program.specs.declared.number.VarId.{VarId}

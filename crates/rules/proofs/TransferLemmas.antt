@@ -16,13 +16,13 @@ use Rattle.rules.specs.Arguments.{all_fields, field_checks}
 use Rattle.rules.specs.Endpoints.{fields_of}
 use Rattle.rules.specs.Mentions.{is_lent, name_of}
 use Rattle.rules.specs.Outcomes.{Goes, Pair, Check, checked, refused}
-use Rattle.rules.specs.Rows.{is_owned, leaf_at}
+use Rattle.rows.specs.Rows.{is_owned, leaf_at}
 use Rattle.rules.specs.RuleTable.{instruction_outcome}
 use Rattle.rules.specs.Steps.{method_outcome, outcome, point_outcome}
 use Rattle.rules.specs.Texts.{lent, not_owned, overwritten, twice}
 use Rattle.rules.specs.Transfers.{allows, fits, fitting, transfer_at, transfer_in, transferred}
-use Rattle.rules.specs.declared.row.Leaf.{Leaf}
-use Rattle.rules.specs.declared.row.Leaf.TheVariants.{Nothing, Block}
+use Rattle.rows.specs.declared.row.Leaf.{Leaf}
+use Rattle.rows.specs.declared.row.Leaf.TheVariants.{Nothing, Block}
 use Rattle.rules.specs.declared.transfer.Transfer.{Transfer}
 use Rattle.rules.specs.declared.transfer.Transfer.TheVariants.{Use, New, Move, Delete}
 use Rattle.rules.proofs.ArgumentLemmas.{zip_nil}

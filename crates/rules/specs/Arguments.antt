@@ -14,10 +14,10 @@ use Rattle.contracts.specs.Leaving.{end_on}
 use Rattle.rules.specs.Endpoints.{declared_leaf, edges_out, in_state, is_wrong}
 use Rattle.rules.specs.Mentions.{has_nothing, has_something, is_lent, is_not_lent, name_of}
 use Rattle.rules.specs.Outcomes.{Check, refused}
-use Rattle.rules.specs.Rows.{leaf_at}
+use Rattle.rows.specs.Rows.{leaf_at}
 use Rattle.rules.specs.Texts.{lent, twice, wrong_for, wrong_for_call, wrong_for_field}
-use Rattle.rules.specs.declared.row.Leaf.{Leaf}
-use Rattle.rules.specs.declared.row.Leaf.TheVariants.{Nothing, State}
+use Rattle.rows.specs.declared.row.Leaf.{Leaf}
+use Rattle.rows.specs.declared.row.Leaf.TheVariants.{Nothing, State}
 
 -- what is claimed of arguments is gone
 abbrev pub claimed : List Leaf → List Argument → List Leaf

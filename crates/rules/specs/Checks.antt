@@ -12,7 +12,7 @@ use Rattle.program.specs.declared.statement.Mention.{Mention}
 use Rattle.rules.specs.Mentions.{is_kept}
 use Rattle.rules.specs.Outcomes.{Check, Pair, checked}
 use Rattle.rules.specs.declared.breach.Breach.{Breach}
-use Rattle.rules.specs.declared.row.Leaf.{Leaf}
+use Rattle.rows.specs.declared.row.Leaf.{Leaf}
 
 -- the check that found this, by what breaches say
 abbrev pub check_model : (Breach → FindingModel) → Option Breach → Check

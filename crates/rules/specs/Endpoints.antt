@@ -10,8 +10,8 @@ use Rattle.program.specs.declared.types.HeapType.{HeapType}
 use Rattle.program.specs.declared.types.HeapType.TheVariants.{Endpoint}
 use Rattle.contracts.specs.Bounds.{sign_to}
 use Rattle.contracts.specs.Leaving.{edges_from, name_among, sign_from}
-use Rattle.rules.specs.declared.row.Leaf.{Leaf}
-use Rattle.rules.specs.declared.row.Leaf.TheVariants.{Block, State}
+use Rattle.rows.specs.declared.row.Leaf.{Leaf}
+use Rattle.rows.specs.declared.row.Leaf.TheVariants.{Block, State}
 
 -- what a message brings for its parameters of the exchange heap
 abbrev pub brought : ProgramModel → ℕ → List HeapType

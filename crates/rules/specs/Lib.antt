@@ -3,7 +3,6 @@ pub mod Breaches
 pub mod Checks
 pub mod Endpoints
 pub mod Ends
-pub mod Leaves
 pub mod Mentions
 pub mod Onwards
 pub mod Outcomes
@@ -11,7 +10,6 @@ pub mod Programs
 pub mod Reasons
 pub mod Repeats
 pub mod RuleTable
-pub mod Rows
 pub mod Scopes
 pub mod Steps
 pub mod Switches

@@ -8,7 +8,7 @@ use Rattle.rules.specs.Steps.{pair_model}
 use Rattle.rules.specs.declared.breach.Breach.{Breach}
 use Rattle.rules.specs.declared.onward.Onward.{Onward}
 use Rattle.rules.specs.declared.onward.Onward.TheVariants.{Ends, Same, Both, Changed, Ways, Found}
-use Rattle.rules.specs.declared.row.Leaf.{Leaf}
+use Rattle.rows.specs.declared.row.Leaf.{Leaf}
 
 -- what this answer means where that row stands in place, by what breaches say
 abbrev pub onward_model : (Breach → FindingModel) → Onward → List Leaf → Step Pair FindingModel

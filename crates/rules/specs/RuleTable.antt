@@ -20,12 +20,12 @@ use Rattle.rules.specs.Endpoints.{brought, declared_leaf, field_of, fields_of, f
 use Rattle.rules.specs.Endpoints.{parameter_types, result_of}
 use Rattle.rules.specs.Mentions.{given_back, has_nothing, has_something, is_another, is_lent, is_not_lent, name_of}
 use Rattle.rules.specs.Outcomes.{Step, Goes, Fails, Pair, Check, checked, refused}
-use Rattle.rules.specs.Rows.{leaf_at}
+use Rattle.rows.specs.Rows.{leaf_at}
 use Rattle.rules.specs.Scopes.{declared_between}
 use Rattle.rules.specs.Switches.{switch_checks, switch_pairs}
 use Rattle.rules.specs.Texts.{no_result, not_back, not_sent, wrong_for_result}
-use Rattle.rules.specs.declared.row.Leaf.{Leaf}
-use Rattle.rules.specs.declared.row.Leaf.TheVariants.{Nothing, Block, State}
+use Rattle.rows.specs.declared.row.Leaf.{Leaf}
+use Rattle.rows.specs.declared.row.Leaf.TheVariants.{Nothing, Block, State}
 
 -- where a condition goes on
 abbrev pub ways : Branches → List Leaf → List Pair

@@ -4,9 +4,9 @@ use Rattle.program.specs.Methods.{MethodModel}
 use Rattle.flow.specs.Graphs as graphs
 use Rattle.flow.specs.Graphs.{Instruction}
 use Rattle.rules.specs.Mentions.{is_lent}
-use Rattle.rules.specs.Rows.{is_owned, leaf_at}
-use Rattle.rules.specs.declared.row.Leaf.{Leaf}
-use Rattle.rules.specs.declared.row.Leaf.TheVariants.{Nothing, Block}
+use Rattle.rows.specs.Rows.{is_owned, leaf_at}
+use Rattle.rows.specs.declared.row.Leaf.{Leaf}
+use Rattle.rows.specs.declared.row.Leaf.TheVariants.{Nothing, Block}
 use Rattle.rules.specs.declared.transfer.Transfer.{Transfer}
 use Rattle.rules.specs.declared.transfer.Transfer.TheVariants.{Use, New, Move, Delete}
 

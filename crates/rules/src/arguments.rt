@@ -11,15 +11,15 @@ ghost use Rattle.rules.specs.Outcomes.{refused};
 ghost use Rattle.rules.specs.Programs.{model_of};
 ghost use Rattle.rules.specs.Repeats.{first_again};
 ghost use Rattle.rules.specs.Texts.{lent, wrong_for_call};
-ghost use Rattle.rules.specs.Leaves.{IsNumbered};
-ghost use Rattle.rules.specs.Rows.{leaf_at, row_model};
+ghost use Rattle.rows.specs.Leaves.{IsNumbered};
+ghost use Rattle.rows.specs.Rows.{leaf_at, row_model};
 
 use crate::breach::{Breach, Reason};
 use crate::checks::{gives_none_again, has_nothing, has_something, is_not_lent};
 use crate::endpoints::{declared_leaf, is_wrong};
 use crate::here::Here;
-use crate::row::{Leaf, Row};
 use program::{Argument, HeapType, Mention};
+use rows::{Leaf, Row};
 
 /// That what is claimed of an argument is not lent.
 fn can_be_claimed(here: &Here<'_>, argument: Argument) -> Option<Breach>

@@ -5,7 +5,7 @@ ghost use Rattle.program.specs.Methods.{method_model};
 ghost use Rattle.rules.specs.Breaches.{breach_model};
 ghost use Rattle.rules.specs.Checks.{check_model};
 ghost use Rattle.rules.specs.Programs.{model_of};
-ghost use Rattle.rules.specs.Rows.{row_model};
+ghost use Rattle.rows.specs.Rows.{row_model};
 ghost use Rattle.rules.specs.Mentions as table;
 ghost use Rattle.rules.specs.Repeats.{told_again};
 

@@ -9,12 +9,12 @@ ghost use Rattle.program.specs.declared.limits.TheConstants.{MOST_STATES};
 ghost use Rattle.rules.specs.Endpoints as table;
 ghost use Rattle.rules.specs.Endpoints.{declared_leaf};
 ghost use Rattle.rules.specs.Ends.{IsEndOf, IsNoEnd};
-ghost use Rattle.rules.specs.Leaves.{IsNumbered};
+ghost use Rattle.rows.specs.Leaves.{IsNumbered};
 
 use crate::lowered::Program;
-use crate::row::Leaf;
 use contracts::Sound;
 use program::{ContractId, Edge, HeapType, MessageId, Method, MethodId, Side, StateId, VarId};
+use rows::Leaf;
 
 /// What is had of this type where it is given.
 pub(crate) fn declared_leaf(ty: HeapType) -> Leaf

@@ -9,12 +9,12 @@ ghost use Rattle.rules.specs.Arguments.{field_checks, payload};
 ghost use Rattle.rules.specs.Breaches.{breach_model};
 ghost use Rattle.rules.specs.Checks.{StandsFor};
 ghost use Rattle.rules.specs.Endpoints as table;
-ghost use Rattle.rules.specs.Leaves.{IsNumbered};
+ghost use Rattle.rows.specs.Leaves.{IsNumbered};
 ghost use Rattle.rules.specs.Onwards.{IsKept, onward_model};
 ghost use Rattle.rules.specs.Programs.{model_of};
-ghost use Rattle.rules.specs.Rows.{row_model};
+ghost use Rattle.rows.specs.Rows.{row_model};
 ghost use Rattle.rules.specs.RuleTable.{instruction_outcome};
-ghost use Rattle.rules.specs.declared.row.Leaf.TheVariants.{Nothing};
+ghost use Rattle.rows.specs.declared.row.Leaf.TheVariants.{Nothing};
 
 use crate::arguments::can_take;
 use crate::breach::Breach;
@@ -23,8 +23,8 @@ use crate::endpoints::declared_leaf;
 use crate::here::{Here, Site};
 use crate::onward::Onward;
 use crate::payloads::{Taker, can_all_be_taken, can_be_taken, claim_payloads};
-use crate::row::{Leaf, Row};
 use program::{Exchange, HeapType, Mention};
+use rows::{Leaf, Row};
 
 /// The variable takes a new block, and what is given for the fields of that is gone.
 pub(crate) fn new(

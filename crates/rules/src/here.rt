@@ -2,8 +2,8 @@
 
 use crate::lowered::Program;
 use crate::repeats::Repeats;
-use crate::row::Row;
 use program::Method;
+use rows::Row;
 
 /// The program, the method and the point at which a step is taken, and what the calls and starts of the method give again.
 #[derive(Clone, Copy)]

@@ -6,7 +6,7 @@ ghost use Rattle.std.specs.declared.cmp.Ordering.TheVariants.{Equal};
 ghost use Rattle.program.specs.Methods.{MethodModel};
 ghost use Rattle.program.specs.Programs.{ProgramModel};
 ghost use Rattle.rules.specs.Outcomes.{Goes, Pair};
-ghost use Rattle.rules.specs.Rows.{IsRowOf};
+ghost use Rattle.rows.specs.Rows.{IsRowOf};
 ghost use Rattle.rules.specs.Steps.{entry_of, outcome};
 ghost use Rattle.rules.specs.contracts.lowered.Program as program;
 ghost use Rattle.rules.specs.contracts.repeats.Repeats as repeats;

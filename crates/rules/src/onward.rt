@@ -1,7 +1,7 @@
 //! What a step in place comes to.
 
 use crate::breach::Breach;
-use crate::row::Row;
+use rows::Row;
 
 /// What a step in place comes to. It works on the row that it is given, which is then the row of `Changed`.
 #[derive(Drop)]

@@ -1,7 +1,7 @@
 //! What a step comes to.
 
 use crate::breach::Breach;
-use crate::row::Row;
+use rows::Row;
 
 /// What a step comes to.
 #[derive(Drop)]

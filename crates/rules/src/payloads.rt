@@ -15,15 +15,15 @@ ghost use Rattle.rules.specs.Mentions.{name_of};
 ghost use Rattle.rules.specs.Outcomes.{refused};
 ghost use Rattle.rules.specs.Programs.{model_of};
 ghost use Rattle.rules.specs.Repeats.{first_again};
-ghost use Rattle.rules.specs.Rows.{leaf_at, row_model};
+ghost use Rattle.rows.specs.Rows.{leaf_at, row_model};
 ghost use Rattle.rules.specs.Takers.{besides, wrong_in};
 
 use crate::breach::{Breach, Reason};
 use crate::checks::{gives_none_again, has_something, is_not_lent};
 use crate::endpoints::is_wrong;
 use crate::here::Here;
-use crate::row::{Leaf, Row};
 use program::{HeapType, Mention, MessageId, VarId};
+use rows::{Leaf, Row};
 
 /// Where something goes for good.
 #[derive(Clone, Copy)]

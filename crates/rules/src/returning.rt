@@ -12,7 +12,7 @@ ghost use Rattle.rules.specs.Onwards.{onward_model};
 ghost use Rattle.rules.specs.Outcomes.{refused};
 ghost use Rattle.rules.specs.Texts.{wrong_for_result};
 ghost use Rattle.rules.specs.Programs.{model_of};
-ghost use Rattle.rules.specs.Rows.{leaf_at, row_model};
+ghost use Rattle.rows.specs.Rows.{leaf_at, row_model};
 ghost use Rattle.rules.specs.RuleTable as table;
 ghost use Rattle.rules.specs.RuleTable.{back_checks, instruction_outcome, value_checks};
 
@@ -21,10 +21,10 @@ use crate::checks::{has_something, is_lent_role, is_not_lent};
 use crate::endpoints::is_wrong;
 use crate::here::Here;
 use crate::onward::Onward;
-use crate::row::Leaf;
 use crate::scopes::is_given_back;
 use flow::Returning;
 use program::{Mention, Method, VarId};
+use rows::Leaf;
 use source::Place;
 
 /// The method ends. What it gives is its own and in the state of the result, of the other variables in scope those that are not lent

@@ -7,10 +7,10 @@ ghost use Rattle.program.specs.Methods.{method_model};
 ghost use Rattle.rules.specs.Arguments as table;
 ghost use Rattle.rules.specs.Arguments.{lacks_edge};
 ghost use Rattle.rules.specs.Breaches.{breach_model};
-ghost use Rattle.rules.specs.Leaves.{IsNumbered};
+ghost use Rattle.rows.specs.Leaves.{IsNumbered};
 ghost use Rattle.rules.specs.Onwards.{IsKept, onward_model};
 ghost use Rattle.rules.specs.Programs.{model_of};
-ghost use Rattle.rules.specs.Rows.{row_model};
+ghost use Rattle.rows.specs.Rows.{row_model};
 ghost use Rattle.rules.specs.RuleTable.{instruction_outcome};
 
 use crate::breach::{Breach, Reason};
@@ -20,9 +20,9 @@ use crate::here::{Here, Site};
 use crate::lowered::Program;
 use crate::onward::Onward;
 use crate::payloads::{Taker, can_all_be_taken, claim_payloads};
-use crate::row::{Leaf, Row};
 use flow::Sending;
 use program::{HeapType, MessageId};
+use rows::{Leaf, Row};
 
 /// A message is sent. What it takes with it is gone, and its endpoint is in the next state, or still cut off.
 pub(crate) fn send(site: &Site<'_>, row: &mut Row, sending: &Sending) -> Onward

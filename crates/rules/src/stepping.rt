@@ -7,26 +7,25 @@ ghost use Rattle.flow.specs.Lowering.{graph_of};
 ghost use Rattle.program.specs.declared.limits.TheConstants.{MOST_VARIABLES};
 ghost use Rattle.rules.specs.Breaches.{breach_in};
 ghost use Rattle.rules.specs.Endpoints.{declared_leaf};
-ghost use Rattle.rules.specs.Leaves.{IsNumbered};
+ghost use Rattle.rows.specs.Leaves.{IsNumbered};
 ghost use Rattle.rules.specs.Onwards.{IsKept, condition_at, onward_model};
 ghost use Rattle.rules.specs.Outcomes.{Goes};
 ghost use Rattle.rules.specs.Programs.{model_of};
-ghost use Rattle.rules.specs.Rows.{row_model};
+ghost use Rattle.rows.specs.Rows.{row_model};
 ghost use Rattle.rules.specs.RuleTable.{ways};
 ghost use Rattle.rules.specs.Steps.{entry_leaf, entry_of, outcome, outcome_model, pair_model};
 ghost use Rattle.rules.specs.declared.breach.Breach.{Breach as BreachModel};
-ghost use Rattle.rules.specs.declared.row.Leaf.{Leaf as LeafModel};
+ghost use Rattle.rows.specs.declared.row.Leaf.{Leaf as LeafModel};
 
 use crate::endpoints::declared_leaf;
 use crate::here::Site;
 use crate::lowered::Program;
 use crate::onward::Onward;
 use crate::outcome::Outcome;
-use crate::row::{Leaf, Row};
-use crate::spare::Spare;
 use crate::table::apply;
 use flow::{Branches, Instr};
 use program::{HeapType, MethodId, Role, Variable};
+use rows::{Leaf, Row, Spare};
 use source::Memory;
 use std::alloc::Global;
 
@@ -40,17 +39,25 @@ fn first_leaf(role: Role, ty: HeapType) -> Leaf
     }
 }
 
+/// What each of these variables has where the method begins.
+fn first_leaves(alloc: Global, variables: &[Variable]) -> Result<Vec<Leaf>, Memory>
+    ensures { IfOk result (λ leaves. leaves.items ≡ map (λ v. entry_leaf v.role v.ty) variables.now) }
+{
+    let leaves = variables
+        .iter()
+        .map(|v| first_leaf(v.role, v.ty))
+        .collect(alloc)?;
+    Ok(leaves)
+}
+
 /// The row with which a method of these variables begins.
 fn first_row(alloc: Global, variables: &[Variable]) -> Result<Row, Memory>
     requires few { length variables.now ≤ MOST_VARIABLES }
     requires numbered { All (λ v. IsNumbered (declared_leaf v.ty)) variables.now }
     ensures { IfOk result (λ row. row_model row ≡ map (λ v. entry_leaf v.role v.ty) variables.now) }
 {
-    let leaves = variables
-        .iter()
-        .map(|v| first_leaf(v.role, v.ty))
-        .collect(alloc)?;
-    Ok(Row { leaves })
+    let leaves = first_leaves(alloc, variables)?;
+    Ok(Row::from_leaves(leaves))
 }
 
 /// Where a method begins: its first point, and the row in which each parameter has what it is declared to have, a block or an endpoint in

@@ -10,11 +10,11 @@ ghost use Rattle.program.specs.declared.limits.TheConstants.{MOST_STATES};
 ghost use Rattle.rules.specs.Breaches.{breach_model};
 ghost use Rattle.rules.specs.Checks.{StandsFor};
 ghost use Rattle.rules.specs.Endpoints.{declared_leaf};
-ghost use Rattle.rules.specs.Leaves.{IsNumbered};
+ghost use Rattle.rows.specs.Leaves.{IsNumbered};
 ghost use Rattle.rules.specs.Mentions.{has_something};
 ghost use Rattle.rules.specs.Onwards.{onward_model};
 ghost use Rattle.rules.specs.Programs.{model_of};
-ghost use Rattle.rules.specs.Rows.{row_model};
+ghost use Rattle.rows.specs.Rows.{row_model};
 ghost use Rattle.rules.specs.RuleTable.{instruction_outcome};
 ghost use Rattle.rules.specs.Steps.{pair_model};
 ghost use Rattle.rules.specs.Switches as table;
@@ -25,10 +25,9 @@ use crate::checks::has_something;
 use crate::endpoints::{declared_leaf, type_of};
 use crate::here::Here;
 use crate::onward::Onward;
-use crate::row::{Leaf, Row};
-use crate::spare::Spare;
 use flow::Cases;
 use program::{Edge, HeapType, Mention, VarId};
+use rows::{Leaf, Row, Spare};
 use source::{Memory, Place};
 
 /// A switch waits. It goes on at a case for each message that may come at one of its endpoints, and for the close of each.

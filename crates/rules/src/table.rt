@@ -12,11 +12,11 @@ ghost use Rattle.rules.specs.Onwards.{IsKept, onward_model};
 ghost use Rattle.rules.specs.Outcomes.{Goes, Fails};
 ghost use Rattle.rules.specs.Programs.{model_of};
 ghost use Rattle.rules.specs.Repeats.{first_again, given_again, repeated_in};
-ghost use Rattle.rules.specs.Rows.{row_model};
+ghost use Rattle.rows.specs.Rows.{row_model};
 ghost use Rattle.rules.specs.RuleTable.{ways, instruction_outcome};
 ghost use Rattle.rules.specs.declared.breach.Breach.{Breach as BreachModel};
 ghost use Rattle.rules.specs.declared.breach.Reason.TheVariants as reasons;
-ghost use Rattle.rules.specs.declared.row.Leaf.{Leaf as LeafModel};
+ghost use Rattle.rows.specs.declared.row.Leaf.{Leaf as LeafModel};
 
 use crate::arguments::{can_give_all, can_take, claim_all, give};
 use crate::breach::{Breach, Reason};
@@ -25,13 +25,12 @@ use crate::fields::{self, new};
 use crate::here::{Here, Site};
 use crate::onward::Onward;
 use crate::returning::return_;
-use crate::row::{Leaf, Row};
 use crate::scopes::is_given_back;
 use crate::sending::send;
-use crate::spare::Spare;
 use crate::switching::switch;
 use flow::{Branches, Calling, Instr, Starting};
 use program::{Channel, Forget, Mention};
+use rows::{Leaf, Row, Spare};
 use source::{Memory, Place};
 
 /// What an instruction does to a row, in place. A switch makes its rows of what there is to spare.

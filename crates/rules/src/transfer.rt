@@ -6,17 +6,17 @@ ghost use Rattle.flow.specs.Lowering.{graph_of};
 ghost use Rattle.program.specs.Methods.{method_model};
 ghost use Rattle.rules.specs.Outcomes.{Goes};
 ghost use Rattle.rules.specs.Programs.{model_of};
-ghost use Rattle.rules.specs.Rows.{row_model};
+ghost use Rattle.rows.specs.Rows.{row_model};
 ghost use Rattle.rules.specs.Steps.{outcome};
 ghost use Rattle.rules.specs.Transfers as table;
 ghost use Rattle.rules.specs.Transfers.{allows, transferred};
-ghost use Rattle.rules.specs.declared.row.Leaf.{Leaf as LeafModel};
+ghost use Rattle.rows.specs.declared.row.Leaf.{Leaf as LeafModel};
 
 use crate::checks::lends;
 use crate::lowered::Program;
-use crate::row::{Leaf, Row};
 use flow::Instr;
 use program::{Method, MethodId, VarId};
+use rows::{Leaf, Row};
 
 /// What an instruction does to a row, where that depends on nothing but the leaves of a variable or two. The same transfer does the
 /// same at any point of any method, so what came of it is worth remembering.

@@ -2,7 +2,7 @@
 use Rattle.std.specs.Prelude.{ℕ, map}
 use Rattle.source.specs.Findings.{finding_model}
 use Rattle.rules.specs.Programs.{model_of}
-use Rattle.analyse.specs.Tasks.{findings_of, program_of, verdict_number}
+use Rattle.analyse.specs.VerdictParts.{findings_of, program_of, verdict_number}
 use Rattle.analyse.specs.Verdicts.{IsMethodVerdict}
 use Rattle.analyse.specs.declared.verdict.Verdict.{Verdict}
 use Rattle.boxcar.specs.Table.{Shows}

@@ -9,7 +9,7 @@ use Rattle.source.specs.Findings.{FindingModel, finding_model}
 use Rattle.source.specs.declared.finding.Finding.{Finding}
 use Rattle.contracts.specs.Conditions.{AreExactly}
 use Rattle.program.specs.Programs.{ProgramModel}
-use Rattle.analyse.specs.Tasks.{numbers_below}
+use Rattle.tasks.specs.Tasks.{numbers_below}
 use Rattle.analyse.specs.Verdicts.{IsFoundIn, IsMethodVerdict}
 use Rattle.analyse.specs.declared.verdict.Verdict.{Verdict}
 use Rattle.pool.specs.Counts.{times}

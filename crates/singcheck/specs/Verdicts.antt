@@ -6,7 +6,7 @@ use Rattle.contracts.specs.Conditions.{AreExactly}
 use Rattle.program.specs.Programs.{ProgramModel}
 use Rattle.rules.specs.Programs.{model_of}
 use Rattle.rules.specs.declared.lowered.Program.{Program}
-use Rattle.analyse.specs.Tasks.{findings_of}
+use Rattle.analyse.specs.VerdictParts.{findings_of}
 use Rattle.analyse.specs.Verdicts.{IsFoundIn, IsMethodVerdict}
 use Rattle.analyse.specs.declared.verdict.Verdict.{Verdict}
 use Rattle.shelf.specs.Shelves.{IsOf, verdict_of}

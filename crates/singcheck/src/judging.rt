@@ -1,7 +1,7 @@
 //! What a worker does with a method.
 
 ghost use Rattle.std.specs.Prelude.{◌≡◌};
-ghost use Rattle.analyse.specs.Tasks.{task_program};
+ghost use Rattle.tasks.specs.Tasks.{task_program};
 ghost use Rattle.analyse.specs.Workers.{IsWorkerOf};
 ghost use Rattle.singcheck.specs.Verdicts.{HasVerdict};
 

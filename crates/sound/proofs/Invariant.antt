@@ -28,10 +28,10 @@ use Rattle.contracts.specs.TwoEnds.{Ends, Moves, begun}
 use Rattle.rules.specs.Arguments.{claimed}
 use Rattle.rules.specs.Endpoints.{brought, declared_leaf}
 use Rattle.rules.specs.Mentions.{is_lent_role}
-use Rattle.rules.specs.Rows.{leaf_at}
+use Rattle.rows.specs.Rows.{leaf_at}
 use Rattle.rules.specs.Steps.{outcome, entry_of}
-use Rattle.rules.specs.declared.row.Leaf.TheVariants as leaf
-use Rattle.rules.specs.declared.row.Leaf.{Leaf}
+use Rattle.rows.specs.declared.row.Leaf.TheVariants as leaf
+use Rattle.rows.specs.declared.row.Leaf.{Leaf}
 use Rattle.analyse.specs.Reach.{Reached}
 use Rattle.machine.specs.Frames.{method_at, instruction_at}
 use Rattle.machine.specs.World.{MessageHeld, Block, Frame, World, block_at, stack_at, read, is_queue, owns, freed, cut_off, let_go}

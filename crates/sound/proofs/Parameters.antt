@@ -14,7 +14,7 @@ use Rattle.program.specs.declared.statement.Mention.{Mention}
 use Rattle.rules.specs.Arguments.{argument_checks, payload, taken_checks}
 use Rattle.rules.specs.Endpoints.{field_of, fields_of, type_of}
 use Rattle.rules.specs.Outcomes.{Check}
-use Rattle.rules.specs.declared.row.Leaf.{Leaf}
+use Rattle.rows.specs.declared.row.Leaf.{Leaf}
 
 -- the parameters among variables
 abbrev pub parameters_of : List VariableModel → List VariableModel

@@ -27,17 +27,17 @@ use Rattle.flow.specs.declared.graph.Branches.TheVariants.{Either, Only}
 use Rattle.rules.specs.Arguments.{all_arguments, all_fields, all_payloads, claimed, field_checks, given_leaf, lacks_edge, payload}
 use Rattle.rules.specs.Arguments.{sent_leaf, target_checks}
 use Rattle.rules.specs.Endpoints.{brought, declared_leaf, fields_of, result_of, first_state, message_name, parameter_types, type_of}
-use Rattle.rules.specs.Leaves.{is_something}
+use Rattle.rows.specs.Leaves.{is_something}
 use Rattle.rules.specs.Mentions.{is_lent, is_kept, has_something, given_back, is_not_lent, has_nothing, is_another}
 use Rattle.rules.specs.Outcomes.{Goes, Pair, refused}
-use Rattle.rules.specs.Rows.{leaf_at, given, is_owned}
+use Rattle.rows.specs.Rows.{leaf_at, given, is_owned}
 use Rattle.rules.specs.RuleTable.{exchanged, instruction_outcome, value_checks, back_checks}
 use Rattle.rules.specs.Scopes.{declared_between}
 use Rattle.rules.specs.Steps.{outcome, entry_of, method_entry, method_outcome, point_outcome, entry_leaf}
 use Rattle.rules.specs.Switches.{bound_leaves, pair_at, received, closed, awaited_edges, comes_at, switch_checks, switch_pairs}
 use Rattle.rules.specs.Texts.{not_sent}
-use Rattle.rules.specs.declared.row.Leaf.TheVariants as leaf
-use Rattle.rules.specs.declared.row.Leaf.{Leaf}
+use Rattle.rows.specs.declared.row.Leaf.TheVariants as leaf
+use Rattle.rows.specs.declared.row.Leaf.{Leaf}
 use Rattle.analyse.specs.Reach.{Leads, IsPath, Reached}
 use Rattle.sound.specs.GraphFit.{IsGraphFit, IsFit, Keeps, IsEntrance, IsBoundAt, AreBrought}
 use Rattle.sound.proofs.Checks.{Passed, checked_passed, goes_same, leaf_set_other, not_refused, passed_left, row_set_still, row_still}

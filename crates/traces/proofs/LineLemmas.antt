@@ -15,8 +15,8 @@ use Rattle.flow.specs.declared.graph.Instr.TheVariants as instr
 use Rattle.program.specs.declared.statement.Mention.{Mention}
 use Rattle.rules.specs.Mentions.{name_of}
 use Rattle.rules.specs.Outcomes.{Pair}
-use Rattle.rules.specs.Rows.{leaf_at}
-use Rattle.rules.specs.declared.row.Leaf.{Leaf}
+use Rattle.rows.specs.Rows.{leaf_at}
+use Rattle.rows.specs.declared.row.Leaf.{Leaf}
 use Rattle.rules.specs.Steps.{entry_of}
 use Rattle.analyse.specs.Fronts.{Visit}
 use Rattle.analyse.specs.Trails.{AreTrails}

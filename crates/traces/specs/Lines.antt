@@ -21,10 +21,10 @@ use Rattle.flow.specs.declared.graph.Branches.TheVariants.{Either, Only}
 use Rattle.rules.specs.Endpoints.{edges_in, in_state, type_of, message_name}
 use Rattle.rules.specs.Mentions.{name_of}
 use Rattle.rules.specs.Outcomes.{Pair}
-use Rattle.rules.specs.Rows.{is_owned, leaf_at}
-use Rattle.rules.specs.contracts.row.LeafPartialEq.TheImpl.{eq-value as same_leaf}
-use Rattle.rules.specs.declared.row.Leaf.{Leaf}
-use Rattle.rules.specs.declared.row.Leaf.TheVariants.{Nothing, Block, CutOff, State}
+use Rattle.rows.specs.Rows.{is_owned, leaf_at}
+use Rattle.rows.specs.contracts.row.LeafPartialEq.TheImpl.{eq-value as same_leaf}
+use Rattle.rows.specs.declared.row.Leaf.{Leaf}
+use Rattle.rows.specs.declared.row.Leaf.TheVariants.{Nothing, Block, CutOff, State}
 use Rattle.traces.specs.declared.line.Line.{Line}
 
 -- a line: a place, and what is said there

@@ -4,7 +4,7 @@ use Rattle.flow.specs.Cases.{EntranceModel}
 use Rattle.program.specs.Methods.{MethodModel}
 use Rattle.program.specs.Programs.{ProgramModel}
 use Rattle.rules.specs.Outcomes.{Pair}
-use Rattle.rules.specs.Rows.{row_model}
+use Rattle.rows.specs.Rows.{row_model}
 use Rattle.source.specs.declared.place.Place.{Place}
 use Rattle.traces.specs.Lines.{LineModel, case_lines, line_model}
 use Rattle.traces.specs.declared.line.Line.{Line}

@@ -15,9 +15,9 @@ use Rattle.flow.specs.Lowering.{graph_of}
 use Rattle.rules.specs.Arguments.{claimed, given_before, all_arguments, target_checks, given_leaf}
 use Rattle.rules.specs.Endpoints.{parameter_types, result_of}
 use Rattle.rules.specs.Mentions.{is_lent_role}
-use Rattle.rules.specs.Rows.{leaf_at}
+use Rattle.rows.specs.Rows.{leaf_at}
 use Rattle.sound.proofs.Parameters.{each_argument}
-use Rattle.rules.specs.declared.row.Leaf.{Leaf}
+use Rattle.rows.specs.declared.row.Leaf.{Leaf}
 use Rattle.machine.specs.Frames.{method_at, variables_of, point_instruction}
 use Rattle.machine.specs.World.{Block, Frame, World, stack_at, read, owns, let_go}
 use Rattle.sound.specs.Safe.{stands_in, stands_in_frames}

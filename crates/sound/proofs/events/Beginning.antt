@@ -12,9 +12,9 @@ use Rattle.program.specs.declared.method.Role.TheVariants as role
 use Rattle.program.specs.declared.method.Role.{Role}
 use Rattle.flow.specs.Lowering.{graph_of}
 use Rattle.rules.specs.Mentions.{is_lent_role}
-use Rattle.rules.specs.Rows.{leaf_at, given}
+use Rattle.rows.specs.Rows.{leaf_at, given}
 use Rattle.rules.specs.Steps.{entry_leaf}
-use Rattle.rules.specs.declared.row.Leaf.TheVariants as leaf
+use Rattle.rows.specs.declared.row.Leaf.TheVariants as leaf
 use Rattle.machine.specs.Heaps as heaps
 use Rattle.machine.specs.Frames.{filled, entered_at}
 use Rattle.machine.specs.Runs.{start_of}

@@ -21,7 +21,7 @@ use Rattle.sound.proofs.Parameters.{parameters_of, types_among}
 use Rattle.rules.specs.Mentions.{is_lent}
 use Rattle.sound.proofs.Parameters.{each_argument}
 use Rattle.rules.specs.Steps.{entry_leaf, outcome, entry_of, method_entry}
-use Rattle.rules.specs.declared.row.Leaf.{Leaf}
+use Rattle.rows.specs.declared.row.Leaf.{Leaf}
 use Rattle.analyse.specs.Reach.{Reached}
 use Rattle.machine.specs.Blocks.{is_own_still}
 use Rattle.machine.specs.Frames.{method_at, filled, address, entered_at, instruction_at, point_instruction}

@@ -9,8 +9,8 @@ use Rattle.program.specs.WellFormed.{is_end}
 use Rattle.program.specs.declared.statement.Mention.{Mention}
 use Rattle.flow.specs.Graphs.{Delete}
 use Rattle.rules.specs.Mentions.{is_lent, has_something, is_not_lent}
-use Rattle.rules.specs.Rows.{is_owned}
-use Rattle.rules.specs.declared.row.Leaf.TheVariants as leaf
+use Rattle.rows.specs.Rows.{is_owned}
+use Rattle.rows.specs.declared.row.Leaf.TheVariants as leaf
 use Rattle.machine.specs.Blocks.{freed_block, goes_with}
 use Rattle.machine.specs.Heaps.{IsHeld, of_process}
 use Rattle.machine.specs.Frames.{address}

@@ -14,12 +14,12 @@ use Rattle.program.specs.declared.method.Role.TheVariants as role
 use Rattle.program.specs.declared.method.Role.{Role}
 use Rattle.rules.specs.Endpoints.{declared_leaf, is_wrong}
 use Rattle.sound.proofs.Parameters.{parameters_of, types_among}
-use Rattle.rules.specs.Leaves.{is_something}
-use Rattle.rules.specs.Rows.{leaf_at, is_owned}
+use Rattle.rows.specs.Leaves.{is_something}
+use Rattle.rows.specs.Rows.{leaf_at, is_owned}
 use Rattle.sound.proofs.Parameters.{each_argument}
 use Rattle.rules.specs.Steps.{entry_leaf}
-use Rattle.rules.specs.declared.row.Leaf.TheVariants as leaf
-use Rattle.rules.specs.declared.row.Leaf.{Leaf}
+use Rattle.rows.specs.declared.row.Leaf.TheVariants as leaf
+use Rattle.rows.specs.declared.row.Leaf.{Leaf}
 use Rattle.machine.specs.Frames.{filled}
 use Rattle.machine.specs.World.{Block, read, cut_off}
 use Rattle.sound.specs.Operands.{IsOfType, AreArguments}

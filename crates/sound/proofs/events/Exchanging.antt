@@ -11,7 +11,7 @@ use Rattle.flow.specs.Graphs.{Exchange}
 use Rattle.rules.specs.Arguments.{field_checks, payload}
 use Rattle.rules.specs.Endpoints.{declared_leaf, field_of, is_wrong}
 use Rattle.rules.specs.Mentions.{has_something, is_another, is_lent}
-use Rattle.rules.specs.Rows.{is_owned, leaf_at}
+use Rattle.rows.specs.Rows.{is_owned, leaf_at}
 use Rattle.rules.specs.RuleTable.{exchanged}
 use Rattle.machine.specs.Blocks.{exchanged_block, is_own_still}
 use Rattle.machine.specs.Frames.{address}

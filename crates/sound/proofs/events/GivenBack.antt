@@ -18,9 +18,9 @@ use Rattle.rules.specs.Endpoints.{declared_leaf}
 use Rattle.sound.proofs.Parameters.{parameters_of}
 use Rattle.rules.specs.Mentions.{is_lent_role}
 use Rattle.rules.specs.Outcomes.{Check}
-use Rattle.rules.specs.Rows.{leaf_at}
-use Rattle.rules.specs.declared.row.Leaf.TheVariants as leaf
-use Rattle.rules.specs.declared.row.Leaf.{Leaf}
+use Rattle.rows.specs.Rows.{leaf_at}
+use Rattle.rows.specs.declared.row.Leaf.TheVariants as leaf
+use Rattle.rows.specs.declared.row.Leaf.{Leaf}
 use Rattle.machine.specs.World.{Block, read, let_go}
 use Rattle.sound.specs.Operands.{AreArguments}
 use Rattle.sound.proofs.Arguments.{NotClaimed, standing_of, go_long, go_other, numbers, row_other, or_false}

@@ -13,9 +13,9 @@ use Rattle.program.specs.declared.statement.Mention.{Mention}
 use Rattle.rules.specs.Arguments.{payload}
 use Rattle.rules.specs.Endpoints.{declared_leaf, is_wrong}
 use Rattle.rules.specs.Mentions.{is_lent}
-use Rattle.rules.specs.Rows.{leaf_at, is_owned}
+use Rattle.rows.specs.Rows.{leaf_at, is_owned}
 use Rattle.sound.proofs.Parameters.{each_taken}
-use Rattle.rules.specs.declared.row.Leaf.{Leaf}
+use Rattle.rows.specs.declared.row.Leaf.{Leaf}
 use Rattle.machine.specs.Frames.{address, payloads_claimed, addresses}
 use Rattle.machine.specs.World.{Block, read, owns, let_go}
 use Rattle.sound.specs.Operands.{AreOfTypes}

@@ -11,9 +11,9 @@ use Rattle.flow.specs.Graphs.{New}
 use Rattle.rules.specs.Arguments.{claimed, given_before, target_checks}
 use Rattle.rules.specs.Endpoints.{fields_of}
 use Rattle.rules.specs.Mentions.{is_lent}
-use Rattle.rules.specs.Rows.{leaf_at, is_owned}
+use Rattle.rows.specs.Rows.{leaf_at, is_owned}
 use Rattle.rules.specs.Texts.{wrong_for_field}
-use Rattle.rules.specs.declared.row.Leaf.TheVariants as leaf
+use Rattle.rows.specs.declared.row.Leaf.TheVariants as leaf
 use Rattle.machine.specs.Frames.{addresses, type_at, payloads_claimed, variables_of}
 use Rattle.machine.specs.Outcomes.{Bounds}
 use Rattle.machine.specs.World.{Block, Frame, World, let_go, read}

@@ -18,9 +18,9 @@ use Rattle.flow.specs.Graphs.{NewChannel}
 use Rattle.rules.specs.Endpoints.{first_state}
 use Rattle.rules.specs.Mentions.{is_lent, has_nothing, is_not_lent}
 use Rattle.rules.specs.Outcomes.{Check}
-use Rattle.rules.specs.Rows.{leaf_at, is_owned}
-use Rattle.rules.specs.declared.row.Leaf.TheVariants as leaf
-use Rattle.rules.specs.declared.row.Leaf.{Leaf}
+use Rattle.rows.specs.Rows.{leaf_at, is_owned}
+use Rattle.rows.specs.declared.row.Leaf.TheVariants as leaf
+use Rattle.rows.specs.declared.row.Leaf.{Leaf}
 use Rattle.machine.specs.Blocks.{new_block, end_type, is_imp}
 use Rattle.machine.specs.Outcomes.{Moved, Bounds}
 use Rattle.machine.specs.World.{Block, Frame, World, block_at, read, owns}

@@ -21,13 +21,13 @@ use Rattle.rules.specs.Endpoints.{declared_leaf, is_wrong, parameter_types, resu
 use Rattle.sound.proofs.Parameters.{type_known, parameters_of, each_argument}
 use Rattle.rules.specs.Mentions.{is_lent, is_lent_role, name_of, given_back, is_kept, is_named}
 use Rattle.rules.specs.Outcomes.{Pair, Check, refused}
-use Rattle.rules.specs.Rows.{leaf_at, is_owned}
+use Rattle.rows.specs.Rows.{leaf_at, is_owned}
 use Rattle.rules.specs.RuleTable.{instruction_outcome, back_checks, is_not_back, value_checks}
 use Rattle.rules.specs.Scopes.{declared_between}
 use Rattle.rules.specs.Steps.{outcome, entry_of}
 use Rattle.rules.specs.Texts.{still_owned, not_back}
-use Rattle.rules.specs.declared.row.Leaf.TheVariants as leaf
-use Rattle.rules.specs.declared.row.Leaf.{Leaf}
+use Rattle.rows.specs.declared.row.Leaf.TheVariants as leaf
+use Rattle.rows.specs.declared.row.Leaf.{Leaf}
 use Rattle.analyse.specs.Reach.{Reached}
 use Rattle.machine.specs.Blocks.{owns_none}
 use Rattle.machine.specs.Frames.{method_at, instruction_at, point_instruction, put, call_target, call_next}

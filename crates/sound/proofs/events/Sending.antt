@@ -27,11 +27,11 @@ use Rattle.rules.specs.Arguments.{claimed, given_before, lacks_edge, sent_leaf}
 use Rattle.rules.specs.Endpoints.{brought, edges_of, edges_out, message_name, type_of}
 use Rattle.rules.specs.Mentions.{has_something}
 use Rattle.rules.specs.Outcomes.{refused}
-use Rattle.rules.specs.Rows.{leaf_at, is_owned}
+use Rattle.rows.specs.Rows.{leaf_at, is_owned}
 use Rattle.sound.proofs.Parameters.{each_taken, type_known}
 use Rattle.rules.specs.Texts.{not_sent, wrong_for}
-use Rattle.rules.specs.declared.row.Leaf.TheVariants as leaf
-use Rattle.rules.specs.declared.row.Leaf.{Leaf}
+use Rattle.rows.specs.declared.row.Leaf.TheVariants as leaf
+use Rattle.rows.specs.declared.row.Leaf.{Leaf}
 use Rattle.machine.specs.Blocks.{bound_of}
 use Rattle.machine.specs.Frames.{address, payloads_claimed, addresses}
 use Rattle.machine.specs.Outcomes.{Bounds, test, tested}

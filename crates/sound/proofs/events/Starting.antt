@@ -23,7 +23,7 @@ use Rattle.sound.proofs.Parameters.{parameters_of, types_among}
 use Rattle.rules.specs.Mentions.{is_lent_role}
 use Rattle.sound.proofs.Parameters.{each_argument}
 use Rattle.rules.specs.Steps.{entry_leaf, outcome, entry_of}
-use Rattle.rules.specs.declared.row.Leaf.{Leaf}
+use Rattle.rows.specs.declared.row.Leaf.{Leaf}
 use Rattle.analyse.specs.Reach.{Reached}
 use Rattle.machine.specs.Blocks.{handed}
 use Rattle.machine.specs.Frames.{method_at, filled, entered_at, addresses}

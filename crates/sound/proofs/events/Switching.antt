@@ -24,13 +24,13 @@ use Rattle.contracts.specs.TwoEnds.{Leads, HeldAlways}
 use Rattle.rules.specs.Endpoints.{brought, edges_of, message_name, type_of, edges_in, in_state}
 use Rattle.rules.specs.Mentions.{is_lent, has_something, name_of}
 use Rattle.rules.specs.Outcomes.{Pair, Check, refused}
-use Rattle.rules.specs.Rows.{leaf_at, is_owned}
+use Rattle.rows.specs.Rows.{leaf_at, is_owned}
 use Rattle.rules.specs.Steps.{outcome, entry_of}
 use Rattle.rules.specs.Switches.{comes_at, pair_at, bound_leaves, received, closed, awaited_edges, covered, is_to_send, switch_checks}
 use Rattle.rules.specs.Switches.{switch_pairs}
 use Rattle.rules.specs.Texts.{nothing_to_receive, not_covered}
-use Rattle.rules.specs.declared.row.Leaf.TheVariants as leaf
-use Rattle.rules.specs.declared.row.Leaf.{Leaf}
+use Rattle.rows.specs.declared.row.Leaf.TheVariants as leaf
+use Rattle.rows.specs.declared.row.Leaf.{Leaf}
 use Rattle.analyse.specs.Reach.{Reached}
 use Rattle.machine.specs.Frames.{address, bound_to}
 use Rattle.machine.specs.Outcomes.{Moved, Bounds, test, Waits}

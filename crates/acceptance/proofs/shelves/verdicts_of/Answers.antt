@@ -1,6 +1,6 @@
 use Rattle.std.proofs.Common.{◌≡◌, All, rules, subst}
 use Rattle.std.proofs.lemmas.List.Elements.{All-head, All-tail}
-use Rattle.analyse.specs.Tasks.{task_program}
+use Rattle.tasks.specs.Tasks.{task_program}
 use Rattle.acceptance.proofs.shelves.verdicts_of.Goals as goal
 
 pub loop-task-init : goal.loop-task-init

@@ -1,6 +1,6 @@
 use Rattle.std.proofs.Common.{◌≡◌, All}
 use Rattle.std.specs.Vec.Iter.{into_iter_items, into_iter_len}
-use Rattle.analyse.specs.Tasks.{task_program}
+use Rattle.tasks.specs.Tasks.{task_program}
 use Rattle.analyse.specs.Workers.{IsWorkerOf}
 use Rattle.acceptance.proofs.shelves.verdicts_of.Given as goal
 

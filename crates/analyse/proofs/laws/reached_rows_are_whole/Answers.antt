@@ -1,4 +1,4 @@
-use Rattle.rules.specs.Rows.{IsRowOf}
+use Rattle.rows.specs.Rows.{IsRowOf}
 use Rattle.rules.specs.Steps.{entry_of, outcome}
 use Rattle.analyse.proofs.WholeLemmas.{reached_keeps}
 use Rattle.analyse.proofs.laws.reached_rows_are_whole.Goals as goal

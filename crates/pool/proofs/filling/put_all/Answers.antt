@@ -2,7 +2,7 @@ use Rattle.std.proofs.Common.{arith, ◌≡◌, ◌+◌, subst, ap, ◌∙◌, l
 use Rattle.std.proofs.lemmas.List.Elements.{All-tail}
 use Rattle.std.proofs.lemmas.Nat.{mod_below}
 use Rattle.std.specs.Vec.Iter.{into_iter_items}
-use Rattle.analyse.specs.Tasks.{number_of}
+use Rattle.tasks.specs.Tasks.{number_of}
 use Rattle.pool.specs.Counts.{times}
 use Rattle.pool.proofs.Puts.{times-cons}
 use Rattle.pool.proofs.filling.put_all.Goals as goal

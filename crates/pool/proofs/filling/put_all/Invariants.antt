@@ -1,6 +1,6 @@
 use Rattle.std.proofs.Common.{◌≡◌, ◌+◌, ◌<◌, ℕ, All, map, length}
 use Rattle.std.specs.Vec.Iter.{into_iter_len, into_iter_items}
-use Rattle.analyse.specs.Tasks.{number_of}
+use Rattle.tasks.specs.Tasks.{number_of}
 use Rattle.pool.specs.Counts.{all_put, times}
 use Rattle.pool.specs.Owners.{AreFilled}
 use Rattle.pool.proofs.filling.put_all.Given as goal

@@ -3,7 +3,7 @@ use Rattle.program.specs.Methods.{method_model}
 use Rattle.rules.specs.Arguments.{argument_checks}
 use Rattle.rules.specs.Breaches.{breach_model}
 use Rattle.rules.specs.Programs.{model_of}
-use Rattle.rules.specs.Rows.{row_model}
+use Rattle.rows.specs.Rows.{row_model}
 use Rattle.rules.proofs.ArgumentLemmas.{again_stands, below_both, left_all, left_found, left_less, left_none, past_one, zip_more, zip_none}
 use Rattle.rules.proofs.arguments.can_give_all.Goals as goal
 

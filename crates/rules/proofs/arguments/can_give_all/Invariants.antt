@@ -1,7 +1,7 @@
 use Rattle.std.proofs.Common.{drop, flat_map, zip}
 use Rattle.program.specs.Methods.{method_model}
 use Rattle.rules.specs.Arguments.{all_arguments, argument_checks}
-use Rattle.rules.specs.Rows.{row_model}
+use Rattle.rows.specs.Rows.{row_model}
 use Rattle.rules.proofs.ArgumentLemmas.{Left}
 use Rattle.rules.proofs.arguments.can_give_all.Given as goal
 

@@ -1,6 +1,6 @@
 use Rattle.std.proofs.Common.{refl, sym, ◌∙◌}
 use Rattle.std.proofs.lemmas.List.{at_drop_all}
-use Rattle.rules.specs.Rows.{row_model}
+use Rattle.rows.specs.Rows.{row_model}
 use Rattle.rules.specs.Arguments.{claimed}
 use Rattle.rules.proofs.ArgumentLemmas.{claimed_more}
 use Rattle.rules.proofs.arguments.claim_all.Goals as goal

@@ -8,8 +8,8 @@ use Rattle.rules.specs.Endpoints.{declared_leaf}
 use Rattle.rules.specs.Mentions.{has_something}
 use Rattle.rules.specs.Outcomes.{Goes}
 use Rattle.rules.specs.Programs.{model_of}
-use Rattle.rules.specs.Rows.{row_model}
-use Rattle.rules.specs.declared.row.Leaf.TheVariants.{Nothing}
+use Rattle.rows.specs.Rows.{row_model}
+use Rattle.rows.specs.declared.row.Leaf.TheVariants.{Nothing}
 use Rattle.rules.proofs.CallLemmas.{alone, behind_one}
 use Rattle.rules.proofs.fields.exchange.Goals as goal
 

@@ -2,7 +2,7 @@ use Rattle.std.proofs.Common.{drop, flat_map, map, zip}
 use Rattle.program.specs.Methods.{method_model}
 use Rattle.rules.specs.Arguments.{all_taken, payload, taken_checks}
 use Rattle.rules.specs.Programs.{model_of}
-use Rattle.rules.specs.Rows.{row_model}
+use Rattle.rows.specs.Rows.{row_model}
 use Rattle.rules.specs.Takers.{besides, wrong_in}
 use Rattle.rules.proofs.ArgumentLemmas.{Left}
 use Rattle.rules.proofs.payloads.can_all_be_taken.Given as goal

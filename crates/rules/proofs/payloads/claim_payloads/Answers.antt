@@ -1,6 +1,6 @@
 use Rattle.std.proofs.Common.{map, refl, sym, ◌∙◌}
 use Rattle.std.proofs.lemmas.List.{at_drop_all}
-use Rattle.rules.specs.Rows.{row_model}
+use Rattle.rows.specs.Rows.{row_model}
 use Rattle.rules.specs.Arguments.{claimed, payload}
 use Rattle.rules.proofs.PayloadLemmas.{taken_gone}
 use Rattle.rules.proofs.payloads.claim_payloads.Goals as goal

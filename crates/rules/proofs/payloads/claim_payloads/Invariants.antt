@@ -1,5 +1,5 @@
 use Rattle.std.proofs.Common.{◌≡◌, drop, map}
-use Rattle.rules.specs.Rows.{row_model}
+use Rattle.rows.specs.Rows.{row_model}
 use Rattle.rules.specs.Arguments.{claimed, payload}
 use Rattle.rules.proofs.payloads.claim_payloads.Given as goal
 

@@ -3,7 +3,7 @@ use Rattle.std.proofs.lemmas.List.{length-map}
 use Rattle.program.specs.Methods.{method_model, variable_model}
 use Rattle.rules.specs.Breaches.{breach_model}
 use Rattle.rules.specs.Programs.{model_of}
-use Rattle.rules.specs.Rows.{row_model}
+use Rattle.rows.specs.Rows.{row_model}
 use Rattle.rules.proofs.ArgumentLemmas.{left_found}
 use Rattle.rules.proofs.BackLemmas.{back_more, told_back}
 use Rattle.rules.proofs.returning.are_back.Goals as goal

@@ -1,6 +1,6 @@
 use Rattle.program.specs.Methods.{method_model}
 use Rattle.rules.specs.Programs.{model_of}
-use Rattle.rules.specs.Rows.{row_model}
+use Rattle.rows.specs.Rows.{row_model}
 use Rattle.rules.specs.RuleTable.{back_checks}
 use Rattle.rules.proofs.ArgumentLemmas.{Left}
 use Rattle.rules.proofs.BackLemmas.{back_from}

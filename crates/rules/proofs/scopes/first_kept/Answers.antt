@@ -1,5 +1,5 @@
 use Rattle.program.specs.Methods.{method_model}
-use Rattle.rules.specs.Rows.{row_model}
+use Rattle.rows.specs.Rows.{row_model}
 use Rattle.rules.specs.Scopes.{declared_between}
 use Rattle.rules.proofs.KeptLemmas.{first_none}
 use Rattle.rules.proofs.NestedLemmas.{first_plain}

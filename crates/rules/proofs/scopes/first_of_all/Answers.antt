@@ -1,6 +1,6 @@
 use Rattle.std.proofs.Common.{◌≤◌, length, sym, subst, ◌∙◌, below_more}
 use Rattle.program.specs.Methods.{method_model}
-use Rattle.rules.specs.Rows.{row_model}
+use Rattle.rows.specs.Rows.{row_model}
 use Rattle.rules.proofs.KeptLemmas.{none_kept, nothing_there}
 use Rattle.rules.proofs.scopes.first_of_all.Goals as goal
 use Rattle.rules.proofs.scopes.first_of_all.Goals.{else-is_something-via-then-is_something+else-is_kept, else-is_something-via-else-is_something}

@@ -1,7 +1,7 @@
 use Rattle.std.proofs.Common.{◌≡◌, ℕ, ◌<◌, false}
 use Rattle.program.specs.Methods.{method_model}
 use Rattle.rules.specs.Mentions.{is_kept}
-use Rattle.rules.specs.Rows.{row_model}
+use Rattle.rows.specs.Rows.{row_model}
 use Rattle.rules.proofs.scopes.first_of_all.Given as goal
 
 abbrev pub invariant-loop-number : goal.invariant-loop-number

@@ -2,7 +2,7 @@ use Rattle.std.proofs.Common.{◌≡◌, ◌∙◌, sym, length, ◌≤◌, ◌<
 use Rattle.std.specs.Option.{option_map}
 use Rattle.std.proofs.lemmas.List.{length-map}
 use Rattle.program.specs.Methods.{method_model, variable_model}
-use Rattle.rules.specs.Rows.{row_model}
+use Rattle.rows.specs.Rows.{row_model}
 use Rattle.rules.proofs.ScopeLemmas.{Looked, looked_first, looked_all, looked_none, looked_more}
 use Rattle.rules.proofs.scopes.first_outwards.Goals as goal
 

@@ -1,6 +1,6 @@
 use Rattle.std.specs.Option.{option_map}
 use Rattle.program.specs.Methods.{method_model}
-use Rattle.rules.specs.Rows.{row_model}
+use Rattle.rows.specs.Rows.{row_model}
 use Rattle.rules.proofs.ScopeLemmas.{Looked}
 use Rattle.rules.proofs.scopes.first_outwards.Given as goal
 

@@ -4,7 +4,7 @@ use Rattle.rules.specs.Breaches.{breach_model}
 use Rattle.rules.specs.Checks.{check_model}
 use Rattle.rules.specs.Outcomes.{Fails, checked}
 use Rattle.rules.specs.Programs.{model_of}
-use Rattle.rules.specs.Rows.{row_model}
+use Rattle.rows.specs.Rows.{row_model}
 use Rattle.rules.specs.Scopes.{declared_between}
 use Rattle.rules.proofs.GivenLemmas.{given, given_is}
 use Rattle.rules.proofs.scopes.is_given_back.Goals as goal

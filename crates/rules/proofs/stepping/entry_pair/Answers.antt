@@ -1,7 +1,7 @@
 use Rattle.std.specs.Prelude.{All}
 use Rattle.program.specs.declared.method.Variable.{Variable}
 use Rattle.rules.specs.Endpoints.{declared_leaf}
-use Rattle.rules.specs.Leaves.{IsNumbered}
+use Rattle.rows.specs.Leaves.{IsNumbered}
 use Rattle.rules.proofs.EndLemmas.{variables_numbered}
 use Rattle.std.proofs.Common.{sym, subst, slice_get, map, ap, ◌∙◌}
 use Rattle.rules.specs.Programs.{model_of}

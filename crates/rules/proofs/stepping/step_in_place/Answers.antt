@@ -4,7 +4,7 @@ use Rattle.std.proofs.lemmas.Result.{IfOk-weaker}
 use Rattle.program.specs.Methods.{method_model}
 use Rattle.rules.specs.Onwards.{onward_model}
 use Rattle.rules.specs.Programs.{model_of}
-use Rattle.rules.specs.Rows.{row_model}
+use Rattle.rows.specs.Rows.{row_model}
 use Rattle.rules.proofs.ProgramLemmas.{outcome_at, outcome_is, outcome_past, said_in}
 use Rattle.rules.proofs.RepeatLemmas.{told_at}
 use Rattle.rules.proofs.stepping.step_in_place.Goals as goal

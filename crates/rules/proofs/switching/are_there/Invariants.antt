@@ -1,7 +1,7 @@
 use Rattle.std.proofs.Common.{drop, map}
 use Rattle.program.specs.Methods.{method_model}
 use Rattle.rules.specs.Mentions.{has_something}
-use Rattle.rules.specs.Rows.{row_model}
+use Rattle.rows.specs.Rows.{row_model}
 use Rattle.rules.proofs.ArgumentLemmas.{Left}
 use Rattle.rules.proofs.switching.are_there.Given as goal
 

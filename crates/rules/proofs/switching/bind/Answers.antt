@@ -1,5 +1,5 @@
 use Rattle.std.proofs.Common.{◌≤◌, length, subst, sym, ◌∙◌}
-use Rattle.rules.specs.Rows.{row_model}
+use Rattle.rows.specs.Rows.{row_model}
 use Rattle.rules.proofs.ArgumentLemmas.{past_one}
 use Rattle.rules.proofs.SwitchLemmas.{bound_none}
 use Rattle.rules.proofs.switching.bind.Goals as goal

@@ -2,7 +2,7 @@ use Rattle.std.proofs.Common.{drop}
 use Rattle.program.specs.Methods.{method_model}
 use Rattle.flow.specs.Graphs.{cases_model}
 use Rattle.rules.specs.Programs.{model_of}
-use Rattle.rules.specs.Rows.{row_model}
+use Rattle.rows.specs.Rows.{row_model}
 use Rattle.rules.proofs.ArgumentLemmas.{Left}
 use Rattle.rules.proofs.SwitchLemmas.{edge_checks}
 use Rattle.rules.specs.Switches.{awaited_edges, covered}

@@ -8,7 +8,7 @@ use Rattle.rules.specs.Checks.{StandsFor}
 use Rattle.rules.specs.Mentions.{has_something}
 use Rattle.rules.specs.Outcomes.{Goes}
 use Rattle.rules.specs.Programs.{model_of}
-use Rattle.rules.specs.Rows.{row_model}
+use Rattle.rows.specs.Rows.{row_model}
 use Rattle.rules.specs.Steps.{pair_model}
 use Rattle.rules.specs.Switches.{comes_at, covered, is_to_send, switch_pairs}
 use Rattle.rules.specs.Texts.{nothing_to_receive}

@@ -3,7 +3,7 @@ use Rattle.program.specs.Methods.{method_model}
 use Rattle.flow.specs.Cases.{first_mentions}
 use Rattle.flow.specs.Graphs.{cases_model}
 use Rattle.rules.specs.Programs.{model_of}
-use Rattle.rules.specs.Rows.{row_model}
+use Rattle.rows.specs.Rows.{row_model}
 use Rattle.rules.specs.Steps.{pair_model}
 use Rattle.rules.specs.Switches.{comes_at}
 use Rattle.rules.proofs.SwitchLemmas.{Adds}

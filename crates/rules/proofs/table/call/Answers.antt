@@ -6,7 +6,7 @@ use Rattle.rules.specs.Checks.{StandsFor}
 use Rattle.rules.specs.Endpoints.{parameter_types}
 use Rattle.rules.specs.Outcomes.{Goes}
 use Rattle.rules.specs.Programs.{model_of}
-use Rattle.rules.specs.Rows.{row_model}
+use Rattle.rows.specs.Rows.{row_model}
 use Rattle.rules.proofs.CallLemmas.{second_of}
 use Rattle.rules.proofs.table.call.Goals as goal
 

@@ -2,7 +2,7 @@ use Rattle.std.proofs.Common.{[], ◌∷◌, None, Some}
 use Rattle.program.specs.Methods.{method_model}
 use Rattle.rules.specs.Breaches.{breach_model}
 use Rattle.rules.specs.Programs.{model_of}
-use Rattle.rules.specs.Rows.{row_model}
+use Rattle.rows.specs.Rows.{row_model}
 use Rattle.rules.proofs.CallLemmas.{alone}
 use Rattle.rules.proofs.table.forget_.Goals as goal
 

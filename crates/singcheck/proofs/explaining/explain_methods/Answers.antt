@@ -6,7 +6,7 @@ use Rattle.source.specs.Findings.{finding_model}
 use Rattle.program.specs.Methods.{method_model}
 use Rattle.pool.specs.Counts.{times}
 use Rattle.rules.specs.Programs.{model_of}
-use Rattle.analyse.specs.Tasks.{numbers_below}
+use Rattle.tasks.specs.Tasks.{numbers_below}
 use Rattle.traces.specs.Explained.{IsExplainedIf, explained_model}
 use Rattle.traces.specs.declared.line.Explained.{Explained}
 use Rattle.singcheck.specs.Explains.{IsExplainedIn}

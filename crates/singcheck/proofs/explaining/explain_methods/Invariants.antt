@@ -2,7 +2,7 @@ use Rattle.std.proofs.Common.{map}
 use Rattle.std.specs.List.{All}
 use Rattle.source.specs.Findings.{finding_model}
 use Rattle.rules.specs.Programs.{model_of}
-use Rattle.analyse.specs.Tasks.{numbers_below}
+use Rattle.tasks.specs.Tasks.{numbers_below}
 use Rattle.analyse.specs.Workers.{IsWorkerOf}
 use Rattle.traces.specs.Explained.{explained_model}
 use Rattle.singcheck.specs.Explains.{IsExplainedIn}

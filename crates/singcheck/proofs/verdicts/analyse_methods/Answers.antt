@@ -6,7 +6,7 @@ use denote.Param.Send.{sendable}
 use Rattle.source.specs.Findings.{finding_model}
 use Rattle.rules.specs.Programs.{model_of}
 use Rattle.rules.specs.contracts.lowered.Program as program
-use Rattle.intern.specs.contracts.rows.Rows as rows
+use Rattle.intern.specs.contracts.row_table.Rows as rows
 use Rattle.shelf.specs.contracts.shelf.Shelf as shelf
 use Rattle.pool.specs.Counts.{method_of, times}
 use Rattle.singcheck.proofs.VerdictLemmas.{of_all_methods}

@@ -2,7 +2,7 @@ use Rattle.std.proofs.Common.{[], ◌∷◌, ◌++◌, map, take, get_or, sym, a
 use Rattle.std.proofs.lemmas.List.{take_more, map-append}
 use Rattle.source.specs.Findings.{finding_model}
 use Rattle.rules.specs.Programs.{model_of}
-use Rattle.analyse.specs.Tasks.{findings_of}
+use Rattle.analyse.specs.VerdictParts.{findings_of}
 use Rattle.pool.specs.Counts.{method_of}
 use Rattle.shelf.specs.Shelves.{verdict_of}
 use Rattle.singcheck.specs.Verdicts.{AreOfMethods, HasVerdict}

@@ -6,7 +6,7 @@ use Rattle.program.specs.WellFormed.{IsType}
 use Rattle.program.specs.Lists.{Each}
 use Rattle.program.specs.declared.types.HeapType.{HeapType}
 use Rattle.rules.specs.Endpoints.{declared_leaf}
-use Rattle.rules.specs.Leaves.{IsNumbered}
+use Rattle.rows.specs.Leaves.{IsNumbered}
 use Rattle.rules.specs.Programs.{model_of}
 use Rattle.rules.proofs.EndLemmas.{each_at, types_numbered}
 use Rattle.rules.proofs.lowered.Program.brought.Goals as goal

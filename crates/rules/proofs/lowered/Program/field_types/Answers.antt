@@ -5,7 +5,7 @@ use Rattle.std.specs.Option.{option_map, option_map_or}
 use Rattle.program.specs.WellFormed.{AreFields, field_types}
 use Rattle.program.specs.declared.types.HeapType.{HeapType}
 use Rattle.rules.specs.Endpoints.{declared_leaf}
-use Rattle.rules.specs.Leaves.{IsNumbered}
+use Rattle.rows.specs.Leaves.{IsNumbered}
 use Rattle.rules.specs.Programs.{model_of}
 use Rattle.rules.proofs.EndLemmas.{each_at, types_numbered}
 use Rattle.rules.proofs.lowered.Program.field_types.Goals as goal

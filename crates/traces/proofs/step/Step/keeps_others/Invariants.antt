@@ -1,6 +1,6 @@
 use Rattle.std.proofs.Common.{◌≡◌, ◌==◌, ◌||◌, true, take}
 use Rattle.std.specs.List.{list_all}
-use Rattle.rules.specs.Rows.{row_model}
+use Rattle.rows.specs.Rows.{row_model}
 use Rattle.traces.specs.Lines.{keeps}
 use Rattle.traces.proofs.step.Step.keeps_others.Given as goal
 

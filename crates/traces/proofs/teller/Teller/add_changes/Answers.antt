@@ -7,7 +7,7 @@ use Rattle.program.specs.Methods.{method_model}
 use Rattle.program.specs.declared.number.VarId.{VarId}
 use Rattle.rules.specs.Mentions.{name_of}
 use Rattle.rules.specs.Programs.{model_of}
-use Rattle.rules.specs.Rows.{leaf_at, row_model}
+use Rattle.rows.specs.Rows.{leaf_at, row_model}
 use Rattle.traces.specs.Lines.{change, keeps, line, line_model, takes}
 use Rattle.traces.proofs.LineLemmas.{changes_of_move, changes_of_others}
 use Rattle.traces.proofs.teller.Teller.add_changes.Goals as goal

@@ -3,7 +3,7 @@ use Rattle.std.specs.List.{flat_map}
 use Rattle.flow.specs.Graphs.{instruction_model}
 use Rattle.program.specs.Methods.{method_model}
 use Rattle.rules.specs.Programs.{model_of}
-use Rattle.rules.specs.Rows.{leaf_at, row_model}
+use Rattle.rows.specs.Rows.{leaf_at, row_model}
 use Rattle.traces.specs.Lines.{change, keeps, line_model}
 use Rattle.traces.proofs.teller.Teller.add_changes.Given as goal
 

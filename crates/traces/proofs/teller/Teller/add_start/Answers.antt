@@ -5,7 +5,7 @@ use Rattle.std.proofs.lemmas.List.Folds.{flat_map-map}
 use Rattle.program.specs.Methods.{method_model}
 use Rattle.program.specs.declared.number.VarId.{VarId}
 use Rattle.rules.specs.Programs.{model_of}
-use Rattle.rules.specs.Rows.{is_owned, leaf_at, row_model}
+use Rattle.rows.specs.Rows.{is_owned, leaf_at, row_model}
 use Rattle.traces.specs.Lines.{has, line, line_model}
 use Rattle.traces.proofs.teller.Teller.add_start.Goals as goal
 

@@ -2,7 +2,7 @@ use Rattle.std.proofs.Common.{◌≡◌, ◌++◌, ◌∷◌, [], map, take, if�
 use Rattle.std.specs.List.{flat_map}
 use Rattle.program.specs.Methods.{method_model}
 use Rattle.rules.specs.Programs.{model_of}
-use Rattle.rules.specs.Rows.{is_owned, leaf_at, row_model}
+use Rattle.rows.specs.Rows.{is_owned, leaf_at, row_model}
 use Rattle.traces.specs.Lines.{has, line, line_model}
 use Rattle.traces.proofs.teller.Teller.add_start.Given as goal
 

@@ -3,7 +3,7 @@ use Rattle.std.specs.List.{AllZip}
 use Rattle.program.specs.Methods.{method_model}
 use Rattle.rules.specs.Outcomes as outcomes
 use Rattle.rules.specs.Programs.{model_of}
-use Rattle.rules.specs.Rows.{row_model}
+use Rattle.rows.specs.Rows.{row_model}
 use Rattle.analyse.specs.Noted.{pairs_of}
 use Rattle.analyse.specs.Reach.{Differ}
 use Rattle.analyse.specs.Workers.{HasSeen, IsWorkerOf, own_of}

@@ -1,0 +1,27 @@
+-- Rows: what each variable of a method has.
+use Rattle.std.specs.Prelude.{◌≡◌, ℕ, Bool, List, length, Option, Some, None, slice_get}
+use Rattle.program.specs.Methods.{MethodModel}
+use Rattle.rows.specs.Leaves.{is_something}
+use Rattle.rows.specs.declared.row.Leaf.{Leaf}
+use Rattle.rows.specs.declared.row.Leaf.TheVariants.{Nothing}
+use Rattle.rows.specs.declared.row.Row.{Row}
+
+abbrev pub row_model : Row → List Leaf
+row_model r = r.leaves.items
+
+-- a leaf, where there is one
+abbrev pub given : Option Leaf → Leaf
+given (Some leaf) = leaf
+given None = Nothing
+
+-- what a variable has
+abbrev pub leaf_at : List Leaf → ℕ → Leaf
+leaf_at row variable = given (slice_get row variable)
+
+-- whether that is something
+abbrev pub is_owned : List Leaf → ℕ → Bool
+is_owned row variable = is_something (leaf_at row variable)
+
+-- there is a leaf for each variable of a method
+abbrev pub IsRowOf : MethodModel → List Leaf → Type 0
+IsRowOf m row = length row ≡ length m.variables
