@@ -1,5 +1,4 @@
 """`tools/rename` and `./edits --carry` in a small repository that is made for a test."""
-import importlib.machinery
 import importlib.util
 import pathlib
 import shutil
@@ -40,18 +39,18 @@ def called(top, *words):
     return subprocess.run([top / words[0], *words[1:]], cwd=top, capture_output=True, text=True, timeout=60)
 
 
-def made(top):
+def made(top, files=FILES, crate='low', mutant='first_one'):
     """The repository, in which the mutant was tried, and everything is committed."""
-    for name, text in FILES.items():
+    for name, text in files.items():
         (top / name).parent.mkdir(parents=True, exist_ok=True)
         (top / name).write_text(text)
-    for name in ('edits', 'tools/rename'):
+    for name in ('edits', 'tools/rename', 'tools/trials.py'):
         (top / name).parent.mkdir(exist_ok=True)
         shutil.copy(TOP / name, top / name)
-    loader = importlib.machinery.SourceFileLoader('edits_there', str(top / 'edits'))
-    edits = importlib.util.module_from_spec(importlib.util.spec_from_loader('edits_there', loader))
-    loader.exec_module(edits)
-    edits.note('low', {'first_one'})
+    spec = importlib.util.spec_from_file_location('trials_there', top / 'tools' / 'trials.py')
+    trials = importlib.util.module_from_spec(spec)
+    spec.loader.exec_module(trials)
+    trials.note(crate, {mutant})
     for words in (['init', '-q'], ['add', '.'], ['-c', 'user.name=a', '-c', 'user.email=a', 'commit', '-q', '-m', 'a']):
         subprocess.run(['git', *words], cwd=top, check=True)
 
@@ -97,4 +96,24 @@ def trials_are_carried_over(_):
         return found + unlike('low\n', called(top, './edits', '--due').stdout)
 
 
-TESTS = [('renaming/' + test.__name__, test) for test in (a_value_of_a_function, a_word_of_a_crate, trials_are_carried_over)]
+def a_file_moves_below(_):
+    with tempfile.TemporaryDirectory() as folder:
+        top = pathlib.Path(folder)
+        made(top, {'crates.txt': 'low:\nhigh: low\n', 'crates/low/src/lib.rt': '//! Nothing.\n',
+                   'crates/high/src/at.rt': CODE.replace('pub', 'pub(crate)'),
+                   'crates/high/src/lib.rt': 'mod at;\n\nfn first() -> usize {\n    at::at(LIST, 0)\n}\n',
+                   'crates/high/edits/last.edit': 'file: src/lib.rt\nold: 0)\nnew: 1)\n'}, 'high', 'last')
+        (top / 'crates/high/src/at.rt').unlink()
+        (top / 'crates/low/src/at.rt').write_text(CODE)
+        (top / 'crates/low/src/lib.rt').write_text('mod at;\n\npub use at::{at, lies};\n')
+        (top / 'crates/high/src/lib.rt').write_text('use low::at;\n\nfn first() -> usize {\n    at::at(LIST, 0)\n}\n')
+        found = unlike('high\n', called(top, './edits', '--due').stdout)
+        called(top, './edits', '--carry', 'HEAD', 'a=a')
+        found += unlike('', called(top, './edits', '--due').stdout)
+        (top / 'crates/low/src/at.rt').write_text(CODE.replace('≡ got', '≢ got'))
+        called(top, './edits', '--carry', 'HEAD', 'a=a')
+        return found + unlike('high\n', called(top, './edits', '--due').stdout)
+
+
+TESTS = [('renaming/' + test.__name__, test) for test in (
+    a_value_of_a_function, a_word_of_a_crate, trials_are_carried_over, a_file_moves_below)]
