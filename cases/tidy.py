@@ -18,7 +18,18 @@ fn told<T: Into<(u8, u8)>>(a: u8, b: u8, c: u8, d: u8, e: u8, f: T, g: u8)
 {
 %s}
 ''' % ('    work();\n' * 39)
-OTHER = '/// Where another is.\n#[derive(Clone)]\npub enum Place {}\n'
+OTHER = '/// Where another is.\n#[derive(Clone)]\npub enum Place {}\nstruct Thing;\nimpl Each for Thing {\n    type Item = u8;\n}\n'
+SHAPES = """pub record Shape : Type 0 where
+  pub sides : ℕ
+  pub place : Option Span
+  pub row : List ℕ
+  pub gate : X
+  pub list : IsLong sides
+
+abbrev pub shape_of : ℕ → Shape
+shape_of n = record { sides = n }
+"""
+RELATIONS = 'abbrev pub Shape : ℕ → Type 0\nShape n = Unit\n\nIsWide : Shape 0\n'
 LEMMAS = 'first : (a b : ℕ) → a ≡ b\n    → b ≡ a\nfirst a b e = sym e\n\nT : ℕ → Type 0\nT n = Unit\n'
 AGAIN = 'second : (a b : ℕ)   → a ≡ b → b ≡ a\nsecond a b e = sym e\n\nU : ℕ → Type 0\nU n = Unit\n'
 DEFINITION = 'IsWide : Type 0\nIsWide = %s\n\nIsNot : Type 0\nIsNot = %s\n' % ('x' * 132, 'ℕ' * 132)
@@ -35,6 +46,10 @@ NAMED = """struct Thing<'a> {
     pub(crate) row: Vec<[u8; 4]>,
     list: Vec<usize>,
     gate: u8,
+}
+
+impl Each for Thing<'_> {
+    type Item = u8;
 }
 
 fn show(mut place: &mut u32, row: &[u8]) {
@@ -82,6 +97,7 @@ in_a_list kinds = kinds
 PAGE = 'See `low/src/lib.rt`, `low/src/gone.rt`, `old/src/lib.rt`, `low::sum`, `low::missing`, `out/program` and `NAME/src/lib.rt`.\n'
 FILES = {'crates.txt': 'low:\nhigh: low\n', 'README.md': PAGE, 'docs/ARCHITECTURE.md': GLOSSARY,
          'crates/low/src/lib.rt': CODE, 'crates/low/src/named.rt': NAMED, 'crates/low/src/given.rt': GIVEN, 'crates/high/src/lib.rt': OTHER,
+         'crates/low/specs/Shapes.antt': SHAPES, 'crates/high/specs/Shapes.antt': RELATIONS,
          'crates/low/specs/Wide.antt': DEFINITION, 'crates/low/specs/Gives.antt': GIVES,
          'crates/high/specs/Long.antt': '-- A line.\n' * 401, 'bench/times.py': '# %s\n' % ('ä' * 139),
          'crates/low/proofs/Lemmas.antt': LEMMAS, 'crates/high/proofs/Lemmas.antt': AGAIN}
@@ -90,9 +106,12 @@ FOUND = ['crates/low/src/lib.rt:3 no doc comment on Bare, it is public',
          'crates/low/src/lib.rt:8 bare participle told, name it by a verb or by what it returns',
          'crates/low/specs/Wide.antt:2 wide line in IsWide, 141 columns', 'crates/high/specs/Long.antt:1 long file, 401 lines',
          'crates/high/src/lib.rt:3 type Place twice, also crates/low/src/lib.rt:2',
+         'crates/high/src/lib.rt:4 type Thing twice, also crates/low/src/named.rt:1',
+         'crates/high/specs/Shapes.antt:1 type Shape twice, also crates/low/specs/Shapes.antt:1',
+         'crates/low/specs/Shapes.antt:3 place of type Option Span, the glossary has Place',
          'crates/high/proofs/Lemmas.antt:1 lemma second twice, also crates/low/proofs/Lemmas.antt:1',
          'crates/low/src/named.rt:4 list of type usize, the glossary has u8',
-         'crates/low/src/named.rt:8 place of type u32, the glossary has Place',
+         'crates/low/src/named.rt:12 place of type u32, the glossary has Place',
          'crates/low/src/given.rt:1 place_of gives Option<Span>, the glossary has Place',
          'crates/low/specs/Gives.antt:1 place_in gives Span, the glossary has Place',
          'bench/times.py:1 wide line in a script, 141 columns', 'README.md:1 unknown name low/src/gone.rt, nothing here is called so',

@@ -6,7 +6,7 @@ ghost use Rattle.rules.specs.Programs.{model_of};
 use contracts::{Judged, Sound, contract_at};
 use names::resolve;
 use program::{ContractId, MessageId, MethodId, Side, StateId};
-use rules::{Leaf, Onward, Outcome, Program, Row, Spare, entry_pair, step, step_in_place};
+use rules::{Leaf, Onward, Program, Row, Spare, StepOutcome, entry_pair, step, step_in_place};
 use source::lex;
 use std::alloc::Global;
 use std::test::Fail;
@@ -61,14 +61,14 @@ fn sends_by_the_contract(rt: HostRuntime) -> Result<(), Fail> {
     assert!(rt; point == 2);
     assert!(rt; row.leaves() == [Leaf::State(0)].as_slice());
     match step(rt.alloc(), &program, MethodId(0), point, &row)? {
-        Outcome::Next(pairs) => match pairs.get(0) {
+        StepOutcome::Next(pairs) => match pairs.get(0) {
             Some((point, row)) => {
                 assert!(rt; *point == 1);
                 assert!(rt; row.leaves() == [Leaf::State(1)].as_slice());
             }
             None => assert!(rt; false),
         },
-        Outcome::Found(_) => assert!(rt; false),
+        StepOutcome::Found(_) => assert!(rt; false),
     }
     Ok(())
 }

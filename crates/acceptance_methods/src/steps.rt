@@ -10,7 +10,7 @@ use program::{
     Action, HeapType, MOST_STATES, MOST_VARIABLES, Mention, Method, MethodId, Methods, Role,
     Simple, Statement, StructId, VarId, Variable,
 };
-use rules::{Leaf, Outcome, Program, Row, entry_pair, step};
+use rules::{Leaf, Program, Row, StepOutcome, entry_pair, step};
 use source::{Memory, Place, lex};
 use std::alloc::Global;
 use std::test::Fail;
@@ -157,14 +157,14 @@ fn steps_by_the_rule_table(rt: HostRuntime) -> Result<(), Fail> {
     assert!(rt; point == 3);
     assert!(rt; row.leaves() == [Leaf::Block, Leaf::Nothing].as_slice());
     match step(rt.alloc(), &program, MethodId(0), point, &row)? {
-        Outcome::Next(pairs) => match pairs.get(0) {
+        StepOutcome::Next(pairs) => match pairs.get(0) {
             Some((point, row)) => {
                 assert!(rt; *point == 2);
                 assert!(rt; row.leaves() == [Leaf::Nothing, Leaf::Block].as_slice());
             }
             None => assert!(rt; false),
         },
-        Outcome::Found(_) => assert!(rt; false),
+        StepOutcome::Found(_) => assert!(rt; false),
     }
     Ok(())
 }

@@ -4,7 +4,7 @@ ghost use Rattle.std.specs.Prelude.{◌≡◌, IfOk, IfErr, map};
 ghost use Rattle.std.specs.List.Sorted.{IsStrictlySortedBy};
 ghost use Rattle.source.specs.Findings.{finding_model};
 ghost use Rattle.reports.specs.Orders.{report_cmp};
-ghost use Rattle.intern.specs.View.{Grows};
+ghost use Rattle.intern.specs.View.{ViewGrows};
 ghost use Rattle.rules.specs.Programs.{model_of};
 ghost use Rattle.tasks.specs.Tasks.{number_of, task_program};
 ghost use Rattle.analyse.specs.VerdictParts.{findings_of, program_of, verdict_number};
@@ -41,7 +41,7 @@ pub fn analyse(
     requires program { task_program task ≡ program.now }
     requires worker { IsWorkerOf rows.now worker.old }
     ensures worker { IsWorkerOf rows.now worker.new }
-    ensures grows { Grows (view_of worker.old) (view_of worker.new) }
+    ensures grows { ViewGrows (view_of worker.old) (view_of worker.new) }
     ensures program { IfOk result (λ v. program_of v ≡ program.now) }
     ensures method { IfOk result (λ v. verdict_number v ≡ number_of task) }
     ensures found { IfOk result (λ v. IsMethodVerdict (model_of program.now) (number_of task) (map finding_model (findings_of v))) }

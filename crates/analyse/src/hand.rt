@@ -6,7 +6,7 @@ use rules::Row;
 /// The row that a search works on, and its name while it is known. The next pair has the same row more often than not, and then
 /// nobody reads it from the table.
 #[derive(Drop)]
-pub(crate) struct Hand {
+pub(crate) struct RowInHand {
     pub(crate) row: Row,
     pub(crate) name: Option<RowId>,
 }

@@ -6,7 +6,7 @@ use Rattle.std.proofs.lemmas.List.Elements.{Contains-append_left, Contains-appen
 use Rattle.std.proofs.lemmas.Map.Made.{Contains-tail}
 use Rattle.std.proofs.lemmas.Option.{slice_get_within, get_or_from_slice_get}
 use Rattle.program.specs.declared.contract.Edge.{Edge}
-use Rattle.contracts.specs.Conditions.{FindingModel, IsFault, AreExactly}
+use Rattle.contracts.specs.Conditions.{FindingModel, IsFlaw, AreExactly}
 use Rattle.contracts.specs.Parts.{Parts, StateModel, MessageModel}
 use Rattle.contracts.proofs.ArcLemmas.{none_in}
 use Rattle.contracts.proofs.ConditionLemmas.{against, twice, both}
@@ -84,7 +84,7 @@ state_listed parts i s f g at is c =
     subst (Contains (candidates parts)) (sym is) (Contains-append_right (at_edges parts) (at_states parts) g there)
 
 -- whatever is wrong is among all that can be
-fault_listed : (parts : Parts) (f : FindingModel) → IsFault parts f → Contains (candidates parts) f
+fault_listed : (parts : Parts) (f : FindingModel) → IsFlaw parts f → Contains (candidates parts) f
 fault_listed parts f (i, inl x) =
     let e = x.edge in
     let m = x.message in
@@ -101,6 +101,6 @@ fault_listed parts f (i, inr (inr (inr x))) =
     state_listed parts i s f (round s) x.at x.is (second_of (both s) (round s))
 
 -- It can't be that no list has all that is wrong.
-pub faults_listed : (parts : Parts) → ((found : List FindingModel) → AreExactly (IsFault parts) found → ⊥) → ⊥
-faults_listed parts none = chosen (IsFault parts) (candidates parts)
+pub faults_listed : (parts : Parts) → ((found : List FindingModel) → AreExactly (IsFlaw parts) found → ⊥) → ⊥
+faults_listed parts none = chosen (IsFlaw parts) (candidates parts)
     (λ found right all. none found (record { right = right; all = λ f fault. all f fault (fault_listed parts f fault) }))

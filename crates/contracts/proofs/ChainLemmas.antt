@@ -7,7 +7,7 @@ use Rattle.std.proofs.lemmas.List.{get_or-set_same, get_or-set_other, get_or-rep
 use Rattle.std.proofs.lemmas.List.Elements.{All-weaker, All-nil, All-map, All-filter, All-contains, Contains-append_cases}
 use Rattle.contracts.specs.declared.arcs.Arc.{Arc}
 use Rattle.contracts.specs.Arcs.{AllWithin, AreGroups, arc, begins, ends_from}
-use Rattle.contracts.specs.Chains.{AreChained, AreEnds, IsFirst, start_at}
+use Rattle.contracts.specs.Chains.{AreChained, AreEnds, IsFirstArc, start_at}
 use Rattle.contracts.specs.Graphs.{group_at}
 use Rattle.contracts.specs.Spans.{AreWithin, cut, start_of}
 use Rattle.contracts.proofs.ArcLemmas.{none_in}
@@ -19,11 +19,11 @@ none : Arc
 none = arc 0 0
 
 -- an arc that begins there is the first from its place on
-first_here : (arcs : List Arc) (v k : ℕ) → start_at arcs k ≡ v → IsFirst arcs v k k
+first_here : (arcs : List Arc) (v k : ℕ) → start_at arcs k ≡ v → IsFirstArc arcs v k k
 first_here arcs v k is = record { behind = omega arith; none = refl; here = λ _. is }
 
 -- an arc that begins elsewhere changes nothing
-first_before : (arcs : List Arc) (v k j : ℕ) → k < length arcs → (start_at arcs k ≡ v → ⊥) → IsFirst arcs v (k + 1) j → IsFirst arcs v k j
+first_before : (arcs : List Arc) (v k j : ℕ) → k < length arcs → (start_at arcs k ≡ v → ⊥) → IsFirstArc arcs v (k + 1) j → IsFirstArc arcs v k j
 first_before arcs v k j lt other h = record {
   behind = let b = h.behind in omega (arith, b);
   none = ap (filter (begins v)) (drop_more arcs k (arc 0 0) lt)
@@ -53,21 +53,21 @@ pub chained_more : (arcs : List Arc) (k : ℕ) (firsts nexts : List ℕ) → k <
 chained_more arcs k firsts nexts lt within h = record {
   long = length-set nexts k _ ∙ h.long;
   first = λ v less. ⊎_elim
-      (λ same. subst (IsFirst arcs v k) (sym (ap (λ u. get_or (set firsts (start_at arcs k) k) u 0) same ∙ get_or-set_same firsts (start_at arcs k) k 0 within)) (first_here arcs v k (sym same)))
-      (λ other. subst (IsFirst arcs v k) (sym (get_or-set_other firsts (start_at arcs k) v k 0 other))
+      (λ same. subst (IsFirstArc arcs v k) (sym (ap (λ u. get_or (set firsts (start_at arcs k) k) u 0) same ∙ get_or-set_same firsts (start_at arcs k) k 0 within)) (first_here arcs v k (sym same)))
+      (λ other. subst (IsFirstArc arcs v k) (sym (get_or-set_other firsts (start_at arcs k) v k 0 other))
       (first_before arcs v k (get_or firsts v 0) lt (λ e. other (sym e)) (h.first v (let size = length-set firsts (start_at arcs k) k in omega (arith, less, size)))))
       (cases_eq v (start_at arcs k));
   next = λ i from less. ⊎_elim
-      (λ same. subst (λ j. IsFirst arcs (start_at arcs i) (i + 1) (get_or (set nexts k (get_or firsts (start_at arcs k) 0)) j 0)) (sym same)
-      (subst (IsFirst arcs (start_at arcs i) (i + 1)) (sym (get_or-set_same nexts k (get_or firsts (start_at arcs k) 0) 0 (let size = h.long in omega (arith, lt, size))))
-      (subst (λ j. IsFirst arcs (start_at arcs j) (j + 1) (get_or firsts (start_at arcs k) 0)) (sym same) (h.first (start_at arcs k) within))))
-      (λ other. subst (IsFirst arcs (start_at arcs i) (i + 1)) (sym (get_or-set_other nexts k i (get_or firsts (start_at arcs k) 0) 0 other))
+      (λ same. subst (λ j. IsFirstArc arcs (start_at arcs i) (i + 1) (get_or (set nexts k (get_or firsts (start_at arcs k) 0)) j 0)) (sym same)
+      (subst (IsFirstArc arcs (start_at arcs i) (i + 1)) (sym (get_or-set_same nexts k (get_or firsts (start_at arcs k) 0) 0 (let size = h.long in omega (arith, lt, size))))
+      (subst (λ j. IsFirstArc arcs (start_at arcs j) (j + 1) (get_or firsts (start_at arcs k) 0)) (sym same) (h.first (start_at arcs k) within))))
+      (λ other. subst (IsFirstArc arcs (start_at arcs i) (i + 1)) (sym (get_or-set_other nexts k i (get_or firsts (start_at arcs k) 0) 0 other))
       (h.next i (grind (arith, from, other)) less))
       (cases_eq i k);
 }
 
 -- an arc of a vertex is followed by those behind its link
-pub ends_more : (arcs : List Arc) (v k j : ℕ) → k < length arcs → start_at arcs k ≡ v → IsFirst arcs (start_at arcs k) (k + 1) j → ends_from (drop k arcs) v ≡ (get_or arcs k (arc 0 0)).to ∷ ends_from (drop j arcs) v
+pub ends_more : (arcs : List Arc) (v k j : ℕ) → k < length arcs → start_at arcs k ≡ v → IsFirstArc arcs (start_at arcs k) (k + 1) j → ends_from (drop k arcs) v ≡ (get_or arcs k (arc 0 0)).to ∷ ends_from (drop j arcs) v
 ends_more arcs v k j lt is h =
     let a = get_or arcs k (arc 0 0) in
     ap (map (λ (x : Arc). x.to)) (ap (filter (begins v)) (drop_more arcs k (arc 0 0) lt)
@@ -77,7 +77,7 @@ ends_more arcs v k j lt is h =
 pub ends_all : (arcs : List Arc) (v k : ℕ) → length arcs ≤ k → ends_from (drop k arcs) v ≡ []
 ends_all arcs v k past = ap (λ l. ends_from l v) (drop_all k arcs past)
 
-pub ends_first : (arcs : List Arc) (v j : ℕ) → IsFirst arcs v 0 j → ends_from (drop j arcs) v ≡ ends_from arcs v
+pub ends_first : (arcs : List Arc) (v j : ℕ) → IsFirstArc arcs v 0 j → ends_from (drop j arcs) v ≡ ends_from arcs v
 ends_first arcs v j h = ap (map (λ (x : Arc). x.to)) (sym h.none)
 
 -- the links of the arcs alone

@@ -5,12 +5,12 @@ use Rattle.std.proofs.lemmas.List.{drop_all, drop_more, get_or-append_right, get
 use Rattle.std.proofs.lemmas.List.Elements.{All-append, All-drop, Contains-append_left, Contains-append_right, Contains-push, Contains-push_cases}
 use Rattle.std.proofs.lemmas.Bool.{cases_eq, cases_lt}
 use Rattle.contracts.specs.declared.arcs.Arc.{Arc}
-use Rattle.contracts.specs.declared.components.Status.{Status}
-use Rattle.contracts.specs.declared.components.Status.TheVariants.{New, Pending, Complete}
+use Rattle.contracts.specs.declared.components.VertexStatus.{VertexStatus}
+use Rattle.contracts.specs.declared.components.VertexStatus.TheVariants.{New, Pending, Complete}
 use Rattle.contracts.specs.Arcs.{arc}
 use Rattle.contracts.specs.Graphs.{HasEdge, OnRing, Walk}
 use Rattle.contracts.specs.Rings.{TellsRings}
-use Rattle.contracts.specs.Searches.{AreFound, IsSearch, Leads, TellsComponent, is_new, status_at, written}
+use Rattle.contracts.specs.Searches.{AreFound, IsSearch, CanReach, TellsComponent, is_new, status_at, written}
 use Rattle.contracts.proofs.StatusLemmas.{pending_same, pending_there, status_cases, written_new}
 use Rattle.contracts.proofs.ComponentLemmas.{pending_within}
 use Rattle.contracts.proofs.RisingLemmas.{rising_last, rising_prefix}
@@ -24,13 +24,13 @@ contains_take xs ys x i le in_i (k, lt, e) =
     (k, omega (arith, lt, le, size), get_or-take i (xs ++ ys) k x (omega (arith, lt, le)) ∙ get_or_append_left xs ys x k lt ∙ e)
 
 -- a walk there and another one back make a ring
-ring_of : (graph : List (List ℕ)) (v w : ℕ) → (v ≡ w → ⊥) → Leads graph v w → Leads graph w v → OnRing graph v
+ring_of : (graph : List (List ℕ)) (v w : ℕ) → (v ≡ w → ⊥) → CanReach graph v w → CanReach graph w v → OnRing graph v
 ring_of graph v w differ (zero, walk) back = absurd (differ walk)
 ring_of graph v w differ (suc n, walk) back =
     (n + back.0, subst (λ k. Walk graph v v k) (let e : suc n + back.0 ≡ suc (n + back.0) = omega arith in e) (walk_on graph (suc n) back.0 v w v walk back.1))
 
 -- the last component begins at a place, and no arc from there on is left
-module _ (graph : List (List ℕ)) (statuses : List Status) (pending rest : List ℕ) (arcs : List Arc) (rings : List Bool) (order : List ℕ) (place : ℕ) (on_ring : Bool)
+module _ (graph : List (List ℕ)) (statuses : List VertexStatus) (pending rest : List ℕ) (arcs : List Arc) (rings : List Bool) (order : List ℕ) (place : ℕ) (on_ring : Bool)
     (none : (a : Arc) → Contains arcs a → a.from < place)
     (told : TellsComponent graph (drop place pending) on_ring)
     (s : IsSearch graph statuses pending (rest ++ place ∷ []) arcs) (f : AreFound graph statuses rings order) where
@@ -57,13 +57,13 @@ module _ (graph : List (List ℕ)) (statuses : List Status) (pending rest : List
       let long = length-drop place pending in
       (place + k, omega arith, omega (arith, lt, long), sym (get_or-drop place pending k 0) ∙ get_or_default (drop place pending) k 0 v lt ∙ e)
 
-  abbrev more : List Status
+  abbrev more : List VertexStatus
   more = written statuses (drop place pending) Complete
 
   now_complete : (i : ℕ) → place ≤ i → i < length pending → status_at more (get_or pending i 0) ≡ Complete
   now_complete i le lt = written_at statuses (drop place pending) Complete New (get_or pending i 0) (pending_there statuses (get_or pending i 0) i (s.held i lt)) (part_in i le lt)
 
-  still : (v : ℕ) (x : Status) → status_at statuses v ≡ x → ((p : ℕ) → x ≡ Pending p → p < place) → status_at more v ≡ x
+  still : (v : ℕ) (x : VertexStatus) → status_at statuses v ≡ x → ((p : ℕ) → x ≡ Pending p → p < place) → status_at more v ≡ x
   still v x is early = written_other statuses (drop place pending) Complete New v
       (λ c. let r = in_part v c in
       let le = r.1 in
@@ -114,7 +114,7 @@ module _ (graph : List (List ℕ)) (statuses : List Status) (pending rest : List
       (s.followed p w lt edge)
 
   -- each leads to each
-  together : (i j : ℕ) → i < length pending → place ≤ j → j < length pending → Leads graph (get_or pending i 0) (get_or pending j 0)
+  together : (i j : ℕ) → i < length pending → place ≤ j → j < length pending → CanReach graph (get_or pending i 0) (get_or pending j 0)
   together i j in_i le in_j = s.joined i j in_i in_j (λ b c _. let last = rising_last rest place b s.bounds_rise c in omega (arith, last, le))
 
   pub completed_search : IsSearch graph more (take place pending) rest arcs
@@ -127,7 +127,7 @@ module _ (graph : List (List ℕ)) (statuses : List Status) (pending rest : List
         ap (status_at more) (before p less) ∙ still (get_or pending p 0) (Pending p) (s.held p (omega (arith, less, within))) (λ q same. let e = pending_same p q same in omega (arith, e, less));
     joined = λ i j in_i in_j h. let less_i : i < place = omega (arith, in_i, size) in
         let less_j : j < place = omega (arith, in_j, size) in
-        subst (λ x. Leads graph x (get_or (take place pending) j 0)) (sym (before i less_i)) (subst (Leads graph (get_or pending i 0)) (sym (before j less_j))
+        subst (λ x. CanReach graph x (get_or (take place pending) j 0)) (sym (before i less_i)) (subst (CanReach graph (get_or pending i 0)) (sym (before j less_j))
         (s.joined i j (omega (arith, less_i, within)) (omega (arith, less_j, within))
         (λ b c le. ⊎_elim (λ old. h b old le) (λ same. absurd (omega (arith, same, le, less_i))) (Contains-push_cases rest place b c))));
     followed = λ i w in_i edge. let less : i < place = omega (arith, in_i, size) in ⊎_elim
@@ -195,13 +195,13 @@ module _ (graph : List (List ℕ)) (statuses : List Status) (pending rest : List
 
   -- the vertices of the component come after what they lead to
   listed_after : (i w : ℕ) → i < length (order ++ drop place pending) → HasEdge graph (get_or (order ++ drop place pending) i 0) w
-      → Contains (take i (order ++ drop place pending)) w ⊎ Leads graph w (get_or (order ++ drop place pending) i 0)
+      → Contains (take i (order ++ drop place pending)) w ⊎ CanReach graph w (get_or (order ++ drop place pending) i 0)
   listed_after i w in_i edge = ⊎_elim
       (λ old. let at = get_or_append_left order (drop place pending) 0 i old in
       let same : take i (order ++ drop place pending) ≡ take i order = take-append-le i order (drop place pending) (omega (arith, old)) in
       ⊎_elim
       (λ earlier. inl (subst (λ l. Contains l w) (sym same) earlier))
-      (λ leads. inr (subst (Leads graph w) (sym at) leads))
+      (λ leads. inr (subst (CanReach graph w) (sym at) leads))
       (f.after i w old (subst (λ x. HasEdge graph x w) at edge)))
       (λ new. let all = length-append order (drop place pending) in
       let long = length-drop place pending in
@@ -209,7 +209,7 @@ module _ (graph : List (List ℕ)) (statuses : List Status) (pending rest : List
       let at = get_or-append_right order (drop place pending) (length order) i 0 refl new ∙ get_or-drop place pending (i - length order) 0 in
       ⊎_elim
       (λ complete. inl (contains_take order (drop place pending) w i new (omega (arith, in_i)) (f.listed w complete)))
-      (λ j. inr (subst (λ x. Leads graph x (get_or (order ++ drop place pending) i 0)) j.3 (subst (Leads graph (get_or pending j.0 0)) (sym at)
+      (λ j. inr (subst (λ x. CanReach graph x (get_or (order ++ drop place pending) i 0)) j.3 (subst (CanReach graph (get_or pending j.0 0)) (sym at)
       (together j.0 (place + (i - length order)) j.2 (omega arith) in_p))))
       (successor (place + (i - length order)) w (omega arith) in_p (subst (λ x. HasEdge graph x w) at edge)))
       (cases_lt i (length order))

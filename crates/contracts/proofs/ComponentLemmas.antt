@@ -5,39 +5,39 @@ use Rattle.std.proofs.lemmas.List.{map-append}
 use Rattle.std.proofs.lemmas.List.Elements.{All-contains, All-from_get_or, Contains-append_left, Contains-push, Contains-push_cases}
 use Rattle.std.proofs.lemmas.Bool.{cases_lt}
 use Rattle.contracts.specs.declared.arcs.Arc.{Arc}
-use Rattle.contracts.specs.declared.components.Status.{Status}
-use Rattle.contracts.specs.declared.components.Status.TheVariants.{New, Pending, Complete}
+use Rattle.contracts.specs.declared.components.VertexStatus.{VertexStatus}
+use Rattle.contracts.specs.declared.components.VertexStatus.TheVariants.{New, Pending, Complete}
 use Rattle.contracts.specs.Arcs.{arc}
 use Rattle.contracts.specs.Graphs.{HasEdge, InRange, group_at}
-use Rattle.contracts.specs.Searches.{AreBoundsTo, AreFound, AreRising, IsNextEnd, IsSearch, IsFollowed, Leads, is_new, status_at}
+use Rattle.contracts.specs.Searches.{AreBoundsTo, AreFound, AreRising, IsNextEnd, IsSearch, IsFollowed, CanReach, is_new, status_at}
 use Rattle.contracts.proofs.Rings.{walk_on}
 use Rattle.contracts.proofs.RisingLemmas.{rising_prefix, but_last}
 use Rattle.contracts.proofs.StatusLemmas.{status_cases, pending_there}
 
-pub leads_here : (graph : List (List ℕ)) (v w : ℕ) → v ≡ w → Leads graph v w
+pub leads_here : (graph : List (List ℕ)) (v w : ℕ) → v ≡ w → CanReach graph v w
 leads_here graph v w same = (0, same)
 
-pub leads_on : (graph : List (List ℕ)) (u v w : ℕ) → Leads graph u v → Leads graph v w → Leads graph u w
+pub leads_on : (graph : List (List ℕ)) (u v w : ℕ) → CanReach graph u v → CanReach graph v w → CanReach graph u w
 leads_on graph u v w first second = (first.0 + second.0, walk_on graph first.0 second.0 u v w first.1 second.1)
 
-pub leads_along : (graph : List (List ℕ)) (u v w : ℕ) → Leads graph u v → HasEdge graph v w → Leads graph u w
+pub leads_along : (graph : List (List ℕ)) (u v w : ℕ) → CanReach graph u v → HasEdge graph v w → CanReach graph u w
 leads_along graph u v w first edge = leads_on graph u v w first (1, (w, edge, refl))
 
-pub pending_within : (graph : List (List ℕ)) (statuses : List Status) (pending bounds : List ℕ) (arcs : List Arc) → IsSearch graph statuses pending bounds arcs → All (λ v. v < length graph) pending
+pub pending_within : (graph : List (List ℕ)) (statuses : List VertexStatus) (pending bounds : List ℕ) (arcs : List Arc) → IsSearch graph statuses pending bounds arcs → All (λ v. v < length graph) pending
 pending_within graph statuses pending bounds arcs s = All-from_get_or (λ v. v < length graph) pending 0
     (λ i lt. let long = s.long in let there = pending_there statuses (get_or pending i 0) i (s.held i lt) in omega (arith, long, there))
 
-pub search_same : (graph : List (List ℕ)) (statuses new : List Status) (pending more bounds limits : List ℕ) (arcs rest : List Arc) → new ≡ statuses → more ≡ pending → limits ≡ bounds → rest ≡ arcs
+pub search_same : (graph : List (List ℕ)) (statuses new : List VertexStatus) (pending more bounds limits : List ℕ) (arcs rest : List Arc) → new ≡ statuses → more ≡ pending → limits ≡ bounds → rest ≡ arcs
     → IsSearch graph statuses pending bounds arcs → IsSearch graph new more limits rest
 search_same graph statuses new pending more bounds limits arcs rest a b c d s =
     subst (λ x. IsSearch graph x more limits rest) (sym a) (subst (λ x. IsSearch graph statuses x limits rest) (sym b)
     (subst (λ x. IsSearch graph statuses pending x rest) (sym c) (subst (λ x. IsSearch graph statuses pending bounds x) (sym d) s)))
 
-pub found_same : (graph : List (List ℕ)) (statuses new : List Status) (rings more : List Bool) (order list : List ℕ) → new ≡ statuses → more ≡ rings → list ≡ order → AreFound graph statuses rings order → AreFound graph new more list
+pub found_same : (graph : List (List ℕ)) (statuses new : List VertexStatus) (rings more : List Bool) (order list : List ℕ) → new ≡ statuses → more ≡ rings → list ≡ order → AreFound graph statuses rings order → AreFound graph new more list
 found_same graph statuses new rings more order list a b c f =
     subst (λ x. AreFound graph x more list) (sym a) (subst (λ x. AreFound graph statuses x list) (sym b) (subst (λ x. AreFound graph statuses rings x) (sym c) f))
 
-pub room_same : (n : ℕ) (statuses new : List Status) (pending more order list : List ℕ) → new ≡ statuses → more ≡ pending → list ≡ order
+pub room_same : (n : ℕ) (statuses new : List VertexStatus) (pending more order list : List ℕ) → new ≡ statuses → more ≡ pending → list ≡ order
     → count_by is_new statuses + length pending + length order ≡ n → count_by is_new new + length more + length list ≡ n
 room_same n statuses new pending more order list a b c room =
     let d = ap (count_by is_new) a in
@@ -46,7 +46,7 @@ room_same n statuses new pending more order list a b c room =
     omega (arith, d, e, f, room)
 
 -- an arc is taken off whose end is settled
-pub arc_off : (graph : List (List ℕ)) (statuses : List Status) (pending bounds : List ℕ) (rest : List Arc) (from end : ℕ) → IsFollowed statuses bounds from end
+pub arc_off : (graph : List (List ℕ)) (statuses : List VertexStatus) (pending bounds : List ℕ) (rest : List Arc) (from end : ℕ) → IsFollowed statuses bounds from end
     → IsSearch graph statuses pending bounds (rest ++ arc from end ∷ []) → IsSearch graph statuses pending bounds rest
 arc_off graph statuses pending bounds rest from end is s = record {
   long = s.long;
@@ -68,7 +68,7 @@ arc_off graph statuses pending bounds rest from end is s = record {
 }
 
 -- an arc from the last component to a pending vertex joins all components from there on
-pub joined_to : (graph : List (List ℕ)) (statuses : List Status) (pending bounds new : List ℕ) (arcs : List Arc) (from place : ℕ) → from < length pending → place < length pending
+pub joined_to : (graph : List (List ℕ)) (statuses : List VertexStatus) (pending bounds new : List ℕ) (arcs : List Arc) (from place : ℕ) → from < length pending → place < length pending
     → HasEdge graph (get_or pending from 0) (get_or pending place 0) → ((b : ℕ) → Contains bounds b → b ≤ from) → AreBoundsTo place bounds new
     → IsSearch graph statuses pending bounds arcs → IsSearch graph statuses pending new arcs
 joined_to graph statuses pending bounds new arcs from place in_from in_place edge last kept s = record {
@@ -97,7 +97,7 @@ joined_to graph statuses pending bounds new arcs from place in_from in_place edg
 }
 
 -- where no component is begun, each vertex that was met is in a complete one
-pub all_complete : (graph : List (List ℕ)) (statuses : List Status) (pending bounds : List ℕ) (arcs : List Arc) → IsSearch graph statuses pending bounds arcs → pending ≡ [] → (v : ℕ) → (status_at statuses v ≡ New → ⊥) → status_at statuses v ≡ Complete
+pub all_complete : (graph : List (List ℕ)) (statuses : List VertexStatus) (pending bounds : List ℕ) (arcs : List Arc) → IsSearch graph statuses pending bounds arcs → pending ≡ [] → (v : ℕ) → (status_at statuses v ≡ New → ⊥) → status_at statuses v ≡ Complete
 all_complete graph statuses pending bounds arcs s idle v met = ⊎_elim
     (λ new. absurd (met new))
     (λ other. ⊎_elim
@@ -107,14 +107,14 @@ all_complete graph statuses pending bounds arcs s idle v met = ⊎_elim
     (status_cases (status_at statuses v))
 
 -- the last arc that is left, from the last component
-module _ (graph : List (List ℕ)) (statuses : List Status) (pending bounds : List ℕ) (arcs : List Arc) (end : ℕ) (s : IsSearch graph statuses pending bounds arcs) (next : IsNextEnd arcs bounds end) where
+module _ (graph : List (List ℕ)) (statuses : List VertexStatus) (pending bounds : List ℕ) (arcs : List Arc) (end : ℕ) (s : IsSearch graph statuses pending bounds arcs) (next : IsNextEnd arcs bounds end) where
   edge : (next.1.0 < length pending) × HasEdge graph (get_or pending next.1.0 0) end
   edge = s.left (arc next.1.0 end) (subst (λ l. Contains l (arc next.1.0 end)) (sym next.1.1) (Contains-push next.0 (arc next.1.0 end)))
 
   pub next_within : InRange graph → end < length graph
   next_within range = All-contains (λ w. w < length graph) (group_at graph (get_or pending next.1.0 0)) end (range (get_or pending next.1.0 0)) edge.1
 
-  pub next_leads : (i : ℕ) → i < length pending → Leads graph (get_or pending i 0) end
+  pub next_leads : (i : ℕ) → i < length pending → CanReach graph (get_or pending i 0) end
   next_leads i lt = leads_along graph (get_or pending i 0) (get_or pending next.1.0 0) end (s.joined i next.1.0 lt edge.0 (λ b c _. next.1.2 b c)) edge.1
 
   off : (limits : List ℕ) (less : List Arc) → less ≡ take (length arcs - 1) arcs → IsFollowed statuses limits next.1.0 end → IsSearch graph statuses pending limits arcs → IsSearch graph statuses pending limits less

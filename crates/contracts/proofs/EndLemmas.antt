@@ -10,7 +10,7 @@ use Rattle.program.specs.declared.number.MessageId.{MessageId}
 use Rattle.program.specs.declared.number.StateId.{StateId}
 use Rattle.contracts.specs.Bounds.{IsBound}
 use Rattle.contracts.specs.Walks.{IsWalk, HasSign}
-use Rattle.contracts.specs.TwoEnds.{opposite, Leads, Ends, Sends, Takes, Move, Moves, begun, IsHeld, HeldAlways, NeverLonger, OnceAsLong}
+use Rattle.contracts.specs.TwoEnds.{opposite, Leads, Ends, Sends, TakesFront, Move, Moves, begun, IsHeld, HeldAlways, NeverLonger, OnceAsLong}
 use Rattle.contracts.proofs.SoundLemmas.{IsDirected, directed}
 
 -- these messages lead from p to q along edges of one sign
@@ -58,7 +58,7 @@ path_tail edges s p m q u (n ∷ ms) rest sound walk is edge =
     let same : walk.0 ≡ u = sound.one_end p m s walk.0 u (subst (λ x. Leads edges p x s walk.0) (head_is n m ms rest is) walk.1) edge in
     subst (λ x. Path edges s x rest q) same (subst (λ x. Path edges s walk.0 x q) (tail_is n m ms rest is) walk.2)
 
-takes_front : (edges : List Edge) (s : Sign) (old new : Ends) → IsDirected edges → Holds edges s old → Takes edges s old new → Holds edges s new
+takes_front : (edges : List Edge) (s : Sign) (old new : Ends) → IsDirected edges → Holds edges s old → TakesFront edges s old new → Holds edges s new
 takes_front edges s old new sound h m = record {
   empty = m.same ∙ h.empty;
   walk = subst (λ x. Path edges s (new.state (opposite s)) (new.queue s) x) (sym m.other)
@@ -85,7 +85,7 @@ turns edges s t old new sound nt ns differ h m =
     }
 
 -- nothing can be taken from an empty queue
-none_taken : (edges : List Edge) (s t : Sign) (old new : Ends) → opposite s ≡ t → Holds edges s old → Takes edges t old new → ⊥
+none_taken : (edges : List Edge) (s t : Sign) (old new : Ends) → opposite s ≡ t → Holds edges s old → TakesFront edges t old new → ⊥
 none_taken edges s t old new ns h m = nil_cons m.message (new.queue t) (sym (sym (ap old.queue ns) ∙ h.empty) ∙ m.taken)
 
 -- the four moves of one that is held

@@ -4,7 +4,7 @@ use Rattle.std.specs.Prelude.{All, Contains, IsTrue, is_some}
 use Rattle.std.proofs.lemmas.Bool.{true≢false}
 use Rattle.std.proofs.lemmas.List.{get_or-take, get_or_default, length-take}
 use Rattle.contracts.specs.Graphs.{HasEdge, IsHeight, OnRing, Walk, height_at}
-use Rattle.contracts.specs.Peeling.{AreHeights, IsPeeled, Settled}
+use Rattle.contracts.specs.Peeling.{AreHeights, IsPeeled, IsHeightSettled}
 use Rattle.contracts.specs.Searches.{ComeAfter, IsFinishing}
 use Rattle.contracts.proofs.Rings.{rounds, walk_on}
 
@@ -26,7 +26,7 @@ Waits graph heights v = height_at heights v ≡ None → (w : ℕ) × HasEdge gr
 
 -- a vertex waits once it was looked at, since its successors either were before it or lead back
 pub waits_next : (graph : List (List ℕ)) (order : List ℕ) (heights : List (Option ℕ)) (i : ℕ) → ComeAfter graph order → i < length order
-    → ((k : ℕ) → k < i → Waits graph heights (get_or order k 0)) → Settled graph heights (get_or order i 0) → Waits graph heights (get_or order i 0)
+    → ((k : ℕ) → k < i → Waits graph heights (get_or order k 0)) → IsHeightSettled graph heights (get_or order i 0) → Waits graph heights (get_or order i 0)
 waits_next graph order heights i after lt before settled none =
     let next = settled none in (
       next.to,
@@ -62,7 +62,7 @@ heights_all graph order heights p f waits = record {
     still_none w more None is = is
     still_none w more (Some n) is = absurd (no_height graph w n (p.right w n is) more)
 
-    looked_at : (v : ℕ) → Contains order v → Settled graph heights v
+    looked_at : (v : ℕ) → Contains order v → IsHeightSettled graph heights v
     looked_at v (k, lt, e) none =
         let at = get_or_default order k 0 v lt ∙ e in
         let more = waits k lt (subst (λ x. height_at heights x ≡ None) (sym at) none) in

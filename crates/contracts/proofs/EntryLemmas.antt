@@ -7,11 +7,11 @@ use Rattle.std.proofs.lemmas.List.Elements.{Contains-append_cases, Contains-appe
 use Rattle.std.proofs.lemmas.List.Sums.{sum_by-set}
 use Rattle.std.proofs.lemmas.Bool.{cases_eq}
 use Rattle.contracts.specs.declared.arcs.Arc.{Arc}
-use Rattle.contracts.specs.declared.components.Status.{Status}
-use Rattle.contracts.specs.declared.components.Status.TheVariants.{New, Pending, Complete}
+use Rattle.contracts.specs.declared.components.VertexStatus.{VertexStatus}
+use Rattle.contracts.specs.declared.components.VertexStatus.TheVariants.{New, Pending, Complete}
 use Rattle.contracts.specs.Arcs.{arc}
 use Rattle.contracts.specs.Graphs.{HasEdge, group_at}
-use Rattle.contracts.specs.Searches.{AreFound, AreRising, IsSearch, IsFollowed, Leads, NotBefore, is_new, status_at}
+use Rattle.contracts.specs.Searches.{AreFound, AreRising, IsSearch, IsFollowed, CanReach, NotBefore, is_new, status_at}
 use Rattle.contracts.proofs.PartLemmas.{at_place, contains_map}
 use Rattle.contracts.proofs.ListLemmas.{made_from}
 use Rattle.contracts.proofs.RisingLemmas.{rising_append, only, one_rises}
@@ -19,15 +19,15 @@ use Rattle.contracts.proofs.StatusLemmas.{pending_same}
 use Rattle.contracts.proofs.ComponentLemmas.{leads_here}
 
 -- a new vertex is entered to which all pending ones lead
-module _ (graph : List (List ℕ)) (statuses : List Status) (pending bounds : List ℕ) (arcs : List Arc) (v : ℕ) (in_v : v < length graph)
-    (new : status_at statuses v ≡ New) (leads : (i : ℕ) → i < length pending → Leads graph (get_or pending i 0) v) (s : IsSearch graph statuses pending bounds arcs) where
-  abbrev more : List Status
+module _ (graph : List (List ℕ)) (statuses : List VertexStatus) (pending bounds : List ℕ) (arcs : List Arc) (v : ℕ) (in_v : v < length graph)
+    (new : status_at statuses v ≡ New) (leads : (i : ℕ) → i < length pending → CanReach graph (get_or pending i 0) v) (s : IsSearch graph statuses pending bounds arcs) where
+  abbrev more : List VertexStatus
   more = set statuses v (Pending (length pending))
 
   this : status_at more v ≡ Pending (length pending)
   this = get_or-set_same statuses v (Pending (length pending)) New (let e = s.long in omega (arith, e, in_v))
 
-  other : (u : ℕ) (x : Status) → status_at statuses u ≡ x → (x ≡ New → ⊥) → status_at more u ≡ x
+  other : (u : ℕ) (x : VertexStatus) → status_at statuses u ≡ x → (x ≡ New → ⊥) → status_at more u ≡ x
   other u x is met = get_or-set_other statuses v u (Pending (length pending)) New (λ same. met (sym is ∙ ap (status_at statuses) same ∙ new)) ∙ is
 
   size : length (pending ++ v ∷ []) ≡ length pending + 1
@@ -44,16 +44,16 @@ module _ (graph : List (List ℕ)) (statuses : List Status) (pending bounds : Li
 
   -- it leads to what follows in its own component
   met_leads : (i j : ℕ) → i < length (pending ++ v ∷ []) → j < length (pending ++ v ∷ []) → NotBefore (bounds ++ length pending ∷ []) i j
-      → Leads graph (get_or (pending ++ v ∷ []) i 0) (get_or (pending ++ v ∷ []) j 0)
+      → CanReach graph (get_or (pending ++ v ∷ []) i 0) (get_or (pending ++ v ∷ []) j 0)
   met_leads i j in_i in_j h = ⊎_elim
       (λ same. let le = h (length pending) (Contains-push bounds (length pending)) (omega (arith, same)) in
       leads_here graph (get_or (pending ++ v ∷ []) i 0) (get_or (pending ++ v ∷ []) j 0) (last i same ∙ sym (last j (omega (arith, le, in_j, size)))))
       (λ differ. let less : i < length pending = grind (arith, in_i, size, differ) in
-      subst (λ x. Leads graph x (get_or (pending ++ v ∷ []) j 0)) (sym (before i less))
+      subst (λ x. CanReach graph x (get_or (pending ++ v ∷ []) j 0)) (sym (before i less))
       (⊎_elim
-      (λ same. subst (Leads graph (get_or pending i 0)) (sym (last j same)) (leads i less))
+      (λ same. subst (CanReach graph (get_or pending i 0)) (sym (last j same)) (leads i less))
       (λ other_j. let less_j : j < length pending = grind (arith, in_j, size, other_j) in
-      subst (Leads graph (get_or pending i 0)) (sym (before j less_j))
+      subst (CanReach graph (get_or pending i 0)) (sym (before j less_j))
       (s.joined i j less less_j (λ b c le. h b (Contains-append_left bounds (length pending ∷ []) b c) le)))
       (cases_eq j (length pending))))
       (cases_eq i (length pending))
@@ -160,7 +160,7 @@ module _ (graph : List (List ℕ)) (statuses : List Status) (pending bounds : Li
   -- one vertex fewer is new
   pub fewer_new : count_by is_new more + 1 ≡ count_by is_new statuses
   fewer_new =
-      let f : Status → ℕ = λ x. cond (is_new x) 1 0 in
+      let f : VertexStatus → ℕ = λ x. cond (is_new x) 1 0 in
       let long = s.long in
       let e = sum_by-set f statuses v (Pending (length pending)) New (omega (arith, long, in_v)) in
       let one : f (status_at statuses v) ≡ 1 = ap f new in

@@ -8,13 +8,13 @@ use Rattle.std.proofs.lemmas.Bool.{cases_eq, cases_Bool, true≢false}
 use Rattle.contracts.specs.Graphs.{Walk, HasEdge, InRange, OnRing, IsHeight, height_at, group_at}
 use Rattle.contracts.specs.Marking.{IsMarked, unmarked}
 use Rattle.contracts.specs.Rings.{AreRings}
-use Rattle.contracts.specs.Peeling.{AreHeights, Settled}
+use Rattle.contracts.specs.Peeling.{AreHeights, IsHeightSettled}
 use Rattle.contracts.specs.Reached.{IsLongest, counted_height}
 use Rattle.contracts.proofs.MarkLemmas.{unmarked_set, marked_in}
 use Rattle.contracts.proofs.Rings.{in_row, no_ring, walk_on}
 
 -- from a vertex without a height one comes to a ring; the marked ones were passed
-ring_from : (graph : List (List ℕ)) (heights : List (Option ℕ)) → InRange graph → ((v : ℕ) → v < length graph → Settled graph heights v)
+ring_from : (graph : List (List ℕ)) (heights : List (Option ℕ)) → InRange graph → ((v : ℕ) → v < length graph → IsHeightSettled graph heights v)
     → (fuel : ℕ) (marks : List Bool) (v : ℕ) → length marks ≡ length graph → unmarked marks ≡ fuel → v < length graph → height_at heights v ≡ None
     → ((u : ℕ) → IsMarked marks u → (n : ℕ) × Walk graph u v (suc n)) → (u : ℕ) × OnRing graph u
 ring_from graph heights range settled zero marks v long left lt none passed = ⊎_elim
@@ -42,7 +42,7 @@ none_marked (suc n) zero is = true≢false (sym is)
 none_marked (suc n) (suc u) is = none_marked n u is
 
 -- each height is known
-pub known : (graph : List (List ℕ)) (heights : List (Option ℕ)) → InRange graph → ((v : ℕ) → v < length graph → Settled graph heights v) → ((v : ℕ) → OnRing graph v → ⊥) → (v : ℕ) → v < length graph → (n : ℕ) × (height_at heights v ≡ Some n)
+pub known : (graph : List (List ℕ)) (heights : List (Option ℕ)) → InRange graph → ((v : ℕ) → v < length graph → IsHeightSettled graph heights v) → ((v : ℕ) → OnRing graph v → ⊥) → (v : ℕ) → v < length graph → (n : ℕ) × (height_at heights v ≡ Some n)
 known graph heights range settled quiet v lt = decide (height_at heights v) refl
   where
     decide : (o : Option ℕ) → height_at heights v ≡ o → (n : ℕ) × (height_at heights v ≡ Some n)

@@ -8,7 +8,7 @@ use Rattle.source.specs.declared.finding.Code.TheVariants.{C04}
 use Rattle.program.specs.declared.contract.Sign.{Sign}
 use Rattle.program.specs.declared.contract.Edge.{Edge}
 use Rattle.contracts.specs.Parts.{Parts, StateModel, contract_parts, state_model}
-use Rattle.contracts.specs.Conditions.{FindingModel, IsAgainst, IsTwice, IsBoth, IsRound, IsFault, AreExactly, IsSound}
+use Rattle.contracts.specs.Conditions.{FindingModel, IsAgainst, IsTwice, IsBoth, IsRound, IsFlaw, AreExactly, IsSound}
 use Rattle.contracts.specs.Found.{FoundBelow}
 use Rattle.contracts.specs.Walks.{IsRoundBy}
 use Rattle.contracts.proofs.ConditionLemmas.{one_of}
@@ -43,7 +43,7 @@ pub all_found : (parts : Parts) (a b c d : List FindingModel)
     → FoundBelow (IsTwice parts.messages parts.edges) (length parts.edges) b
     → FoundBelow (IsBoth parts.states parts.edges) (length parts.states) c
     → FoundBelow (IsRound parts.states parts.edges) (length parts.states) d
-    → AreExactly (IsFault parts) (((a ++ b) ++ c) ++ d)
+    → AreExactly (IsFlaw parts) (((a ++ b) ++ c) ++ d)
 all_found parts a b c d in_a in_b in_c in_d = record {
   right = λ f is. ⊎_elim
       (λ abc. ⊎_elim

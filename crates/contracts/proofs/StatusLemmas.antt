@@ -5,17 +5,17 @@ use Rattle.std.proofs.Math.ListN.{set}
 use Rattle.std.proofs.lemmas.List.{get_or-set_same, get_or-set_other, get_or_past, set_past}
 use Rattle.std.proofs.lemmas.List.Sums.{sum_by-set, sum_by-cons}
 use Rattle.std.proofs.lemmas.Bool.{cases_eq, cases_lt}
-use Rattle.contracts.specs.declared.components.Status.{Status}
-use Rattle.contracts.specs.declared.components.Status.TheVariants.{New, Pending, Complete}
+use Rattle.contracts.specs.declared.components.VertexStatus.{VertexStatus}
+use Rattle.contracts.specs.declared.components.VertexStatus.TheVariants.{New, Pending, Complete}
 use Rattle.contracts.specs.Searches.{is_new, status_at, written}
 
-pub status_cases : (s : Status) → (s ≡ New) ⊎ (((p : ℕ) × (s ≡ Pending p)) ⊎ (s ≡ Complete))
+pub status_cases : (s : VertexStatus) → (s ≡ New) ⊎ (((p : ℕ) × (s ≡ Pending p)) ⊎ (s ≡ Complete))
 status_cases New = inl refl
 status_cases (Pending p) = inr (inl (p, refl))
 status_cases Complete = inr (inr refl)
 
 -- only a vertex of the list is pending
-pub pending_there : (statuses : List Status) (v p : ℕ) → status_at statuses v ≡ Pending p → v < length statuses
+pub pending_there : (statuses : List VertexStatus) (v p : ℕ) → status_at statuses v ≡ Pending p → v < length statuses
 pending_there statuses v p is = ⊎_elim
     (λ lt. lt)
     (λ past. let e = get_or_past statuses v New past in absurd (cc))
@@ -25,7 +25,7 @@ pub pending_same : (p q : ℕ) → Pending p ≡ Pending q → p ≡ q
 pending_same p q same = cc
 
 -- as many vertices are new, if none was at these places
-pub written_new : (statuses : List Status) (vs : List ℕ) (x : Status) → is_new x ≡ false → ((v : ℕ) → Contains vs v → is_new (status_at statuses v) ≡ false) → count_by is_new (written statuses vs x) ≡ count_by is_new statuses
+pub written_new : (statuses : List VertexStatus) (vs : List ℕ) (x : VertexStatus) → is_new x ≡ false → ((v : ℕ) → Contains vs v → is_new (status_at statuses v) ≡ false) → count_by is_new (written statuses vs x) ≡ count_by is_new statuses
 written_new statuses [] x old met = refl
 written_new statuses (v ∷ vs) x old met = ⊎_elim
     (λ lt. let e = sum_by-set f statuses v x New lt in
@@ -40,14 +40,14 @@ written_new statuses (v ∷ vs) x old met = ⊎_elim
     ap (λ l. count_by is_new (written l vs x)) same ∙ written_new statuses vs x old (λ u c. met u (let k = c.1 in (suc c.0, omega (arith, k), c.2))))
     (cases_lt v (length statuses))
   where
-    f : Status → ℕ
+    f : VertexStatus → ℕ
     f s = cond (is_new s) 1 0
 
 -- no vertex is new
-pub none_new : (statuses : List Status) → ((v : ℕ) → v < length statuses → is_new (status_at statuses v) ≡ false) → count_by is_new statuses ≡ 0
+pub none_new : (statuses : List VertexStatus) → ((v : ℕ) → v < length statuses → is_new (status_at statuses v) ≡ false) → count_by is_new statuses ≡ 0
 none_new [] all = refl
 none_new (x ∷ xs) all =
-    let f : Status → ℕ = λ s. cond (is_new s) 1 0 in
+    let f : VertexStatus → ℕ = λ s. cond (is_new s) 1 0 in
     let e : count_by is_new (x ∷ xs) ≡ f x + count_by is_new xs = sum_by-cons f x xs in
     let first : f x ≡ 0 = ap (λ b. cond b 1 0) (all 0 (omega arith)) in
     let rest = none_new xs (λ v lt. all (suc v) (omega (arith, lt))) in

@@ -4,16 +4,16 @@ use Rattle.std.specs.Prelude.{Bool, true, false, ◌⊎◌, get_or, count_by, sl
 use Rattle.contracts.specs.declared.arcs.Arc.{Arc}
 use Rattle.contracts.specs.declared.groups.Groups.{Groups}
 use Rattle.contracts.specs.declared.components.Search.{Search}
-use Rattle.contracts.specs.declared.components.Status.{Status}
-use Rattle.contracts.specs.declared.components.Status.TheVariants.{New, Pending, Complete}
+use Rattle.contracts.specs.declared.components.VertexStatus.{VertexStatus}
+use Rattle.contracts.specs.declared.components.VertexStatus.TheVariants.{New, Pending, Complete}
 use Rattle.contracts.specs.Arcs.{arc}
 use Rattle.contracts.specs.Graphs.{HasEdge, Walk}
 use Rattle.contracts.specs.Rings.{TellsRings}
 
-abbrev pub status_at : List Status → ℕ → Status
+abbrev pub status_at : List VertexStatus → ℕ → VertexStatus
 status_at statuses v = get_or statuses v New
 
-abbrev pub is_new : Status → Bool
+abbrev pub is_new : VertexStatus → Bool
 is_new New = true
 is_new (Pending place) = false
 is_new Complete = false
@@ -22,26 +22,26 @@ is_new Complete = false
 abbrev pub AreRising : List ℕ → Type 0
 AreRising xs = (j k : ℕ) → j ≤ k → k < length xs → get_or xs j 0 ≤ get_or xs k 0
 
-abbrev pub Leads : List (List ℕ) → ℕ → ℕ → Type 0
-Leads graph v w = (n : ℕ) × Walk graph v w n
+abbrev pub CanReach : List (List ℕ) → ℕ → ℕ → Type 0
+CanReach graph v w = (n : ℕ) × Walk graph v w n
 
 -- the second index is in the component of the first, or in a later one
 abbrev pub NotBefore : List ℕ → ℕ → ℕ → Type 0
 NotBefore bounds i j = (b : ℕ) → Contains bounds b → b ≤ i → b ≤ j
 
 -- an arc from the index to the vertex was followed: the vertex is in a complete component, or not before the component of the index
-abbrev pub IsFollowed : List Status → List ℕ → ℕ → ℕ → Type 0
+abbrev pub IsFollowed : List VertexStatus → List ℕ → ℕ → ℕ → Type 0
 IsFollowed statuses bounds i w = (status_at statuses w ≡ Complete)
     ⊎ ((j : ℕ) × (status_at statuses w ≡ Pending j) × NotBefore bounds i j)
 
 -- The pending vertices have their indices, and each leads to all that are not before its component. Their arcs were followed but
 -- for those that are left.
-pub record IsSearch (graph : List (List ℕ)) (statuses : List Status) (pending bounds : List ℕ) (arcs : List Arc) : Type 0 where
+pub record IsSearch (graph : List (List ℕ)) (statuses : List VertexStatus) (pending bounds : List ℕ) (arcs : List Arc) : Type 0 where
   pub long : length statuses ≡ length graph
   pub placed : (v p : ℕ) → status_at statuses v ≡ Pending p → (p < length pending) × (get_or pending p 0 ≡ v)
   pub held : (p : ℕ) → p < length pending → status_at statuses (get_or pending p 0) ≡ Pending p
   pub joined : (i j : ℕ) → i < length pending → j < length pending → NotBefore bounds i j
-      → Leads graph (get_or pending i 0) (get_or pending j 0)
+      → CanReach graph (get_or pending i 0) (get_or pending j 0)
   pub followed : (i w : ℕ) → i < length pending → HasEdge graph (get_or pending i 0) w
       → Contains arcs (arc i w) ⊎ IsFollowed statuses bounds i w
   pub left : (a : Arc) → Contains arcs a → (a.from < length pending) × HasEdge graph (get_or pending a.from 0) a.to
@@ -53,10 +53,10 @@ pub record IsSearch (graph : List (List ℕ)) (statuses : List Status) (pending 
 -- each vertex of the list has its successors before it, but for those that lead back to it
 abbrev pub ComeAfter : List (List ℕ) → List ℕ → Type 0
 ComeAfter graph order = (i w : ℕ) → i < length order → HasEdge graph (get_or order i 0) w
-    → Contains (take i order) w ⊎ Leads graph w (get_or order i 0)
+    → Contains (take i order) w ⊎ CanReach graph w (get_or order i 0)
 
 -- No arc leaves the complete components, it is known which of their vertices lie on a ring, and all are listed.
-pub record AreFound (graph : List (List ℕ)) (statuses : List Status) (rings : List Bool) (order : List ℕ) : Type 0 where
+pub record AreFound (graph : List (List ℕ)) (statuses : List VertexStatus) (rings : List Bool) (order : List ℕ) : Type 0 where
   pub long : length rings ≡ length graph
   pub closed : (v w : ℕ) → status_at statuses v ≡ Complete → HasEdge graph v w → status_at statuses w ≡ Complete
   pub tells : (v : ℕ) → status_at statuses v ≡ Complete → TellsRings graph v (get_or rings v true)

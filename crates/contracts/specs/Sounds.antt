@@ -1,6 +1,6 @@
 -- A sound contract as callers see it, and what a contract is judged to be.
 use Rattle.std.specs.Prelude.{◌≡◌, map}
-use Rattle.contracts.specs.Conditions.{FindingModel, finding_model, AreExactly, IsFault, IsSound}
+use Rattle.contracts.specs.Conditions.{FindingModel, finding_model, AreExactly, IsFlaw, IsSound}
 use Rattle.contracts.specs.Parts.{Parts, contract_parts}
 use Rattle.contracts.specs.declared.sound.Judged.{Judged}
 use Rattle.contracts.specs.declared.sound.Judged.TheVariants as judged
@@ -13,4 +13,4 @@ sound_parts s = contract_parts s.contract.value
 -- a contract of these parts is sound, or something is wrong with it and this is all
 abbrev pub IsJudged : Parts → Judged → Type 0
 IsJudged parts (judged.Sound sound) = (sound_parts sound ≡ parts) × IsSound parts
-IsJudged parts (judged.Broken found) = ((f : FindingModel) × IsFault parts f) × AreExactly (IsFault parts) (map finding_model found.items)
+IsJudged parts (judged.Broken found) = ((f : FindingModel) × IsFlaw parts f) × AreExactly (IsFlaw parts) (map finding_model found.items)

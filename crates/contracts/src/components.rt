@@ -10,7 +10,7 @@ ghost use Rattle.contracts.specs.Arcs.{arc};
 ghost use Rattle.contracts.specs.Graphs.{groups, InRange};
 ghost use Rattle.contracts.specs.Rings.{AreRings};
 ghost use Rattle.contracts.specs.Searches.{AreBoundsTo, AreRising, IsFinishing, IsIdle, IsKept, IsMet, IsNextEnd};
-ghost use Rattle.contracts.specs.Searches.{Leads, StayMet, TellsComponent, status_at, steps_left, written};
+ghost use Rattle.contracts.specs.Searches.{CanReach, StayMet, TellsComponent, status_at, steps_left, written};
 ghost use Rattle.contracts.specs.declared.arcs.Arc.{Arc};
 
 use crate::arcs::Arc;
@@ -27,7 +27,7 @@ pub struct Components {
 
 /// How far the search has come with a vertex.
 #[derive(Clone, Copy)]
-enum Status {
+enum VertexStatus {
     /// The search has not met it.
     New,
     /// Its component is not complete yet. The number is its index among the pending vertices.
@@ -39,7 +39,7 @@ enum Status {
 /// A search for components.
 #[derive(Drop)]
 struct Search {
-    statuses: Vec<Status>,
+    statuses: Vec<VertexStatus>,
     /// The vertices whose components are not complete yet, in the order in which the search met them.
     pending: Vec<usize>,
     /// The indices at which these components begin.
@@ -60,7 +60,7 @@ pub fn components_of(alloc: Global, graph: &Groups<usize>) -> Result<Components,
 {
     let mut search = Search::new(alloc, graph)?;
     for start in 0..graph.len() {
-        if let Status::New = search.statuses[start] {
+        if let VertexStatus::New = search.statuses[start] {
             search.enter(graph, start)?;
         }
         search.complete(graph)?;
@@ -82,7 +82,7 @@ impl Search {
     {
         let count = graph.len();
         Ok(Search {
-            statuses: vec![in alloc; Status::New; count]?,
+            statuses: vec![in alloc; VertexStatus::New; count]?,
             pending: Vec::with_capacity(alloc, count)?,
             bounds: Vec::with_capacity(alloc, count)?,
             arcs: Vec::with_capacity(alloc, graph.items.len())?,
@@ -131,12 +131,12 @@ impl Search {
         ensures fewer { OnOk result (steps_left graph.now self.new < steps_left graph.now self.old) }
     {
         match self.statuses[end] {
-            Status::New => self.enter(graph, end)?,
-            Status::Pending(index) => {
+            VertexStatus::New => self.enter(graph, end)?,
+            VertexStatus::Pending(index) => {
                 join(&mut self.bounds, index);
                 self.arcs.pop();
             }
-            Status::Complete => {
+            VertexStatus::Complete => {
                 self.arcs.pop();
             }
         }
@@ -146,17 +146,17 @@ impl Search {
     /// Begins a component with a new vertex to which all pending vertices lead.
     fn enter(&mut self, graph: &Groups<usize>, v: usize) -> Result<(), AllocError>
         requires v { v < length (groups graph.now) }
-        requires new { status_at self.old.statuses.items v ≡ Status.New }
+        requires new { status_at self.old.statuses.items v ≡ VertexStatus.New }
         requires kept { IsKept (groups graph.now) self.old }
         requires leads { (i : ℕ) → i < length self.old.pending.items
-            → Leads (groups graph.now) (get_or self.old.pending.items i 0) v }
+            → CanReach (groups graph.now) (get_or self.old.pending.items i 0) v }
         ensures kept { OnOk result (IsKept (groups graph.now) self.new) }
         ensures met { OnOk result (StayMet self.old self.new) }
         ensures this { OnOk result (IsMet self.new v) }
         ensures fewer { OnOk result (steps_left graph.now self.new < steps_left graph.now self.old) }
     {
         let index = self.pending.len();
-        self.statuses[v] = Status::Pending(index);
+        self.statuses[v] = VertexStatus::Pending(index);
         self.pending.push(v)?;
         self.bounds.push(index)?;
         add_arcs(&mut self.arcs, index, graph.group(v))?;
@@ -176,7 +176,7 @@ impl Search {
     {
         let component = &self.pending[bound..];
         let on_ring = are_on_ring(graph, component);
-        write_each(&mut self.statuses, component, Status::Complete);
+        write_each(&mut self.statuses, component, VertexStatus::Complete);
         write_each(&mut self.rings, component, on_ring);
         self.order.extend_from_slice(component)?;
         self.pending.truncate(bound);

@@ -2,7 +2,7 @@
 
 ghost use Rattle.std.specs.Prelude.{◌≡◌, ◌<◌, ◌++◌, IfOk, OnOk, length, map, Contains, string_bytes};
 ghost use Rattle.contracts.specs.Conditions.{AreExactly, IsAgainst, IsTwice, IsBoth, IsRound};
-ghost use Rattle.contracts.specs.Conditions.{IsFault, finding_model, sign_of as sign_of_direction};
+ghost use Rattle.contracts.specs.Conditions.{IsFlaw, finding_model, sign_of as sign_of_direction};
 ghost use Rattle.contracts.specs.Drawings.{IsDrawing};
 ghost use Rattle.contracts.specs.Found.{FoundBelow};
 ghost use Rattle.contracts.specs.Orders.{IsOrder};
@@ -31,7 +31,7 @@ use std::alloc::{AllocError, Global};
 /// 2006).
 pub fn findings_of(alloc: Global, contract: &Contract) -> Result<Vec<Finding>, Memory>
     requires whole { IsWhole (contract_parts contract.now) }
-    ensures exactly { IfOk result (λ found. AreExactly (IsFault (contract_parts contract.now))
+    ensures exactly { IfOk result (λ found. AreExactly (IsFlaw (contract_parts contract.now))
         (map finding_model found.items)) }
 {
     let drawing = drawing_of(alloc, contract)?;
@@ -49,7 +49,7 @@ pub(crate) fn findings_in(
     requires whole { IsWhole (contract_parts contract.now) }
     requires ordered { IsOrder contract.now.edges.items order.now }
     requires drawing { IsDrawing contract.now drawing.now }
-    ensures exactly { IfOk result (λ found. AreExactly (IsFault (contract_parts contract.now))
+    ensures exactly { IfOk result (λ found. AreExactly (IsFlaw (contract_parts contract.now))
         (map finding_model found.items)) }
 {
     let messages = messages_of(contract);

@@ -2,7 +2,7 @@
 
 ghost use Rattle.std.specs.Prelude.{◌≡◌, ◌++◌, ◌<◌, ℕ, [], All, Contains, get_or, length, IfOk};
 ghost use Rattle.contracts.specs.Arcs.{AllWithin, AreGroups, ends_from};
-ghost use Rattle.contracts.specs.Chains.{AreChained, AreEnds, IsFirst};
+ghost use Rattle.contracts.specs.Chains.{AreChained, AreEnds, IsFirstArc};
 ghost use Rattle.contracts.specs.Graphs.{groups};
 ghost use Rattle.contracts.specs.declared.arcs.Arc.{Arc};
 
@@ -45,7 +45,7 @@ fn follow(
     ends: &mut Vec<usize>,
 ) -> Result<(), AllocError>
     requires vertex { vertex < length firsts.now }
-    requires first { IsFirst arcs.now vertex 0 (get_or firsts.now vertex 0) }
+    requires first { IsFirstArc arcs.now vertex 0 (get_or firsts.now vertex 0) }
     requires linked { AreChained arcs.now 0 [] nexts.now }
     ensures { IfOk result (λ _. ends.new.items ≡ ends.old.items ++ ends_from arcs.now vertex) }
 {

@@ -3,7 +3,7 @@
 ghost use Rattle.std.specs.Prelude.{ℕ, List};
 ghost use Rattle.std.specs.Thread.{IsSync};
 ghost use Rattle.contracts.specs.Bounds.{IsBound, sign_to};
-ghost use Rattle.contracts.specs.Conditions.{AreExactly, FindingModel, IsFault, IsSound};
+ghost use Rattle.contracts.specs.Conditions.{AreExactly, FindingModel, IsFlaw, IsSound};
 ghost use Rattle.contracts.specs.Parts.{IsWhole, Parts};
 ghost use Rattle.contracts.specs.contracts.sound.Sound as sound;
 ghost use Rattle.program.specs.declared.types.Side.{Side};
@@ -12,7 +12,7 @@ use crate::sound::Sound;
 
 /// What is wrong with a contract is a list, and the bounds of a sound one are numbers: so there is always an answer beside `Memory`.
 pub fn each_contract_is_judged()
-    ensures found { (parts : Parts) → ((found : List FindingModel) → AreExactly (IsFault parts) found → ⊥) → ⊥ }
+    ensures found { (parts : Parts) → ((found : List FindingModel) → AreExactly (IsFlaw parts) found → ⊥) → ⊥ }
     ensures bounds { (parts : Parts) → IsWhole parts → IsSound parts → (side : Side)
         → ((n : ℕ) → IsBound parts.edges parts.first (sign_to side) n → ⊥) → ⊥ }
 {}

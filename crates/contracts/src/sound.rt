@@ -5,7 +5,7 @@ ghost use Rattle.std.proofs.Props.{props};
 ghost use Rattle.program.specs.declared.contract.Sign.TheVariants.{Send, Receive};
 ghost use Rattle.program.specs.declared.limits.TheConstants.{MOST_STATES};
 ghost use Rattle.contracts.specs.Bounds.{IsBound, sign_to};
-ghost use Rattle.contracts.specs.Conditions.{FindingModel, IsFault, IsSound};
+ghost use Rattle.contracts.specs.Conditions.{FindingModel, IsFlaw, IsSound};
 ghost use Rattle.contracts.specs.Graphs.{groups};
 ghost use Rattle.contracts.specs.Leaving.{AreLeaving, all_from, edges_from, end_on, name_among, sign_from};
 ghost use Rattle.contracts.specs.Drawings.{IsDrawing};
@@ -131,7 +131,7 @@ impl Sound {
         requires whole { IsWhole (contract_parts contract.now) }
         ensures parts { IfOk result (λ sound. sound_parts sound ≡ contract_parts contract.now) }
         ensures sound { OnOk result (IsSound (contract_parts contract.now)) }
-        ensures found { result ≡ Err SoundFault.Found → (f : FindingModel) × IsFault
+        ensures found { result ≡ Err SoundFault.Found → (f : FindingModel) × IsFlaw
             (contract_parts contract.now) f }
     {
         match Sound::judge(alloc, contract)? {

@@ -2,7 +2,7 @@
 use Rattle.std.proofs.Common.{◌≡◌, ℕ, List, Option, Some, None, sym, refl, ap, subst}
 use Rattle.std.specs.Prelude.{option_map, option_and_then, slice_get}
 use Rattle.tree.specs.Trees.{ItemTree, ClassTree}
-use Rattle.declarations.specs.Program.{Program, item_at, as_class}
+use Rattle.declarations.specs.Program.{ProgramText, item_at, as_class}
 use Rattle.declarations.specs.Scopes.{AllMembers, AreMethods, IsClass, as_methods}
 use Rattle.declarations.specs.declared.members.ClassMethods.{ClassMethods}
 use Rattle.declarations.specs.declared.members.Members.{Members}
@@ -36,13 +36,13 @@ no_class text None h = refl
 no_class text (Some c) h = absurd h
 
 -- where there are no methods, the item at the place is no class
-pub class_missing : (p : Program) (ms : List Members) (n : ℕ) → AllMembers p.text p.items ms → None ≡ option_and_then as_methods (slice_get ms n) → item_at as_class p n ≡ None
+pub class_missing : (p : ProgramText) (ms : List Members) (n : ℕ) → AllMembers p.text p.items ms → None ≡ option_and_then as_methods (slice_get ms n) → item_at as_class p n ≡ None
 class_missing p ms n all is =
     no_class p.text (item_at as_class p n)
     (subst (IsClass p.text (item_at as_class p n)) (sym is) (class_at p.text p.items ms n n all))
 
 -- where there are methods, the item at the place is their class
-pub class_here : (p : Program) (ms : List Members) (n : ℕ) (m : ClassMethods) → AllMembers p.text p.items ms → Some m ≡ option_and_then as_methods (slice_get ms n) → LookedClass p.text (item_at as_class p n) n m
+pub class_here : (p : ProgramText) (ms : List Members) (n : ℕ) (m : ClassMethods) → AllMembers p.text p.items ms → Some m ≡ option_and_then as_methods (slice_get ms n) → LookedClass p.text (item_at as_class p n) n m
 class_here p ms n m all is =
     looked_class p.text (item_at as_class p n) n m (item_numbered n (slice_get p.items n))
     (subst (IsClass p.text (item_at as_class p n)) (sym is) (class_at p.text p.items ms n n all))

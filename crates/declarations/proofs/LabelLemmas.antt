@@ -15,7 +15,7 @@ use Rattle.program.specs.Parts.{state_model}
 use Rattle.program.specs.declared.contract.Part.{Part}
 use Rattle.program.specs.declared.contract.State.{State}
 use Rattle.declarations.specs.Labels.{AreLabels, IsTold, Stands, in_parentheses, part_of}
-use Rattle.declarations.specs.Resolution.{Counted, numbered_state, numbered_states}
+use Rattle.declarations.specs.Resolution.{UnnumberedState, numbered_state, numbered_states}
 use Rattle.declarations.specs.declared.labels.Labels.{Labels}
 use Rattle.tables.specs.Firsts.{first_of}
 use Rattle.tables.specs.Words.{same_word, word_at, words_at}
@@ -68,7 +68,7 @@ parts_more word xs i x parts more part old new lt is all one told behind =
     ∙ sym (mapped_more word xs i x lt is)
 
 -- one more state
-pub states_more : {X : Type 0} (counted : X → Counted) (before : ℕ) (xs : List X) (i : ℕ) (x : X) (states more : List State) (s : State) (old new : List ℕ) → i < length xs → x ≡ get_or xs i x
+pub states_more : {X : Type 0} (counted : X → UnnumberedState) (before : ℕ) (xs : List X) (i : ℕ) (x : X) (states more : List State) (s : State) (old new : List ℕ) → i < length xs → x ≡ get_or xs i x
     → ((behind : List ℕ) → map (state_model (old ++ behind)) states ≡ numbered_states before (map counted (take i xs))) → more ≡ states ++ s ∷ []
     → s.id ≡ record { 0 = before + i } → IsTold old new s.name (counted x).name → s.place ≡ (counted x).place
     → (behind : List ℕ) → map (state_model (new ++ behind)) more ≡ numbered_states before (map counted (take (i + 1) xs))

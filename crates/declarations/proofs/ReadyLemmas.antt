@@ -18,7 +18,7 @@ use Rattle.declarations.specs.ItemMistakes.{all_counted_states, contracts_mistak
 use Rattle.declarations.specs.Listed.{limit_passed, past_limit, twice_among}
 use Rattle.declarations.specs.Numbered.{names_in, indices_named}
 use Rattle.declarations.specs.Outlines.{outlined_messages, outlined_states}
-use Rattle.declarations.specs.Program.{Program}
+use Rattle.declarations.specs.Program.{ProgramText}
 use Rattle.declarations.specs.Ready.{IsReady, all_resolved, declared_in, declared_messages, declared_states, resolved_declared}
 use Rattle.program.specs.Parts.{ContractModel}
 use Rattle.declarations.specs.Resolution.{each_behind, message_count, resolved_contract, resolved_contracts, state_count}
@@ -78,12 +78,12 @@ all_is : (text : List ℕ) (cs : List ContractTree) (ds : List Declared) → Are
 all_is text cs ds all = resolved_behind text [] [] cs ds tt all
 
 -- where nothing is wrong with a contract, nothing is with the names in its edges
-pub clean_edges : (p : Program) (c : ContractTree) → contract_mistakes p c ≡ [] → flat_map (state_mistakes p.text (names_of_messages (messages_of c)) (names_of_states (states_of c))) (states_of c) ≡ []
+pub clean_edges : (p : ProgramText) (c : ContractTree) → contract_mistakes p c ≡ [] → flat_map (state_mistakes p.text (names_of_messages (messages_of c)) (names_of_states (states_of c))) (states_of c) ≡ []
 clean_edges p c none =
     nil_right (flat_map (message_mistakes p) (messages_of c)) _
     (nil_right (twice_among p.text (names_of_states (states_of c))) _ (nil_right (twice_among p.text (names_of_messages (messages_of c))) _ none))
 
-one_ready : (p : Program) (c : ContractTree) (d : Declared) → IsDeclared p.text c d → contract_mistakes p c ≡ [] → IsReady p.text d
+one_ready : (p : ProgramText) (c : ContractTree) (d : Declared) → IsDeclared p.text c d → contract_mistakes p c ≡ [] → IsReady p.text d
 one_ready p c d one none =
     let findings = λ (ms : List MessageTree) (ss : List StateTree). flat_map (state_mistakes p.text (names_of_messages ms) (names_of_states ss)) ss in
     record {
@@ -94,7 +94,7 @@ one_ready p c d one none =
       clean = ap (λ l. findings l (outlined_states d.outline)) one.outline.messages ∙ ap (findings (messages_of c)) one.outline.states ∙ clean_edges p c none;
     }
 
-all_ready : (p : Program) (cs : List ContractTree) (ds : List Declared) → AreDeclared p.text cs ds → flat_map (contract_mistakes p) cs ≡ [] → All (IsReady p.text) ds
+all_ready : (p : ProgramText) (cs : List ContractTree) (ds : List Declared) → AreDeclared p.text cs ds → flat_map (contract_mistakes p) cs ≡ [] → All (IsReady p.text) ds
 all_ready p [] [] all none = All-nil (IsReady p.text)
 all_ready p [] (d ∷ ds) all none = absurd all
 all_ready p (c ∷ cs) [] all none = absurd all
@@ -111,26 +111,26 @@ not_past limit names none =
     (slice_get_cases names (most_of limit)).1
 
 -- there are no more states than there may be
-few_states : (p : Program) → counted_mistakes p ≡ [] → state_count (contracts_of p.items) ≤ MOST_STATES
+few_states : (p : ProgramText) → counted_mistakes p ≡ [] → state_count (contracts_of p.items) ≤ MOST_STATES
 few_states p nothing =
     let cs = contracts_of p.items in
     not_past limit.States (all_counted_states cs) (nil_right (past_limit limit.Contracts (names_of_contracts cs)) _ nothing)
 
 -- where nothing is wrong with the contracts of a program, nothing is within each, and there are no more states than there may be
-pub contracts_clean : (p : Program) → contracts_mistakes p ≡ [] → flat_map (contract_mistakes p) (contracts_of p.items) ≡ []
+pub contracts_clean : (p : ProgramText) → contracts_mistakes p ≡ [] → flat_map (contract_mistakes p) (contracts_of p.items) ≡ []
 contracts_clean p nothing = nil_right (counted_mistakes p) _ nothing
 
-pub states_few : (p : Program) → contracts_mistakes p ≡ [] → state_count (contracts_of p.items) ≤ MOST_STATES
+pub states_few : (p : ProgramText) → contracts_mistakes p ≡ [] → state_count (contracts_of p.items) ≤ MOST_STATES
 states_few p nothing = few_states p (nil_left (counted_mistakes p) _ nothing)
 
 -- what is known of a scope with whose contracts nothing is wrong
-pub record IsCleared (p : Program) (scope : Scope) : Type 0 where
+pub record IsCleared (p : ProgramText) (scope : Scope) : Type 0 where
   pub ready : All (IsReady p.text) (declared_in scope.members.items)
   pub messages : declared_messages (declared_in scope.members.items) ≡ message_count (contracts_of p.items)
   pub states : declared_states (declared_in scope.members.items) ≤ MOST_STATES
   pub resolved : all_resolved p.text (declared_in scope.members.items) ≡ resolved_contracts p.text (contracts_of p.items)
 
-pub cleared : (p : Program) (scope : Scope) → IsScope p scope → contracts_mistakes p ≡ [] → IsCleared p scope
+pub cleared : (p : ProgramText) (scope : Scope) → IsScope p scope → contracts_mistakes p ≡ [] → IsCleared p scope
 cleared p scope h nothing =
     let cs = contracts_of p.items in
     let ds = declared_in scope.members.items in

@@ -5,8 +5,8 @@ use Rattle.std.specs.Prelude.{option_map, option_and_then, slice_get}
 use Rattle.std.specs.Option.{option_copied}
 use Rattle.tree.specs.Trees.{ItemTree, DefinitionTree, Contract, Struct, Class, ContractTree, StructTree, ClassTree, item_tree, definition_tree}
 use Rattle.tree.specs.declared.item as tree
-use Rattle.declarations.specs.Program.{Program, item_at, as_contract, as_struct, as_class}
-use Rattle.declarations.specs.Scopes.{AllMembers, AreMembers, IsDeclared, AreFields, IsContract, IsStruct, IsClass, as_declared, as_fields, as_methods}
+use Rattle.declarations.specs.Program.{ProgramText, item_at, as_contract, as_struct, as_class}
+use Rattle.declarations.specs.Scopes.{AllMembers, AreMembers, IsDeclared, AreFieldsOf, IsContract, IsStruct, IsClass, as_declared, as_fields, as_methods}
 use Rattle.declarations.specs.declared.members.Declared.{Declared}
 use Rattle.declarations.specs.declared.fields.Fields.{Fields}
 use Rattle.declarations.specs.declared.members.ClassMethods.{ClassMethods}
@@ -104,7 +104,7 @@ no_contract text (Some c) h = absurd h
 pub record LookedStruct (text : List ℕ) (o : Option (ℕ × StructTree)) (k : ℕ) (f : Fields) : Type 0 where
   pub structure : StructTree
   pub is : o ≡ Some (k, structure)
-  pub fields : AreFields text structure f
+  pub fields : AreFieldsOf text structure f
 
 pub looked_struct : (text : List ℕ) (o : Option (ℕ × StructTree)) (k : ℕ) (f : Fields) → IsStruct text o (Some (k, f)) → LookedStruct text o k f
 looked_struct text None k f h = absurd h
@@ -127,12 +127,12 @@ pub class_model : (text : List ℕ) (o : Option (ℕ × ClassTree)) (found : Opt
 class_model text o None h = h
 class_model text o (Some m) h = h
 
-pub struct_missing : (p : Program) (ms : List Members) (n : ℕ) → AllMembers p.text p.items ms → None ≡ option_and_then as_fields (slice_get ms n) → item_at as_struct p n ≡ None
+pub struct_missing : (p : ProgramText) (ms : List Members) (n : ℕ) → AllMembers p.text p.items ms → None ≡ option_and_then as_fields (slice_get ms n) → item_at as_struct p n ≡ None
 struct_missing p ms n all is =
     no_struct p.text (item_at as_struct p n)
     (subst (λ o. IsStruct p.text (item_at as_struct p n) (option_map (λ f. (n, f)) o)) (sym is) (struct_at p.text p.items ms n n all))
 
-pub struct_here : (p : Program) (ms : List Members) (n : ℕ) (f : Fields) → AllMembers p.text p.items ms → Some f ≡ option_and_then as_fields (slice_get ms n) → LookedStruct p.text (item_at as_struct p n) n f
+pub struct_here : (p : ProgramText) (ms : List Members) (n : ℕ) (f : Fields) → AllMembers p.text p.items ms → Some f ≡ option_and_then as_fields (slice_get ms n) → LookedStruct p.text (item_at as_struct p n) n f
 struct_here p ms n f all is =
     looked_struct p.text (item_at as_struct p n) n f
     (subst (λ o. IsStruct p.text (item_at as_struct p n) (option_map (λ f. (n, f)) o)) (sym is) (struct_at p.text p.items ms n n all))

@@ -21,7 +21,7 @@ use Rattle.declarations.specs.declared.mistake.NameSort.{NameSort}
 use Rattle.declarations.specs.declared.mistake.NameSort.TheVariants as sort
 use Rattle.declarations.specs.Meant.{path_left}
 use Rattle.program.specs.Parts.{IsWhole, contract_parts, ContractModel, contract_model}
-use Rattle.declarations.specs.Program.{Program}
+use Rattle.declarations.specs.Program.{ProgramText}
 use Rattle.declarations.specs.Resolution.{Meanings, counted_in, edges_from, message_count, message_meant, numbered_message, numbered_state, path_edges, paths_edges, resolved_contract, resolved_contracts, state_count, state_meant}
 use Rattle.tables.specs.Words.{same_word, word_at, words_at}
 use Rattle.program.specs.declared.contract.Contract.{Contract}
@@ -163,7 +163,7 @@ whole_of text m s name messages states some few none =
       numbered = all_numbered (λ q. q.0 < MOST_STATES) numbered_state (λ t. t.id) state_id (λ k y. refl) s counted below;
     }
 
-all_whole : (p : Program) (contracts : List ContractTree) → flat_map (contract_mistakes p) contracts ≡ []
+all_whole : (p : ProgramText) (contracts : List ContractTree) → flat_map (contract_mistakes p) contracts ≡ []
     → state_count contracts ≤ MOST_STATES → All (λ s. IsWhole s.parts) (resolved_contracts p.text contracts)
 all_whole p contracts none few =
     let text = p.text in
@@ -180,11 +180,11 @@ all_whole p contracts none few =
     (clean_edges p c (ap (contract_mistakes p) is ∙ nothing_in (contract_mistakes p) contracts i c lt none))) (All-nil whole))
 
 -- contracts with which nothing is wrong are whole
-pub clean_whole : (p : Program) → contracts_mistakes p ≡ [] → All (λ s. IsWhole s.parts) (resolved_contracts p.text (contracts_of p.items))
+pub clean_whole : (p : ProgramText) → contracts_mistakes p ≡ [] → All (λ s. IsWhole s.parts) (resolved_contracts p.text (contracts_of p.items))
 clean_whole p nothing = all_whole p (contracts_of p.items) (contracts_clean p nothing) (states_few p nothing)
 
 -- the same of contracts that are seen so
-pub seen_whole : (p : Program) (resolved : List Contract) → map contract_model resolved ≡ resolved_contracts p.text (contracts_of p.items)
+pub seen_whole : (p : ProgramText) (resolved : List Contract) → map contract_model resolved ≡ resolved_contracts p.text (contracts_of p.items)
     → contracts_mistakes p ≡ [] → All (λ c. IsWhole (contract_parts c)) resolved
 seen_whole p resolved are nothing = λ k d lt.
     let size = length-map resolved contract_model in

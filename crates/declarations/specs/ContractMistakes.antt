@@ -10,12 +10,12 @@ use Rattle.declarations.specs.declared.mistake.Limit.TheVariants as limit
 use Rattle.declarations.specs.declared.mistake.Mistake.{Mistake}
 use Rattle.declarations.specs.Types.{type_unknown}
 use Rattle.declarations.specs.Listed.{twice_among, past_limit, asked_message, asked_state}
-use Rattle.declarations.specs.Program.{Program}
+use Rattle.declarations.specs.Program.{ProgramText}
 
 abbrev pub param_names : List MessageParameter → List Span
 param_names params = map (λ p. p.name) params
 
-abbrev pub message_mistakes : Program → MessageTree → List Mistake
+abbrev pub message_mistakes : ProgramText → MessageTree → List Mistake
 message_mistakes p m = flat_map (λ x. type_unknown p x.ty) m.params
     ++ (twice_among p.text (param_names m.params) ++ past_limit limit.Parameters (param_names m.params))
 
@@ -28,11 +28,11 @@ abbrev pub state_mistakes : List ℕ → List Span → List Span → StateTree �
 state_mistakes text messages states s = flat_map (path_mistakes text messages states) (paths_of s.body)
 
 -- what is wrong in a contract of these messages and states
-abbrev pub inner_mistakes : Program → List MessageTree → List StateTree → List Mistake
+abbrev pub inner_mistakes : ProgramText → List MessageTree → List StateTree → List Mistake
 inner_mistakes p messages states =
     twice_among p.text (names_of_messages messages) ++ (twice_among p.text (names_of_states states)
     ++ (flat_map (message_mistakes p) messages
     ++ flat_map (state_mistakes p.text (names_of_messages messages) (names_of_states states)) states))
 
-abbrev pub contract_mistakes : Program → ContractTree → List Mistake
+abbrev pub contract_mistakes : ProgramText → ContractTree → List Mistake
 contract_mistakes p c = inner_mistakes p (messages_of c) (states_of c)

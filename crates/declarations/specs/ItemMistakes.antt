@@ -10,10 +10,10 @@ use Rattle.declarations.specs.declared.mistake.Mistake.{Mistake}
 use Rattle.declarations.specs.Types.{type_unknown}
 use Rattle.declarations.specs.Listed.{twice_among, past_limit}
 use Rattle.declarations.specs.Owning.{owning_fields}
-use Rattle.declarations.specs.Program.{Program, item_names}
+use Rattle.declarations.specs.Program.{ProgramText, item_names}
 
 -- what is wrong within a struct
-abbrev pub struct_mistakes : Program → StructTree → List Mistake
+abbrev pub struct_mistakes : ProgramText → StructTree → List Mistake
 struct_mistakes p s =
     twice_among p.text (map (λ f. f.name) s.fields)
     ++ (flat_map (λ f. type_unknown p f.ty) s.fields ++ past_limit limit.Fields (map (λ f. f.name) (owning_fields s)))
@@ -24,11 +24,11 @@ methods_in (Class c) = c.methods
 methods_in _ = []
 
 -- the names of all methods, in order of the text
-abbrev pub method_names : Program → List Span
+abbrev pub method_names : ProgramText → List Span
 method_names p = map (λ m. m.name) (flat_map (λ i. methods_in i.definition) p.items)
 
 -- each item whose name an earlier one has, and the method one past the limit
-abbrev pub items_mistakes : Program → List Mistake
+abbrev pub items_mistakes : ProgramText → List Mistake
 items_mistakes p = twice_among p.text (item_names p) ++ past_limit limit.Methods (method_names p)
 
 -- the names at which the states of contracts are counted
@@ -36,10 +36,10 @@ abbrev pub all_counted_states : List ContractTree → List Span
 all_counted_states contracts = flat_map (λ c. counted_states (states_of c)) contracts
 
 -- the contract, and the state, one past the limit
-abbrev pub counted_mistakes : Program → List Mistake
+abbrev pub counted_mistakes : ProgramText → List Mistake
 counted_mistakes p = past_limit limit.Contracts (names_of_contracts (contracts_of p.items))
     ++ past_limit limit.States (all_counted_states (contracts_of p.items))
 
 -- all that is wrong with the contracts of a program
-abbrev pub contracts_mistakes : Program → List Mistake
+abbrev pub contracts_mistakes : ProgramText → List Mistake
 contracts_mistakes p = counted_mistakes p ++ flat_map (contract_mistakes p) (contracts_of p.items)

@@ -4,12 +4,12 @@ use Rattle.std.specs.List.{flat_map}
 use Rattle.source.specs.declared.token.Span.{Span}
 use Rattle.tree.specs.Trees.{StateTree}
 use Rattle.declarations.specs.Declarations.{paths_of, unnamed_of, counted_states}
-use Rattle.declarations.specs.Resolution.{Counted, each_behind, named_state, unnamed_state}
+use Rattle.declarations.specs.Resolution.{UnnumberedState, each_behind, named_state, unnamed_state}
 use Rattle.declarations.specs.declared.state_names.StateName.{StateName}
 use Rattle.declarations.specs.declared.state_names.StateName.TheVariants.{Named, Unnamed}
 
 -- what is counted at such a name
-abbrev pub counted_as : List ℕ → StateName → Counted
+abbrev pub counted_as : List ℕ → StateName → UnnumberedState
 counted_as text (Named name) = named_state text name
 counted_as text (Unnamed message) = unnamed_state text message
 

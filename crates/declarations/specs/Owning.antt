@@ -2,7 +2,7 @@
 use Rattle.std.specs.Prelude.{Bool, false, not, ◌&&◌, ◌||◌, is_some, List, [], ◌∷◌, Option, option_map}
 use Rattle.std.specs.List.{filter}
 use Rattle.declarations.specs.Types.{is_heap}
-use Rattle.declarations.specs.Program.{Numbered, Program, struct_named}
+use Rattle.declarations.specs.Program.{Numbered, ProgramText, struct_named}
 use Rattle.source.specs.declared.token.Span.{Span}
 use Rattle.tree.specs.Trees.{StructTree, MethodTree}
 use Rattle.tree.specs.declared.class as made
@@ -12,7 +12,7 @@ abbrev pub owning_fields : StructTree → List made.Field.Field
 owning_fields s = filter (λ f. is_heap f.ty) s.fields
 
 -- the struct of this name: how many items stand before it, and its fields that own
-abbrev pub owning_named : Program → Span → Option (Numbered (List made.Field.Field))
+abbrev pub owning_named : ProgramText → Span → Option (Numbered (List made.Field.Field))
 owning_named p name = option_map (λ s. (s.0, owning_fields s.1)) (struct_named p name)
 
 -- a parameter that is lent a block

@@ -7,12 +7,12 @@ use Rattle.tree.specs.declared.item.Tree.{Tree}
 use Rattle.declarations.specs.Declarations.{first_among}
 
 -- a text and its items
-pub record Program : Type 0 where
+pub record ProgramText : Type 0 where
   pub text : List ℕ
   pub items : List ItemTree
 
 -- a text, and the items of its tree
-abbrev pub program_of : List ℕ → Tree → Program
+abbrev pub program_of : List ℕ → Tree → ProgramText
 program_of text tree = record { text = text; items = program_tree tree }
 
 -- a definition that is a contract, a struct, a class
@@ -32,7 +32,7 @@ as_class (Struct s) = None
 as_class (Class c) = Some c
 
 -- the names of the items
-abbrev pub item_names : Program → List Span
+abbrev pub item_names : ProgramText → List Span
 item_names p = map (λ i. defined_name i.definition) p.items
 
 -- An item of some kind: how many items stand before it, and what it is.
@@ -40,18 +40,18 @@ abbrev pub Numbered : Type 0 → Type 0
 Numbered X = ℕ × X
 
 -- the item at this place, if it is of this kind
-abbrev pub item_at : {X : Type 0} → (DefinitionTree → Option X) → Program → ℕ → Option (Numbered X)
+abbrev pub item_at : {X : Type 0} → (DefinitionTree → Option X) → ProgramText → ℕ → Option (Numbered X)
 item_at ty p n = option_and_then (λ i. option_map (λ x. (n, x)) (ty i.definition)) (slice_get p.items n)
 
 -- Contracts, structs and classes share their names: one that the first item of a name is not is not found.
-abbrev pub item_named : {X : Type 0} → (DefinitionTree → Option X) → Program → Span → Option (Numbered X)
+abbrev pub item_named : {X : Type 0} → (DefinitionTree → Option X) → ProgramText → Span → Option (Numbered X)
 item_named ty p name = option_and_then (item_at ty p) (first_among p.text (item_names p) name)
 
-abbrev pub contract_named : Program → Span → Option (Numbered ContractTree)
+abbrev pub contract_named : ProgramText → Span → Option (Numbered ContractTree)
 contract_named = item_named as_contract
 
-abbrev pub struct_named : Program → Span → Option (Numbered StructTree)
+abbrev pub struct_named : ProgramText → Span → Option (Numbered StructTree)
 struct_named = item_named as_struct
 
-abbrev pub class_named : Program → Span → Option (Numbered ClassTree)
+abbrev pub class_named : ProgramText → Span → Option (Numbered ClassTree)
 class_named = item_named as_class

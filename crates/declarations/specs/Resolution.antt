@@ -32,28 +32,28 @@ abbrev pub messages_from : List ℕ → ℕ → List MessageTree → List Messag
 messages_from text first messages = map (λ p. numbered_message text p.0 p.1) (enumerate_from first messages)
 
 -- a state that has no number yet: how it is printed, and its place
-pub record Counted : Type 0 where
+pub record UnnumberedState : Type 0 where
   pub name : List ℕ
   pub place : Place
 
 -- a named state
-abbrev pub named_state : List ℕ → Span → Counted
+abbrev pub named_state : List ℕ → Span → UnnumberedState
 named_state text name = record { name = printed text name; place = name.place }
 
 -- an unnamed state is printed as its message, in parentheses
-abbrev pub unnamed_state : List ℕ → Span → Counted
+abbrev pub unnamed_state : List ℕ → Span → UnnumberedState
 unnamed_state text message = record { name = codes "(" ++ (printed text message ++ codes ")"); place = message.place }
 
 -- a named state is counted at its name, and behind it the unnamed ones of its paths
-abbrev pub counted_in : List ℕ → StateTree → List Counted
+abbrev pub counted_in : List ℕ → StateTree → List UnnumberedState
 counted_in text s = named_state text s.name ∷ map (unnamed_state text) (flat_map unnamed_of (paths_of s.body))
 
 -- a state with its number
-abbrev pub numbered_state : ℕ → Counted → StateModel
+abbrev pub numbered_state : ℕ → UnnumberedState → StateModel
 numbered_state number s = record { id = record { 0 = number }; name = s.name; place = s.place }
 
 -- states in a row, numbered from this number on
-abbrev pub numbered_states : ℕ → List Counted → List StateModel
+abbrev pub numbered_states : ℕ → List UnnumberedState → List StateModel
 numbered_states first states = map (λ p. numbered_state p.0 p.1) (enumerate_from first states)
 
 -- the states of a contract, where so many stand before its own

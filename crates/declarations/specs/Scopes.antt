@@ -10,7 +10,7 @@ use Rattle.declarations.specs.Declarations.{names_of_messages, names_of_states, 
 use Rattle.declarations.specs.Types.{type_meant}
 use Rattle.declarations.specs.Numbered.{names_in, indices_named}
 use Rattle.declarations.specs.Outlines.{IsOutline}
-use Rattle.declarations.specs.Program.{Program, item_names}
+use Rattle.declarations.specs.Program.{ProgramText, item_names}
 use Rattle.tables.specs.Tables.{IsTable}
 use Rattle.declarations.specs.Owning.{can_start, owning_fields}
 use Rattle.tables.specs.Words.{words_at}
@@ -33,7 +33,7 @@ pub record IsDeclared (text : List ℕ) (c : ContractTree) (d : Declared) : Type
   pub named : d.counted.named.items ≡ indices_named (states_of c)
 
 -- the fields of a struct, those that own, and the table of them
-pub record AreFields (text : List ℕ) (s : StructTree) (f : Fields) : Type 0 where
+pub record AreFieldsOf (text : List ℕ) (s : StructTree) (f : Fields) : Type 0 where
   pub list : f.list.now ≡ s.fields
   pub owning : f.owning.items ≡ owning_fields s
   pub table : IsTable (words_at text (map (λ x. x.name) s.fields)) f.table
@@ -47,7 +47,7 @@ pub record AreMethods (text : List ℕ) (c : ClassTree) (m : ClassMethods) : Typ
 -- what a definition declares within it
 abbrev pub AreMembers : List ℕ → DefinitionTree → Members → Type 0
 AreMembers text (Contract c) (members.Contract d) = IsDeclared text c d
-AreMembers text (Struct s) (members.Struct f) = AreFields text s f
+AreMembers text (Struct s) (members.Struct f) = AreFieldsOf text s f
 AreMembers text (Class c) (members.Class m) = AreMethods text c m
 AreMembers text _ _ = ⊥
 
@@ -93,15 +93,15 @@ AreDeclared text (c ∷ cs) [] = ⊥
 AreDeclared text (c ∷ cs) (d ∷ ds) = IsDeclared text c d × AreDeclared text cs ds
 
 -- each type that is noted is what the written one means
-pub record AreNoted (p : Program) (noted : NotedTypes) : Type 0 where
+pub record AreNoted (p : ProgramText) (noted : NotedTypes) : Type 0 where
   pub types : (start : ℕ) (n : Noted) → get nat_cmp noted.first start ≡ Some n → n.ty ≡ type_meant p (type.Heap n.written)
 
 -- the text and the items of a scope
-abbrev pub program_of_scope : Scope → Program
+abbrev pub program_of_scope : Scope → ProgramText
 program_of_scope scope = record { text = scope.text.now; items = map item_tree scope.items.now }
 
 -- what these items declare is in scope
-pub record IsScope (p : Program) (scope : Scope) : Type 0 where
+pub record IsScope (p : ProgramText) (scope : Scope) : Type 0 where
   pub text_is : scope.text.now ≡ p.text
   pub items_are : map item_tree scope.items.now ≡ p.items
   pub names : IsTable (words_at p.text (item_names p)) scope.names
@@ -117,7 +117,7 @@ IsContract text _ _ = ⊥
 -- what a look-up of a struct answers
 abbrev pub IsStruct : List ℕ → Option (ℕ × StructTree) → Option (ℕ × Fields) → Type 0
 IsStruct text None None = Unit {0}
-IsStruct text (Some s) (Some f) = (s.0 ≡ f.0) × AreFields text s.1 f.1
+IsStruct text (Some s) (Some f) = (s.0 ≡ f.0) × AreFieldsOf text s.1 f.1
 IsStruct text _ _ = ⊥
 
 -- what a look-up of a class answers

@@ -15,7 +15,7 @@ use Rattle.declarations.specs.declared.mistake.Mistake.{Mistake}
 use Rattle.declarations.specs.declared.mistake.Mismatch.{Mismatch}
 use Rattle.declarations.specs.declared.mistake.Mistake.TheVariants.{Unknown, WrongType}
 use Rattle.declarations.specs.declared.mistake.NameSort.TheVariants as sort
-use Rattle.declarations.specs.Program.{Program, contract_named, struct_named}
+use Rattle.declarations.specs.Program.{ProgramText, contract_named, struct_named}
 use Rattle.program.specs.Types.{same_scalar, same_side}
 use Rattle.declarations.specs.declared.value_type.ValueType.{ValueType}
 use Rattle.declarations.specs.declared.value_type.ValueType.TheVariants as ty
@@ -77,7 +77,7 @@ abbrev pub pointer_type : {X : Type 0} → Option (ℕ × X) → ValueType
 pointer_type None = ty.Unknown
 pointer_type (Some s) = ty.Pointer s.0
 
-abbrev pub type_meant : Program → type_nodes.Type.Type → ValueType
+abbrev pub type_meant : ProgramText → type_nodes.Type.Type → ValueType
 type_meant p (type.Scalar s) = ty.Scalar s
 type_meant p (type.Heap (heap.Pointer name bang)) = pointer_type (struct_named p name)
 type_meant p (type.Heap (heap.Array element bang)) = ty.Array element
@@ -94,7 +94,7 @@ abbrev pub pointer_unknown : {X : Type 0} → Option X → Span → List Mistake
 pointer_unknown None name = Unknown name sort.Struct ∷ []
 pointer_unknown (Some s) name = []
 
-abbrev pub type_unknown : Program → type_nodes.Type.Type → List Mistake
+abbrev pub type_unknown : ProgramText → type_nodes.Type.Type → List Mistake
 type_unknown p (type.Scalar s) = []
 type_unknown p (type.Heap (heap.Pointer name bang)) = pointer_unknown (struct_named p name) name
 type_unknown p (type.Heap (heap.Array element bang)) = []
@@ -107,6 +107,6 @@ is_heap (type.Scalar s) = false
 is_heap (type.Heap h) = true
 
 -- the type of what a message brings for this parameter, if there is one
-abbrev pub brought_type : Program → Option MessageParameter → ValueType
+abbrev pub brought_type : ProgramText → Option MessageParameter → ValueType
 brought_type p None = ty.Unknown
 brought_type p (Some x) = type_meant p x.ty

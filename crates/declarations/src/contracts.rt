@@ -6,7 +6,7 @@ ghost use Rattle.tree.specs.Trees.{ContractTree};
 ghost use Rattle.declarations.specs.ContractMistakes.{contract_mistakes};
 ghost use Rattle.declarations.specs.ItemMistakes.{counted_mistakes};
 ghost use Rattle.declarations.specs.Mistakes.{Adds};
-ghost use Rattle.declarations.specs.Program.{Program};
+ghost use Rattle.declarations.specs.Program.{ProgramText};
 ghost use Rattle.declarations.specs.Scopes.{IsScope, IsDeclared, declared_among};
 
 use crate::counted::{all_counted, are_few};
@@ -28,7 +28,7 @@ pub fn judge_contract(
     declared: &Declared<'_>,
     found: &mut Vec<Mistake>,
 ) -> Result<(), Memory>
-    ensures { (p : Program) (contract : ContractTree) → IsScope p scope.now → IsDeclared p.text contract declared.now
+    ensures { (p : ProgramText) (contract : ContractTree) → IsScope p scope.now → IsDeclared p.text contract declared.now
         → OnOk result (Adds found.old.items found.new.items (contract_mistakes p contract)) }
 {
     let messages = declared.outline.message_names(alloc)?;
@@ -47,7 +47,7 @@ pub fn judge_counted(
     scope: &Scope<'_>,
     found: &mut Vec<Mistake>,
 ) -> Result<(), Memory>
-    ensures { (p : Program) → IsScope p scope.now → OnOk result (Adds found.old.items found.new.items (counted_mistakes p)) }
+    ensures { (p : ProgramText) → IsScope p scope.now → OnOk result (Adds found.old.items found.new.items (counted_mistakes p)) }
 {
     let names = contract_names(alloc, &scope.members)?;
     judge_limit(Limit::Contracts, &names, found)?;

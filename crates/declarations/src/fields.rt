@@ -23,7 +23,7 @@ pub struct Fields<'a> {
 }
 
 impl<'a> Fields<'a> {
-    ghost use Rattle.declarations.specs.Scopes.{AreFields};
+    ghost use Rattle.declarations.specs.Scopes.{AreFieldsOf};
 
     /// The fields of a struct.
     pub(crate) fn of(
@@ -31,7 +31,7 @@ impl<'a> Fields<'a> {
         text: &'a [u8],
         structure: &'a Struct,
     ) -> Result<Fields<'a>, AllocError>
-        ensures { IfOk result (AreFields text.now (struct_tree structure.now)) }
+        ensures { IfOk result (AreFieldsOf text.now (struct_tree structure.now)) }
     {
         let names = names_of_fields(alloc, &structure.fields)?;
         let table = Table::of(alloc, text, &names)?;
@@ -45,7 +45,7 @@ impl<'a> Fields<'a> {
 
     /// How many fields of the struct stand before the first one of this name.
     pub(crate) fn index_of(&self, text: &[u8], name: Span) -> Option<usize>
-        ensures { (s : StructTree) → AreFields text.now s self.now
+        ensures { (s : StructTree) → AreFieldsOf text.now s self.now
             → result ≡ first_among text.now (map (λ f. f.name) s.fields) name }
     {
         self.table.find(name.slice(text))
@@ -53,7 +53,7 @@ impl<'a> Fields<'a> {
 
     /// The first field of this name.
     pub fn find(&self, text: &[u8], name: Span) -> Option<Field>
-        ensures { (s : StructTree) → AreFields text.now s self.now → result ≡ field_named text.now s name }
+        ensures { (s : StructTree) → AreFieldsOf text.now s self.now → result ≡ field_named text.now s name }
     {
         let index = self.index_of(text, name)?;
         self.list.get(index).copied()

@@ -5,7 +5,7 @@ ghost use Rattle.tree.specs.Trees.{message_tree};
 ghost use Rattle.declarations.specs.Types.{type_meant};
 ghost use Rattle.declarations.specs.Indices.{contract_index, message_index, sent_index, message_at, state_index};
 ghost use Rattle.declarations.specs.Named.{message_written, sent_message};
-ghost use Rattle.declarations.specs.Program.{Program, as_contract, item_at};
+ghost use Rattle.declarations.specs.Program.{ProgramText, as_contract, item_at};
 ghost use Rattle.tables.specs.Words.{word_at};
 
 use crate::scope::Scope;
@@ -20,14 +20,14 @@ impl<'a> Scope<'a> {
     /// What a written type means.
     #[inline(always)]
     pub fn type_meant(&self, written: Type) -> ValueType
-        ensures { (p : Program) → IsScope p self.now → result ≡ type_meant p written }
+        ensures { (p : ProgramText) → IsScope p self.now → result ≡ type_meant p written }
     {
         type_meant(self, written)
     }
 
     /// How many items stand before the first item of this name, if it is a contract.
     pub fn contract_index(&self, name: Span) -> Option<usize>
-        ensures { (p : Program) → IsScope p self.now → result ≡ contract_index p name }
+        ensures { (p : ProgramText) → IsScope p self.now → result ≡ contract_index p name }
     {
         let (index, _declared) = self.contract(name)?;
         Some(index)
@@ -35,7 +35,7 @@ impl<'a> Scope<'a> {
 
     /// How many messages stand before the first one of this name, in the contract that is the item at this index.
     pub fn message_index(&self, contract: usize, name: Span) -> Option<usize>
-        ensures { (p : Program) → IsScope p self.now → result ≡ message_index p contract (word_at p.text name) }
+        ensures { (p : ProgramText) → IsScope p self.now → result ≡ message_index p contract (word_at p.text name) }
     {
         let declared = self.contract_at(contract)?;
         declared.messages.find(name.slice(self.text))
@@ -43,7 +43,7 @@ impl<'a> Scope<'a> {
 
     /// The same of the message that a word like `SendM` sends.
     pub fn sent_index(&self, contract: usize, word: Span) -> Option<usize>
-        ensures { (p : Program) → IsScope p self.now → result ≡ sent_index p contract word }
+        ensures { (p : ProgramText) → IsScope p self.now → result ≡ sent_index p contract word }
     {
         let declared = self.contract_at(contract)?;
         let name = word.slice(self.text).strip_prefix(b"Send")?;
@@ -52,7 +52,7 @@ impl<'a> Scope<'a> {
 
     /// The message at this index in the contract that is the item at the first one.
     pub fn message_at(&self, contract: usize, index: usize) -> Option<&'a Message>
-        ensures { (p : Program) → IsScope p self.now → option_map (λ m. message_tree m.now) result ≡ message_at p contract index }
+        ensures { (p : ProgramText) → IsScope p self.now → option_map (λ m. message_tree m.now) result ≡ message_at p contract index }
     {
         let declared = self.contract_at(contract)?;
         declared.outline.messages.get(index).copied()
@@ -60,7 +60,7 @@ impl<'a> Scope<'a> {
 
     /// The first message of this name in the contract that is the item at this index.
     pub fn message(&self, contract: usize, name: Span) -> Option<&'a Message>
-        ensures { (p : Program) → IsScope p self.now → option_map (λ m. message_tree m.now) result
+        ensures { (p : ProgramText) → IsScope p self.now → option_map (λ m. message_tree m.now) result
             ≡ option_and_then (λ c. message_written p.text c.1 (word_at p.text name)) (item_at as_contract p contract) }
     {
         let declared = self.contract_at(contract)?;
@@ -69,7 +69,7 @@ impl<'a> Scope<'a> {
 
     /// The same of the message that a word like `SendM` sends.
     pub fn sent_message(&self, contract: usize, word: Span) -> Option<&'a Message>
-        ensures { (p : Program) → IsScope p self.now → option_map (λ m. message_tree m.now) result
+        ensures { (p : ProgramText) → IsScope p self.now → option_map (λ m. message_tree m.now) result
             ≡ option_and_then (λ c. sent_message p.text c.1 (word_at p.text word)) (item_at as_contract p contract) }
     {
         let declared = self.contract_at(contract)?;
@@ -80,7 +80,7 @@ impl<'a> Scope<'a> {
     /// How many states, unnamed ones counted, stand before the first one of this name, in the contract that is the item at
     /// this index.
     pub fn state_index(&self, contract: usize, name: Span) -> Option<usize>
-        ensures { (p : Program) → IsScope p self.now → result ≡ state_index p contract name }
+        ensures { (p : ProgramText) → IsScope p self.now → result ≡ state_index p contract name }
     {
         let declared = self.contract_at(contract)?;
         let index = declared.states.find(name.slice(self.text))?;

@@ -7,8 +7,8 @@ ghost use Rattle.declarations.specs.Mistakes.{Adds};
 ghost use Rattle.declarations.specs.ItemMistakes.{struct_mistakes, items_mistakes, methods_in};
 ghost use Rattle.declarations.specs.Types.{type_unknown};
 ghost use Rattle.declarations.specs.Listed.{twice_among};
-ghost use Rattle.declarations.specs.Program.{Program};
-ghost use Rattle.declarations.specs.Scopes.{IsScope, AreFields, AreMethods};
+ghost use Rattle.declarations.specs.Program.{ProgramText};
+ghost use Rattle.declarations.specs.Scopes.{IsScope, AreFieldsOf, AreMethods};
 
 use crate::fields::{Fields, names_of_fields};
 use crate::judging::{judge_limit, judge_twice};
@@ -24,7 +24,7 @@ use tree::{Definition, Field, Item, Method};
 ///
 /// `Memory` is returned if a growth was refused.
 pub fn judge_items(alloc: Global, scope: &Scope<'_>, found: &mut Vec<Mistake>) -> Result<(), Memory>
-    ensures { (p : Program) → IsScope p scope.now → OnOk result (Adds found.old.items found.new.items (items_mistakes p)) }
+    ensures { (p : ProgramText) → IsScope p scope.now → OnOk result (Adds found.old.items found.new.items (items_mistakes p)) }
 {
     let names = names_of_items(alloc, scope.items)?;
     judge_twice(scope.text, &scope.names, &names, found)?;
@@ -42,7 +42,7 @@ pub fn judge_struct(
     fields: &Fields<'_>,
     found: &mut Vec<Mistake>,
 ) -> Result<(), Memory>
-    ensures { (p : Program) (s : StructTree) → IsScope p scope.now → AreFields p.text s fields.now
+    ensures { (p : ProgramText) (s : StructTree) → IsScope p scope.now → AreFieldsOf p.text s fields.now
         → OnOk result (Adds found.old.items found.new.items (struct_mistakes p s)) }
 {
     let names = names_of_fields(alloc, fields.list)?;
@@ -53,7 +53,7 @@ pub fn judge_struct(
 }
 
 fn judge_types(scope: &Scope<'_>, fields: &[Field], found: &mut Vec<Mistake>) -> Result<(), Memory>
-    ensures { (p : Program) → IsScope p scope.now
+    ensures { (p : ProgramText) → IsScope p scope.now
         → OnOk result (Adds found.old.items found.new.items (flat_map (λ f. type_unknown p f.ty) fields.now)) }
 {
     for field in fields {
@@ -71,7 +71,7 @@ pub fn judge_method_names(
     methods: &ClassMethods<'_>,
     found: &mut Vec<Mistake>,
 ) -> Result<(), Memory>
-    ensures { (p : Program) (c : ClassTree) → IsScope p scope.now → AreMethods p.text c methods.now
+    ensures { (p : ProgramText) (c : ClassTree) → IsScope p scope.now → AreMethods p.text c methods.now
         → OnOk result (Adds found.old.items found.new.items (twice_among p.text (map (λ m. m.name) c.methods))) }
 {
     let names = names_of_methods(alloc, methods.list)?;

@@ -6,7 +6,7 @@ ghost use Rattle.tree.specs.Trees.{message_tree};
 ghost use Rattle.declarations.specs.ContractMistakes.{message_mistakes, param_names};
 ghost use Rattle.declarations.specs.Mistakes.{Adds};
 ghost use Rattle.declarations.specs.Types.{type_unknown};
-ghost use Rattle.declarations.specs.Program.{Program};
+ghost use Rattle.declarations.specs.Program.{ProgramText};
 ghost use Rattle.declarations.specs.Scopes.{IsScope};
 
 use crate::judging::{judge_limit, judge_twice};
@@ -25,7 +25,7 @@ pub(crate) fn judge_message(
     message: &Message,
     found: &mut Vec<Mistake>,
 ) -> Result<(), Memory>
-    ensures { (p : Program) → IsScope p scope.now
+    ensures { (p : ProgramText) → IsScope p scope.now
         → OnOk result (Adds found.old.items found.new.items (message_mistakes p (message_tree message.now))) }
 {
     judge_types(scope, &message.params, found)?;
@@ -40,7 +40,7 @@ fn judge_types(
     params: &[MessageParameter],
     found: &mut Vec<Mistake>,
 ) -> Result<(), Memory>
-    ensures { (p : Program) → IsScope p scope.now
+    ensures { (p : ProgramText) → IsScope p scope.now
         → OnOk result (Adds found.old.items found.new.items (flat_map (λ x. type_unknown p x.ty) params.now)) }
 {
     for param in params {
@@ -66,7 +66,7 @@ pub(crate) fn judge_messages(
     messages: &[&Message],
     found: &mut Vec<Mistake>,
 ) -> Result<(), Memory>
-    ensures { (p : Program) → IsScope p scope.now → OnOk result
+    ensures { (p : ProgramText) → IsScope p scope.now → OnOk result
         (Adds found.old.items found.new.items (flat_map (message_mistakes p) (map (λ m. message_tree m.now) messages.now))) }
 {
     for message in messages {

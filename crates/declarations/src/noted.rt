@@ -3,7 +3,7 @@
 ghost use Rattle.std.specs.Prelude.{◌≡◌, true, Some, OnOk, IfOk};
 ghost use Rattle.tree.specs.declared.types.Type.TheVariants as type;
 ghost use Rattle.declarations.specs.Types.{type_meant};
-ghost use Rattle.declarations.specs.Program.{Program};
+ghost use Rattle.declarations.specs.Program.{ProgramText};
 ghost use Rattle.declarations.specs.Scopes.{IsScope, AreNoted};
 
 use crate::scope::Scope;
@@ -33,7 +33,7 @@ pub(crate) struct NotedTypes {
 impl NotedTypes {
     /// No types.
     pub(crate) fn new(alloc: Global) -> NotedTypes
-        ensures { (p : Program) → AreNoted p result }
+        ensures { (p : ProgramText) → AreNoted p result }
     {
         NotedTypes {
             first: BTreeMap::new(alloc),
@@ -42,7 +42,7 @@ impl NotedTypes {
 
     /// What the types mean that are written in the structs, and in the heads of the methods and messages, in scope.
     pub(crate) fn of(alloc: Global, scope: &Scope<'_>) -> Result<NotedTypes, AllocError>
-        ensures { IfOk result (λ noted. (p : Program) → IsScope p scope.now → AreNoted p noted) }
+        ensures { IfOk result (λ noted. (p : ProgramText) → IsScope p scope.now → AreNoted p noted) }
     {
         let mut noted = NotedTypes::new(alloc);
         let types = signature_types(alloc, &scope.members)?;
@@ -54,7 +54,7 @@ impl NotedTypes {
 
     /// Notes what this type means.
     fn note(&mut self, scope: &Scope<'_>, written: Heap) -> Result<(), AllocError>
-        ensures { (p : Program) → IsScope p scope.now → AreNoted p self.old → OnOk result (AreNoted p self.new) }
+        ensures { (p : ProgramText) → IsScope p scope.now → AreNoted p self.old → OnOk result (AreNoted p self.new) }
     {
         if let Some(start) = begins(written) {
             self.first.insert(start, noted_type(scope, written))?;
@@ -64,7 +64,7 @@ impl NotedTypes {
 
     /// What this type means, if it is noted.
     pub(crate) fn find(&self, written: Heap) -> Option<ValueType>
-        ensures { (p : Program) (k : ValueType) → AreNoted p self.now → result ≡ Some k → k ≡ type_meant p (type.Heap written) }
+        ensures { (p : ProgramText) (k : ValueType) → AreNoted p self.now → result ≡ Some k → k ≡ type_meant p (type.Heap written) }
     {
         let noted = self.first.get(&begins(written)?)?;
         type_for(*noted, written)
@@ -73,7 +73,7 @@ impl NotedTypes {
 
 /// The type that is noted, if it is what this one means.
 fn type_for(noted: Noted, written: Heap) -> Option<ValueType>
-    ensures { (p : Program) (k : ValueType) → noted.ty ≡ type_meant p (type.Heap noted.written) → result ≡ Some k
+    ensures { (p : ProgramText) (k : ValueType) → noted.ty ≡ type_meant p (type.Heap noted.written) → result ≡ Some k
         → k ≡ type_meant p (type.Heap written) }
 {
     if is_same(noted.written, written) {
@@ -84,7 +84,7 @@ fn type_for(noted: Noted, written: Heap) -> Option<ValueType>
 
 /// Whether two types are written at the same place.
 fn is_same(left: Heap, right: Heap) -> bool
-    ensures { (p : Program) → result ≡ true → type_meant p (type.Heap left) ≡ type_meant p (type.Heap right) }
+    ensures { (p : ProgramText) → result ≡ true → type_meant p (type.Heap left) ≡ type_meant p (type.Heap right) }
 {
     match (left, right) {
         (Heap::Pointer { name, .. }, Heap::Pointer { name: other, .. }) => is_same_name(
@@ -144,7 +144,7 @@ fn begins(written: Heap) -> Option<u32> {
 }
 
 fn noted_type(scope: &Scope<'_>, written: Heap) -> Noted
-    ensures { (p : Program) → IsScope p scope.now → result.ty ≡ type_meant p (type.Heap result.written) }
+    ensures { (p : ProgramText) → IsScope p scope.now → result.ty ≡ type_meant p (type.Heap result.written) }
 {
     Noted {
         written,

@@ -4,7 +4,7 @@ ghost use Rattle.std.specs.Prelude.{◌≡◌, IfOk, map, Option, option_map, op
 ghost use Rattle.std.specs.Option.{option_copied};
 ghost use Rattle.tree.specs.Trees.{item_tree, definition_tree, defined_name};
 ghost use Rattle.declarations.specs.Declarations.{first_among};
-ghost use Rattle.declarations.specs.Program.{Program, contract_named, struct_named, class_named, item_at};
+ghost use Rattle.declarations.specs.Program.{ProgramText, contract_named, struct_named, class_named, item_at};
 ghost use Rattle.declarations.specs.Program.{item_names, as_contract, as_struct, as_class};
 ghost use Rattle.declarations.specs.Named.{field_named};
 ghost use Rattle.declarations.specs.Owning.{owning_named};
@@ -62,7 +62,8 @@ impl<'a> Scope<'a> {
 
     /// The first item of this name, if it is a contract: how many items stand before it, and what it declares.
     pub(crate) fn contract(&self, name: Span) -> Option<(usize, &Declared<'a>)>
-        ensures { (p : Program) → IsScope p self.now → IsContract p.text (contract_named p name) (option_map (λ c. (c.0, c.1.now)) result) }
+        ensures { (p : ProgramText) → IsScope p self.now
+            → IsContract p.text (contract_named p name) (option_map (λ c. (c.0, c.1.now)) result) }
     {
         let index = self.index_of(name)?;
         let declared = self.contract_at(index)?;
@@ -71,7 +72,7 @@ impl<'a> Scope<'a> {
 
     /// What the item at this index declares, if it is a contract.
     pub(crate) fn contract_at(&self, index: usize) -> Option<&Declared<'a>>
-        ensures { (p : Program) → IsScope p self.now
+        ensures { (p : ProgramText) → IsScope p self.now
             → IsContract p.text (item_at as_contract p index) (option_map (λ d. (index, d.now)) result) }
     {
         self.declared_at(index)
@@ -79,7 +80,7 @@ impl<'a> Scope<'a> {
 
     /// The first item of this name, if it is a struct: how many items stand before it, and its fields.
     pub(crate) fn structure(&self, name: Span) -> Option<(usize, &Fields<'a>)>
-        ensures { (p : Program) → IsScope p self.now → IsStruct p.text (struct_named p name) (option_map (λ s. (s.0, s.1.now)) result) }
+        ensures { (p : ProgramText) → IsScope p self.now → IsStruct p.text (struct_named p name) (option_map (λ s. (s.0, s.1.now)) result) }
     {
         let index = self.index_of(name)?;
         let fields = self.structure_at(index)?;
@@ -88,7 +89,7 @@ impl<'a> Scope<'a> {
 
     /// The first item of this name, if it is a struct: how many items stand before it, and its fields that own, in order.
     pub fn owning_fields(&self, name: Span) -> Option<(usize, &[Field])>
-        ensures { (p : Program) → IsScope p self.now → owning_named p name ≡ option_map (λ s. (s.0, s.1.now)) result }
+        ensures { (p : ProgramText) → IsScope p self.now → owning_named p name ≡ option_map (λ s. (s.0, s.1.now)) result }
     {
         match self.structure(name) {
             Some((index, fields)) => Some((index, &fields.owning)),
@@ -98,7 +99,7 @@ impl<'a> Scope<'a> {
 
     /// The fields of the item at this index, if it is a struct.
     pub fn structure_at(&self, index: usize) -> Option<&Fields<'a>>
-        ensures { (p : Program) → IsScope p self.now
+        ensures { (p : ProgramText) → IsScope p self.now
             → IsStruct p.text (item_at as_struct p index) (option_map (λ f. (index, f.now)) result) }
     {
         self.fields_at(index)
@@ -106,7 +107,7 @@ impl<'a> Scope<'a> {
 
     /// The first field of this name in the struct that is the item at this index.
     pub fn field(&self, index: usize, name: Span) -> Option<Field>
-        ensures { (p : Program) → IsScope p self.now
+        ensures { (p : ProgramText) → IsScope p self.now
             → result ≡ option_and_then (λ s. field_named p.text s.1 name) (item_at as_struct p index) }
     {
         let fields = self.fields_at(index)?;
@@ -115,7 +116,7 @@ impl<'a> Scope<'a> {
 
     /// How many fields stand before the first one of this name in the struct that is the item at this index.
     pub fn field_index(&self, structure: usize, name: Span) -> Option<usize>
-        ensures { (p : Program) → IsScope p self.now
+        ensures { (p : ProgramText) → IsScope p self.now
             → result ≡ option_and_then (λ s. first_among p.text (map (λ f. f.name) s.1.fields) name) (item_at as_struct p structure) }
     {
         let fields = self.fields_at(structure)?;
@@ -124,7 +125,7 @@ impl<'a> Scope<'a> {
 
     /// The first item of this name, if it is a class.
     pub fn class(&self, name: Span) -> Option<&ClassMethods<'a>>
-        ensures { (p : Program) → IsScope p self.now → IsClass p.text (class_named p name) (option_map (λ m. m.now) result) }
+        ensures { (p : ProgramText) → IsScope p self.now → IsClass p.text (class_named p name) (option_map (λ m. m.now) result) }
     {
         let index = self.index_of(name)?;
         self.methods_at(index)
@@ -132,7 +133,7 @@ impl<'a> Scope<'a> {
 
     /// How many items stand before the first item of this name, if it is a class.
     pub fn class_index(&self, name: Span) -> Option<usize>
-        ensures { (p : Program) → IsScope p self.now → result ≡ option_map (λ c. c.0) (class_named p name) }
+        ensures { (p : ProgramText) → IsScope p self.now → result ≡ option_map (λ c. c.0) (class_named p name) }
     {
         let index = self.index_of(name)?;
         let _methods = self.methods_at(index)?;
@@ -141,7 +142,7 @@ impl<'a> Scope<'a> {
 
     /// How many methods stand before the first one of this name in the class that is the item at this index.
     pub fn method_index(&self, class: usize, name: Span) -> Option<usize>
-        ensures { (p : Program) → IsScope p self.now
+        ensures { (p : ProgramText) → IsScope p self.now
             → result ≡ option_and_then (λ c. first_among p.text (map (λ m. m.name) c.1.methods) name) (item_at as_class p class) }
     {
         let methods = self.methods_at(class)?;
@@ -150,7 +151,7 @@ impl<'a> Scope<'a> {
 
     /// How many items stand before the first item of this name.
     fn index_of(&self, name: Span) -> Option<usize>
-        ensures { (p : Program) → IsScope p self.now → result ≡ first_among p.text (item_names p) name }
+        ensures { (p : ProgramText) → IsScope p self.now → result ≡ first_among p.text (item_names p) name }
     {
         self.names.find(name.slice(self.text))
     }

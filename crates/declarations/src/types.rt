@@ -5,7 +5,7 @@ ghost use Rattle.tree.specs.Trees.{ContractTree};
 ghost use Rattle.declarations.specs.Mistakes.{Adds};
 ghost use Rattle.declarations.specs.Types.{is_heap, type_meant, pointer_type, endpoint_type};
 ghost use Rattle.declarations.specs.Types.{type_unknown, pointer_unknown, endpoint_unknown};
-ghost use Rattle.declarations.specs.Program.{Program, contract_named, struct_named};
+ghost use Rattle.declarations.specs.Program.{ProgramText, contract_named, struct_named};
 ghost use Rattle.declarations.specs.Scopes.{IsScope, IsDeclared};
 
 use crate::judging::{add_unknown, judge_name};
@@ -27,7 +27,7 @@ pub fn is_heap(written: Type) -> bool
 /// What a written type means.
 #[inline(always)]
 pub(crate) fn type_meant(scope: &Scope<'_>, written: Type) -> ValueType
-    ensures { (p : Program) → IsScope p scope.now → result ≡ type_meant p written }
+    ensures { (p : ProgramText) → IsScope p scope.now → result ≡ type_meant p written }
 {
     match written {
         Type::Scalar(scalar) => ValueType::Scalar(scalar),
@@ -36,7 +36,7 @@ pub(crate) fn type_meant(scope: &Scope<'_>, written: Type) -> ValueType
 }
 
 fn heap_type_meant(scope: &Scope<'_>, written: Heap) -> ValueType
-    ensures { (p : Program) → IsScope p scope.now → result ≡ type_meant p (Type.Heap written) }
+    ensures { (p : ProgramText) → IsScope p scope.now → result ≡ type_meant p (Type.Heap written) }
 {
     match scope.noted.find(written) {
         Some(noted) => noted,
@@ -46,7 +46,7 @@ fn heap_type_meant(scope: &Scope<'_>, written: Heap) -> ValueType
 
 /// What a written type means, by the names in it.
 pub(crate) fn look_up_type(scope: &Scope<'_>, written: Heap) -> ValueType
-    ensures { (p : Program) → IsScope p scope.now → result ≡ type_meant p (Type.Heap written) }
+    ensures { (p : ProgramText) → IsScope p scope.now → result ≡ type_meant p (Type.Heap written) }
 {
     match written {
         Heap::Pointer { name, .. } => pointer_type(scope, name),
@@ -62,7 +62,7 @@ pub(crate) fn look_up_type(scope: &Scope<'_>, written: Heap) -> ValueType
 
 /// The type of a pointer to the struct of this name.
 fn pointer_type(scope: &Scope<'_>, name: Span) -> ValueType
-    ensures { (p : Program) → IsScope p scope.now → result ≡ pointer_type (struct_named p name) }
+    ensures { (p : ProgramText) → IsScope p scope.now → result ≡ pointer_type (struct_named p name) }
 {
     match scope.structure(name) {
         Some((place, _)) => ValueType::Pointer(place),
@@ -71,7 +71,7 @@ fn pointer_type(scope: &Scope<'_>, name: Span) -> ValueType
 }
 
 fn endpoint_type(scope: &Scope<'_>, contract: Span, side: Side, state: Option<Span>) -> ValueType
-    ensures { (p : Program) → IsScope p scope.now → result ≡ endpoint_type p.text (contract_named p contract) side state }
+    ensures { (p : ProgramText) → IsScope p scope.now → result ≡ endpoint_type p.text (contract_named p contract) side state }
 {
     match scope.contract(contract) {
         Some((place, declared)) => end_type(scope.text, place, declared, side, state),
@@ -115,7 +115,7 @@ fn end_type_in(
 ///
 /// `Memory` is returned if a growth was refused.
 pub fn judge_type(scope: &Scope<'_>, written: Type, found: &mut Vec<Mistake>) -> Result<(), Memory>
-    ensures { (p : Program) → IsScope p scope.now → OnOk result (Adds found.old.items found.new.items (type_unknown p written)) }
+    ensures { (p : ProgramText) → IsScope p scope.now → OnOk result (Adds found.old.items found.new.items (type_unknown p written)) }
 {
     match written {
         Type::Scalar(_) => Ok(()),
@@ -124,7 +124,7 @@ pub fn judge_type(scope: &Scope<'_>, written: Type, found: &mut Vec<Mistake>) ->
 }
 
 fn judge_heap(scope: &Scope<'_>, written: Heap, found: &mut Vec<Mistake>) -> Result<(), Memory>
-    ensures { (p : Program) → IsScope p scope.now
+    ensures { (p : ProgramText) → IsScope p scope.now
         → OnOk result (Adds found.old.items found.new.items (type_unknown p (Type.Heap written))) }
 {
     match written {
@@ -140,7 +140,7 @@ fn judge_heap(scope: &Scope<'_>, written: Heap, found: &mut Vec<Mistake>) -> Res
 
 /// Adds the name unless a struct has it.
 fn judge_pointer(scope: &Scope<'_>, name: Span, found: &mut Vec<Mistake>) -> Result<(), Memory>
-    ensures { (p : Program) → IsScope p scope.now
+    ensures { (p : ProgramText) → IsScope p scope.now
         → OnOk result (Adds found.old.items found.new.items (pointer_unknown (struct_named p name) name)) }
 {
     match scope.structure(name) {
@@ -156,7 +156,7 @@ fn judge_endpoint(
     state: Option<Span>,
     found: &mut Vec<Mistake>,
 ) -> Result<(), Memory>
-    ensures { (p : Program) → IsScope p scope.now
+    ensures { (p : ProgramText) → IsScope p scope.now
         → OnOk result (Adds found.old.items found.new.items (endpoint_unknown p.text (contract_named p contract) contract state)) }
 {
     match (scope.contract(contract), state) {

@@ -4,14 +4,14 @@ use Rattle.std.specs.Prelude.{OnErr}
 use Rattle.std.specs.Io.KnownBytes.{Appends}
 use Rattle.std.proofs.KnownBytes.{Appends-trans}
 use Rattle.std.proofs.lemmas.List.{append_assoc, append-nil}
-use Rattle.devices.specs.Devices.{Begins}
+use Rattle.devices.specs.Devices.{TakesBeginning}
 
 -- the whole is a beginning
-pub begins_whole : (a b : Option (List ℕ)) (bytes : List ℕ) → Appends a b bytes → Begins a b bytes
+pub begins_whole : (a b : Option (List ℕ)) (bytes : List ℕ) → Appends a b bytes → TakesBeginning a b bytes
 begins_whole a b bytes all = record { sent = bytes; more = []; whole = append-nil bytes; taken = all }
 
 -- a beginning of the first part is one of both
-pub begins_first : (a b : Option (List ℕ)) (first second : List ℕ) → Begins a b first → Begins a b (first ++ second)
+pub begins_first : (a b : Option (List ℕ)) (first second : List ℕ) → TakesBeginning a b first → TakesBeginning a b (first ++ second)
 begins_first a b first second h = record {
   sent = h.sent;
   more = h.more ++ second;
@@ -20,7 +20,7 @@ begins_first a b first second h = record {
 }
 
 -- the first part, and a beginning of the second
-pub begins_second : (a b c : Option (List ℕ)) (first second : List ℕ) → Appends a b first → Begins b c second → Begins a c (first ++ second)
+pub begins_second : (a b c : Option (List ℕ)) (first second : List ℕ) → Appends a b first → TakesBeginning b c second → TakesBeginning a c (first ++ second)
 begins_second a b c first second all h = record {
   sent = first ++ h.sent;
   more = h.more;
@@ -29,7 +29,7 @@ begins_second a b c first second all h = record {
 }
 
 -- written or not, a beginning went out
-pub begins_either : {T E : Type 0} (r : Result T E) (a b : Option (List ℕ)) (bytes : List ℕ) → OnOk r (Appends a b bytes) → OnErr r (Begins a b bytes) → Begins a b bytes
+pub begins_either : {T E : Type 0} (r : Result T E) (a b : Option (List ℕ)) (bytes : List ℕ) → OnOk r (Appends a b bytes) → OnErr r (TakesBeginning a b bytes) → TakesBeginning a b bytes
 begins_either (Ok x) a b bytes all begun = begins_whole a b bytes all
 begins_either (Err e) a b bytes all begun = begun
 

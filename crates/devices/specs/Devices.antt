@@ -7,7 +7,7 @@ abbrev pub Counts : {T E : Type 0} → ℕ → ℕ → Result T E → Type 0
 Counts old new result = MatchResult result (λ _. new ≡ old) (λ _. new ≡ (old + 1) % 2 ^ 64)
 
 -- a beginning of these bytes was taken
-pub record Begins (old new : Option (List ℕ)) (bytes : List ℕ) : Type 0 where
+pub record TakesBeginning (old new : Option (List ℕ)) (bytes : List ℕ) : Type 0 where
   pub sent : List ℕ
   pub more : List ℕ
   pub whole : sent ++ more ≡ bytes

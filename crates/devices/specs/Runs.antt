@@ -1,7 +1,7 @@
 -- What a run reads and writes.
 use Rattle.std.specs.Prelude.{◌≡◌, ℕ, ◌≤◌, List, length, drop, Option, Some, IfSome}
 use Rattle.std.specs.Io.KnownBytes.{Appends, Consumes}
-use Rattle.devices.specs.Devices.{Begins}
+use Rattle.devices.specs.Devices.{TakesBeginning}
 use Rattle.devices.specs.declared.fault.Status.{Status}
 
 -- the answer to the text was written; by this it is known what answers a text
@@ -15,7 +15,7 @@ pub record BeginsAnswer (answer : List ℕ → List ℕ → Status → Type 0) (
   pub bytes : List ℕ
   pub status : Status
   pub answers : answer text bytes status
-  pub begun : Begins old new bytes
+  pub begun : TakesBeginning old new bytes
 
 -- at most so many bytes were taken, from the front
 pub record TakesAtMost (most : ℕ) (old new : Option (List ℕ)) : Type 0 where

@@ -3,7 +3,7 @@
 ghost use Rattle.std.specs.Prelude.{◌≡◌, ◌≢◌, ◌++◌, codes, OnOk, OnErr};
 ghost use Rattle.std.specs.Fmt.{decimal};
 ghost use Rattle.std.specs.Io.KnownBytes.{Appends};
-ghost use Rattle.devices.specs.Devices.{Begins};
+ghost use Rattle.devices.specs.Devices.{TakesBeginning};
 ghost use Rattle.devices.specs.Endings.{status_of, line_of};
 
 use crate::device::Sink;
@@ -18,7 +18,7 @@ use itoa::Buffer;
 /// beginning of it where it does. The status is answered also where the line cannot be written; no memory is taken.
 pub fn ending<W: Sink>(fault: &RunFault, name: &str, writer: &mut W) -> u8
     ensures status { result ≡ status_of fault.now }
-    ensures begun { Begins (W.contents writer.old) (W.contents writer.new) (line_of fault.now name.now) }
+    ensures begun { TakesBeginning (W.contents writer.old) (W.contents writer.new) (line_of fault.now name.now) }
     ensures whole { W.failed writer.new ≡ W.failed writer.old
         → Appends (W.contents writer.old) (W.contents writer.new) (line_of fault.now name.now) }
 {
@@ -38,7 +38,7 @@ fn exit_status(fault: &RunFault) -> u8
 
 fn write_line<W: Sink>(fault: &RunFault, name: &str, writer: &mut W) -> Result<(), RunFault>
     ensures all { OnOk result (Appends (W.contents writer.old) (W.contents writer.new) (line_of fault.now name.now)) }
-    ensures begun { OnErr result (Begins (W.contents writer.old) (W.contents writer.new) (line_of fault.now name.now)) }
+    ensures begun { OnErr result (TakesBeginning (W.contents writer.old) (W.contents writer.new) (line_of fault.now name.now)) }
     ensures write { OnErr result (W.failed writer.new ≢ W.failed writer.old) }
 {
     match fault {
@@ -56,7 +56,7 @@ fn write_line<W: Sink>(fault: &RunFault, name: &str, writer: &mut W) -> Result<(
 fn write_schedule_line<W: Sink>(line: u32, writer: &mut W) -> Result<(), RunFault>
     ensures all { OnOk result (Appends (W.contents writer.old) (W.contents writer.new)
         (codes "singcheck: schedule line " ++ (decimal line ++ codes "\n"))) }
-    ensures begun { OnErr result (Begins (W.contents writer.old) (W.contents writer.new)
+    ensures begun { OnErr result (TakesBeginning (W.contents writer.old) (W.contents writer.new)
         (codes "singcheck: schedule line " ++ (decimal line ++ codes "\n"))) }
     ensures write { OnErr result (W.failed writer.new ≢ W.failed writer.old) }
 {
@@ -67,7 +67,7 @@ fn write_schedule_line<W: Sink>(line: u32, writer: &mut W) -> Result<(), RunFaul
 /// Writes a line that ends with a name.
 fn write_named<W: Sink>(front: &[u8], name: &str, writer: &mut W) -> Result<(), RunFault>
     ensures all { OnOk result (Appends (W.contents writer.old) (W.contents writer.new) (front.now ++ (name.now ++ codes "\n"))) }
-    ensures begun { OnErr result (Begins (W.contents writer.old) (W.contents writer.new) (front.now ++ (name.now ++ codes "\n"))) }
+    ensures begun { OnErr result (TakesBeginning (W.contents writer.old) (W.contents writer.new) (front.now ++ (name.now ++ codes "\n"))) }
     ensures write { OnErr result (W.failed writer.new ≢ W.failed writer.old) }
 {
     write_all(front, writer)?;

@@ -2,7 +2,7 @@
 
 ghost use Rattle.std.specs.Prelude.{◌≡◌, ◌≢◌, ◌++◌, List, ℕ, OnOk, OnErr, IsErrOf};
 ghost use Rattle.std.specs.Io.KnownBytes.{Appends};
-ghost use Rattle.devices.specs.Devices.{Begins};
+ghost use Rattle.devices.specs.Devices.{TakesBeginning};
 
 use crate::device::{Failed, Sink};
 use crate::fault::RunFault;
@@ -13,7 +13,7 @@ use crate::fault::RunFault;
 pub fn write_all<W: Sink>(bytes: &[u8], writer: &mut W) -> Result<(), RunFault>
     ensures all { OnOk result (Appends (W.contents writer.old) (W.contents writer.new) bytes.now) }
     ensures same { OnOk result (W.failed writer.new ≡ W.failed writer.old) }
-    ensures begun { OnErr result (Begins (W.contents writer.old) (W.contents writer.new) bytes.now) }
+    ensures begun { OnErr result (TakesBeginning (W.contents writer.old) (W.contents writer.new) bytes.now) }
     ensures write { OnErr result (W.failed writer.new ≢ W.failed writer.old) }
     ensures only { OnErr result (IsErrOf result RunFault.Write) }
 {

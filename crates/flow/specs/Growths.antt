@@ -10,8 +10,8 @@ pub record Grew (old new : List Instr) (entry : ℕ) (laid : Laid) : Type 0 wher
   pub instructions : map instruction_model new ≡ map instruction_model old ++ laid.instructions
   pub begins : entry ≡ laid.entry
 
--- of a row, the last ones are laid, and the rest is not
-pub record Behind {A : Type 0} (all rest done : List A) (old new : List Instr) (entry : ℕ) (lays : List A → Laid) : Type 0 where
+-- of a list, the last ones are laid, and the rest is not
+pub record LaysEnd {A : Type 0} (all rest done : List A) (old new : List Instr) (entry : ℕ) (lays : List A → Laid) : Type 0 where
   pub split : all ≡ rest ++ done
   pub grew : Grew old new entry (lays done)
 

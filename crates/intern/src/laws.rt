@@ -11,7 +11,7 @@ ghost use Rattle.intern.specs.Layout.{word};
 ghost use Rattle.intern.specs.Rule.{Filled};
 ghost use Rattle.intern.specs.Seats.{IsOfEmptyTable, IsSeatOf, IsStateFor, slots_of, view};
 ghost use Rattle.intern.specs.RowIds.{HasNoRoom, IsFaithful, IsKnown, Names};
-ghost use Rattle.intern.specs.View.{Grows, IsInside, IsSound, IsWalk, Knowledge, View};
+ghost use Rattle.intern.specs.View.{ViewGrows, IsInside, IsSoundView, LeadsDown, Knowledge, View};
 ghost use Rattle.intern.specs.contracts.row_table.Rows as rows;
 ghost use Rattle.intern.specs.declared.layout.TheConstants.{LEAVES, LENGTHS, MOST_LOOKS, MOST_SLOTS};
 ghost use Rattle.intern.specs.declared.row_table.Rows.{Rows};
@@ -38,27 +38,27 @@ pub fn each_leaf_has_a_number()
 /// What a seat knows: one word at a slot and one slot for a word, all within the limits and at slots of its table, and each tail
 /// one shorter. So of any two ids that it knows, they are equal exactly where their rows are.
 pub fn what_a_seat_knows_is_sound()
-    ensures sound { (seat : Seat) → IsSound (view seat) }
+    ensures sound { (seat : Seat) → IsSoundView (view seat) }
     ensures inside { (rows : Rows) (seat : Seat) → IsSeatOf rows seat → IsInside (slots_of rows) (view seat) }
     ensures faithful { (seat : Seat) → IsFaithful (view seat) }
 {}
 
 /// An id that a seat knows is known at any later time, and names the same row.
 pub fn an_id_names_its_row_for_good()
-    ensures known { (v u : View) → Grows v u → (row_id : RowId) → IsKnown v row_id → IsKnown u row_id }
-    ensures names { (v u : View) → Grows v u → (row_id : RowId) (row : List Leaf) → Names v row_id row → Names u row_id row }
+    ensures known { (v u : View) → ViewGrows v u → (row_id : RowId) → IsKnown v row_id → IsKnown u row_id }
+    ensures names { (v u : View) → ViewGrows v u → (row_id : RowId) (row : List Leaf) → Names v row_id row → Names u row_id row }
 {}
 
 /// An id is known exactly where its words are: that of its slot and, while the length is above 1, that of the slot which it
 /// names, down to length 1.
 pub fn an_id_is_a_walk()
-    ensures walk { (v : View) (slot : ℕ) (row : List Leaf) → Names v (At slot) row → IsWalk v (length row) slot }
-    ensures known { (v : View) → IsSound v → (n slot : ℕ) → IsWalk v n slot → IsKnown v (At slot) }
+    ensures walk { (v : View) (slot : ℕ) (row : List Leaf) → Names v (At slot) row → LeadsDown v (length row) slot }
+    ensures known { (v : View) → IsSoundView v → (n slot : ℕ) → LeadsDown v n slot → IsKnown v (At slot) }
 {}
 
 /// A row for which a seat once knew no room has none, whatever the seat learns.
 pub fn a_full_table_stays_full()
-    ensures { (rows : Rows) (v : View) (seat : Seat) → IsSeatOf rows seat → Grows v (view seat)
+    ensures { (rows : Rows) (v : View) (seat : Seat) → IsSeatOf rows seat → ViewGrows v (view seat)
         → (row : List Leaf) → HasNoRoom (slots_of rows) v row → HasNoRoom (slots_of rows) (view seat) row }
 {}
 

@@ -1,7 +1,7 @@
 //! What one thread knows of a table.
 
 ghost use Rattle.std.specs.Prelude.{◌≡◌, []};
-ghost use Rattle.intern.specs.View.{IsInside, IsSound};
+ghost use Rattle.intern.specs.View.{IsInside, IsSoundView};
 
 use crate::table::Knowledge;
 
@@ -10,7 +10,7 @@ use crate::table::Knowledge;
 #[derive(Drop)]
 pub struct Seat {
     pub(crate) inner: atomic_table::Seat<(), Knowledge>,
-    ghost sound: { IsSound inner.me.0.0 },
+    ghost sound: { IsSoundView inner.me.0.0 },
     ghost inside: { IsInside inner.table_id.words inner.me.0.0 },
     ghost no_slots: { inner.me.1 ≡ [] },
 }

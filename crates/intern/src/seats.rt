@@ -5,7 +5,7 @@ ghost use Rattle.intern.specs.declared.fault.InternNew.TheVariants.{Slots};
 ghost use Rattle.intern.specs.Layout.{IsTableSize};
 ghost use Rattle.intern.specs.Seats.{IsOfEmptyTable, IsSeatOf, slots_of, view};
 ghost use Rattle.intern.specs.RowIds.{IsFaithful};
-ghost use Rattle.intern.specs.View.{Grows};
+ghost use Rattle.intern.specs.View.{ViewGrows};
 
 use crate::fault::InternNew;
 use crate::layout::MOST_SLOTS;
@@ -59,8 +59,8 @@ impl Rows {
         requires a { IsSeatOf self.now a }
         requires b { IsSeatOf self.now b }
         ensures seat { IsOkAnd result (λ whole. IsSeatOf self.now whole) }
-        ensures a { IfOk result (λ whole. Grows (view a) (view whole)) }
-        ensures b { IfOk result (λ whole. Grows (view b) (view whole)) }
+        ensures a { IfOk result (λ whole. ViewGrows (view a) (view whole)) }
+        ensures b { IfOk result (λ whole. ViewGrows (view b) (view whole)) }
         ensures faithful { IfOk result (λ whole. IsFaithful (view whole)) }
     {
         let Seat { inner: mut whole } = a;

@@ -11,7 +11,7 @@ use Rattle.program.specs.declared.contract.Sign.{Sign}
 use Rattle.program.specs.declared.types.Side.{Side}
 use Rattle.program.specs.declared.number.StateId.{StateId}
 use Rattle.contracts.specs.Bounds.{IsBound, sign_to}
-use Rattle.machine.specs.Outcomes.{Bounds}
+use Rattle.machine.specs.Outcomes.{QueueBounds}
 use Rattle.machine.specs.Runs.{AreBounds}
 
 -- a contract has one bound for each sign
@@ -28,7 +28,7 @@ one_bound edges first sign m n one y = ∥∥₁_elim one (ℕ_set m n) (λ x.
     omega (arith, up, down))
 
 -- it is the one of the program
-pub bound_is : (p : ProgramModel) (bound : Bounds) (n : ℕ) (side : Side) (parts : Parts) (k : ℕ) → AreBounds p bound
+pub bound_is : (p : ProgramModel) (bound : QueueBounds) (n : ℕ) (side : Side) (parts : Parts) (k : ℕ) → AreBounds p bound
     → option_map (λ (c : ContractModel). c.parts) (slice_get p.contracts n) ≡ Some parts → ∥ IsBound parts.edges parts.first (sign_to side) k ∥₁ → k ≡ bound n side
 bound_is p bound n side parts k are there is = at (slice_get p.contracts n) refl there
   where
@@ -42,5 +42,5 @@ outside : (contracts : List ContractModel) (n : ℕ) → slice_get contracts n �
 outside contracts n none = ⊎_elim (λ h. absurd (let there = h.2 in cc)) (λ h. h.0) (slice_get_cases contracts n).1
 
 -- where there is no contract, there is no room
-pub bound_past : (p : ProgramModel) (bound : Bounds) (n : ℕ) (side : Side) → AreBounds p bound → slice_get p.contracts n ≡ None → 0 ≡ bound n side
+pub bound_past : (p : ProgramModel) (bound : QueueBounds) (n : ℕ) (side : Side) → AreBounds p bound → slice_get p.contracts n ≡ None → 0 ≡ bound n side
 bound_past p bound n side are none = sym (are.past n side (outside p.contracts n none))

@@ -11,7 +11,7 @@ use Rattle.flow.specs.Graphs.{Call}
 use Rattle.machine.specs.Answers.{IsFirstFault, IsRefusal, Pass, Tells, entered_on, on_stack, with_stack, with_variables}
 use Rattle.machine.specs.Blocks.{argument_tests_in}
 use Rattle.machine.specs.Frames.{entered}
-use Rattle.machine.specs.Outcomes.{Bounds, Outcome, Faulty, Moved, Test, tested}
+use Rattle.machine.specs.Outcomes.{QueueBounds, Outcome, Faulty, Moved, FaultTest, tested}
 use Rattle.machine.specs.Views.{frame_model, stack_of}
 use Rattle.machine.specs.World.{Block, Frame, World, let_go}
 use Rattle.machine.proofs.FrameLemmas.{given_for}
@@ -26,20 +26,20 @@ passed_on X (Ok y) x is = absurd is
 passed_on X (Err e) x is = ap (λ t. Err t) is
 
 -- tests that pass, and nothing behind them
-pub pass_alone : (tests : List Test) (outcome : Outcome) → Pass tests → tested tests outcome ≡ outcome
+pub pass_alone : (tests : List FaultTest) (outcome : Outcome) → Pass tests → tested tests outcome ≡ outcome
 pass_alone tests outcome pass = ap (λ l. tested l outcome) (sym (append-nil tests)) ∙ pass [] outcome
 
 -- where no first fault is found, the tests pass
-pub none_passes : (tests : List Test) (r : Option Fault) → r ≡ None → IsFirstFault r tests → Pass tests
+pub none_passes : (tests : List FaultTest) (r : Option Fault) → r ≡ None → IsFirstFault r tests → Pass tests
 none_passes tests None is pass = pass
 none_passes tests (Some fault) is pass = absurd (cc)
 
 -- an outcome that is one of these tests is their fault
-pub refused_alone : (tests : List Test) (fault : Fault) (outcome o : Outcome) → IsFirstFault (Some fault) tests → o ≡ tested tests outcome → o ≡ Faulty fault
+pub refused_alone : (tests : List FaultTest) (fault : Fault) (outcome o : Outcome) → IsFirstFault (Some fault) tests → o ≡ tested tests outcome → o ≡ Faulty fault
 refused_alone tests fault outcome o h is = is ∙ (ap (λ l. tested l outcome) (sym (append-nil tests)) ∙ h [] outcome)
 
 -- an outcome that is one of these tests tells their refusal
-pub told_alone : (X : Type 0) (r : Result X Refusal) (x : Refusal) (tests : List Test) (outcome o : Outcome) (after : World) → r ≡ Err x → IsRefusal x tests → o ≡ tested tests outcome → Tells r o after
+pub told_alone : (X : Type 0) (r : Result X Refusal) (x : Refusal) (tests : List FaultTest) (outcome o : Outcome) (after : World) → r ≡ Err x → IsRefusal x tests → o ≡ tested tests outcome → Tells r o after
 told_alone X r x tests outcome o after e h is = subst (λ t. Tells t o after) (sym e) (at x h)
   where
     at : (y : Refusal) → IsRefusal y tests → Tells {X = X} (Err y) o after
@@ -53,7 +53,7 @@ called_to p w self f waiting method arguments =
     Moved (with_stack w self (entered p method.0 (given_for (frame_model f).variables arguments) ∷ with_variables (frame_model f) (let_go (frame_model f).variables arguments) ∷ map frame_model (reverse waiting)) w.blocks)
 
 -- a call: its tests, and then that
-pub call_is : (p : ProgramModel) (bound : Bounds) (w : World) (self : ℕ) (place : Place) (method : MethodId) (arguments given : List Argument) (target : Option Mention) (next : ℕ) (top : Option made.Frame.Frame) (waiting : List made.Frame.Frame) (f : made.Frame.Frame) (bs : List Block)
+pub call_is : (p : ProgramModel) (bound : QueueBounds) (w : World) (self : ℕ) (place : Place) (method : MethodId) (arguments given : List Argument) (target : Option Mention) (next : ℕ) (top : Option made.Frame.Frame) (waiting : List made.Frame.Frame) (f : made.Frame.Frame) (bs : List Block)
     → top ≡ Some f → w.blocks ≡ bs → given ≡ arguments
     → on_stack p bound w self (Call place method arguments target next) 0 (stack_of top waiting) ≡ tested (argument_tests_in bs self (frame_model f).variables [] given) (called_to p w self f waiting method arguments)
 call_is p bound w self place method arguments given target next top waiting f bs e is args =

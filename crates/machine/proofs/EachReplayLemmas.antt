@@ -10,10 +10,10 @@ use Rattle.program.specs.Programs.{ProgramModel}
 use Rattle.flow.specs.Graphs.{Instruction}
 use Rattle.machine.specs.Frames.{instruction_at}
 use Rattle.machine.specs.Machine.{outcome_of, outcome_in, event_outcome}
-use Rattle.machine.specs.Outcomes.{Bounds, Outcome, Moved, Faulty, Waits, NoProcess, NoChoice, TellsStep}
+use Rattle.machine.specs.Outcomes.{QueueBounds, Outcome, Moved, Faulty, Waits, NoProcess, NoChoice, TellsStep}
 use Rattle.machine.specs.Places.{place_of, process_place, stack_place}
-use Rattle.machine.specs.Replays.{IsKnown, IsReplay, ReplayModel}
-use Rattle.machine.specs.Runs.{Leads, moves, start_of, stays}
+use Rattle.machine.specs.Replays.{MayEndReplay, IsReplay, ReplayModel}
+use Rattle.machine.specs.Runs.{RunsTo, moves, start_of, stays}
 use Rattle.machine.specs.World.{Frame, World, stack_at}
 use Rattle.machine.specs.declared.halts.Event.{Event}
 use Rattle.machine.specs.declared.halts.Fault.{Fault}
@@ -21,25 +21,25 @@ use Rattle.machine.specs.declared.halts.Halt.{Halt}
 use Rattle.machine.specs.declared.halts.Halt.TheVariants as halt
 
 -- a fault has a place
-place_at : (p : ProgramModel) (bound : Bounds) (w : World) (e : Event) (fault : Fault) (f : Frame) (rest : List Frame)
+place_at : (p : ProgramModel) (bound : QueueBounds) (w : World) (e : Event) (fault : Fault) (f : Frame) (rest : List Frame)
     (i : Option Instruction)
     → outcome_of p bound w e f rest i ≡ Faulty fault → (at : Place) × (option_map place_of i ≡ Some at)
 place_at p bound w e fault f rest None is = absurd (cc)
 place_at p bound w e fault f rest (Some i) is = (place_of i, refl)
 
-place_in : (p : ProgramModel) (bound : Bounds) (w : World) (e : Event) (fault : Fault) (stack : List Frame)
+place_in : (p : ProgramModel) (bound : QueueBounds) (w : World) (e : Event) (fault : Fault) (stack : List Frame)
     → outcome_in p bound w e stack ≡ Faulty fault → (at : Place) × (stack_place p stack ≡ Some at)
 place_in p bound w e fault [] is = absurd (cc)
 place_in p bound w e fault (f ∷ rest) is = place_at p bound w e fault f rest (instruction_at p f) is
 
 -- an event that is no step of a world, and why
-record IsStopped (p : ProgramModel) (bound : Bounds) (w : World) (e : Event) : Type 0 where
+record IsStopped (p : ProgramModel) (bound : QueueBounds) (w : World) (e : Event) : Type 0 where
   pub why : Halt
   pub tells : TellsStep {X = Unit {0}} (Err why) (event_outcome p bound w e) (process_place p w e.process) w
-  pub known : IsKnown (Some why)
+  pub known : MayEndReplay (Some why)
 
 -- an event is a step, or there is a reason why not
-step_or_stop : (p : ProgramModel) (bound : Bounds) (w : World) (e : Event) (o : Outcome) → event_outcome p bound w e ≡ o
+step_or_stop : (p : ProgramModel) (bound : QueueBounds) (w : World) (e : Event) (o : Outcome) → event_outcome p bound w e ≡ o
     → ((v : World) × (event_outcome p bound w e ≡ Moved v)) ⊎ IsStopped p bound w e
 step_or_stop p bound w e (Moved v) is = inl (v, is)
 step_or_stop p bound w e (Faulty f) is =
@@ -54,8 +54,8 @@ abbrev no_event : Event
 no_event = record { process = 0; choice = 0 }
 
 -- a replay, of which so many steps are taken and so many events are left
-replay_from : (p : ProgramModel) (bound : Bounds) (m : ℕ) (events : List Event) (left steps : ℕ) (w : World) → steps + left ≡ length events
-    → Leads p bound (start_of p m) (take steps events) w → (r : ReplayModel) × IsReplay p bound m events r
+replay_from : (p : ProgramModel) (bound : QueueBounds) (m : ℕ) (events : List Event) (left steps : ℕ) (w : World) → steps + left ≡ length events
+    → RunsTo p bound (start_of p m) (take steps events) w → (r : ReplayModel) × IsReplay p bound m events r
 replay_from p bound m events zero steps w all led =
     let ended : steps ≡ length events = omega arith in
     (record { world = w; steps = steps; halt = None }, record { leads = led; ends = ended; known = tt })
@@ -63,7 +63,7 @@ replay_from p bound m events (suc left) steps w all led =
     let e = get_or events steps no_event in
     ⊎_elim
     (λ moved. replay_from p bound m events left (steps + 1) moved.0 (omega arith)
-    (subst (λ taken. Leads p bound (start_of p m) taken moved.0) (sym (take_more events steps no_event (omega arith)))
+    (subst (λ taken. RunsTo p bound (start_of p m) taken moved.0) (sym (take_more events steps no_event (omega arith)))
     (moves (take steps events) w moved.0 e led moved.1)))
     (λ stopped. (
       record { world = w; steps = steps; halt = Some stopped.why },
@@ -75,5 +75,5 @@ replay_from p bound m events (suc left) steps w all led =
     ))
     (step_or_stop p bound w e (event_outcome p bound w e) refl)
 
-pub each_replay : (p : ProgramModel) (bound : Bounds) (m : ℕ) (events : List Event) → (r : ReplayModel) × IsReplay p bound m events r
+pub each_replay : (p : ProgramModel) (bound : QueueBounds) (m : ℕ) (events : List Event) → (r : ReplayModel) × IsReplay p bound m events r
 each_replay p bound m events = replay_from p bound m events (length events) 0 (start_of p m) (omega arith) stays

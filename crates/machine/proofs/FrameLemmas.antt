@@ -10,7 +10,7 @@ use Rattle.program.specs.declared.number.VarId.{VarId}
 use Rattle.program.specs.declared.statement.Mention.{Mention}
 use Rattle.machine.specs.Answers.{Pass}
 use Rattle.machine.specs.Frames.{bound_to, filled, payloads_claimed}
-use Rattle.machine.specs.Outcomes.{Faulty, Outcome, Test, test, tested}
+use Rattle.machine.specs.Outcomes.{Faulty, Outcome, FaultTest, test, tested}
 use Rattle.machine.specs.World.{Block, is_own_in, let_go, read}
 use Rattle.machine.specs.declared.halts.Fault.TheVariants.{F1}
 use Rattle.machine.proofs.GiveLemmas.{passes, refuses}
@@ -134,17 +134,17 @@ filled_all has variables arguments done given so_far le h =
     sym (h.is ∙ (ap (λ l. so_far ++ l) (at_drop_all (λ l. filled (map variable_model l) (given_for has (drop given arguments))) variables done le) ∙ append-nil so_far))
 
 -- the tests that the process has the block in each of these variables
-abbrev pub own_tests : List Block → ℕ → List (Option ℕ) → List Mention → List Test
+abbrev pub own_tests : List Block → ℕ → List (Option ℕ) → List Mention → List FaultTest
 own_tests blocks self variables endpoints = map (λ e. test (is_own_in blocks self (read variables e.variable.0)) F1) endpoints
 
 -- so many were looked at
 pub record Own (blocks : List Block) (self : ℕ) (variables : List (Option ℕ)) (endpoints : List Mention) (done : ℕ) : Type 0 where
-  pub tests : (more : List Test) (o : Outcome) → tested (own_tests blocks self variables endpoints ++ more) o ≡ tested (own_tests blocks self variables (drop done endpoints) ++ more) o
+  pub tests : (more : List FaultTest) (o : Outcome) → tested (own_tests blocks self variables endpoints ++ more) o ≡ tested (own_tests blocks self variables (drop done endpoints) ++ more) o
 
 pub own_none : (blocks : List Block) (self : ℕ) (variables : List (Option ℕ)) (endpoints : List Mention) → Own blocks self variables endpoints 0
 own_none blocks self variables endpoints = record { tests = λ more o. refl }
 
-own_left : (blocks : List Block) (self : ℕ) (variables : List (Option ℕ)) (endpoints : List Mention) (done : ℕ) (d : Mention) (more : List Test) (o : Outcome) → done < length endpoints → Own blocks self variables endpoints done
+own_left : (blocks : List Block) (self : ℕ) (variables : List (Option ℕ)) (endpoints : List Mention) (done : ℕ) (d : Mention) (more : List FaultTest) (o : Outcome) → done < length endpoints → Own blocks self variables endpoints done
     → tested (own_tests blocks self variables endpoints ++ more) o
     ≡ tested (test (is_own_in blocks self (read variables (slice_index_or endpoints done d).variable.0)) F1 ∷ (own_tests blocks self variables (drop (done + 1) endpoints) ++ more)) o
 own_left blocks self variables endpoints done d more o lt h =
@@ -161,7 +161,7 @@ own_more blocks self variables endpoints done d lt is h =
 
 pub own_fails : (blocks : List Block) (self : ℕ) (variables : List (Option ℕ)) (endpoints : List Mention) (done : ℕ) (d : Mention) → done < length endpoints
     → is_own_in blocks self (read variables (slice_index_or endpoints done d).variable.0) ≡ false → Own blocks self variables endpoints done
-    → (more : List Test) (o : Outcome) → tested (own_tests blocks self variables endpoints ++ more) o ≡ Faulty F1
+    → (more : List FaultTest) (o : Outcome) → tested (own_tests blocks self variables endpoints ++ more) o ≡ Faulty F1
 own_fails blocks self variables endpoints done d lt is h more o =
     own_left blocks self variables endpoints done d more o lt h
     ∙ refuses (is_own_in blocks self (read variables (slice_index_or endpoints done d).variable.0)) F1 (own_tests blocks self variables (drop (done + 1) endpoints) ++ more) o is

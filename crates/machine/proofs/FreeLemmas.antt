@@ -4,7 +4,7 @@ use Rattle.std.proofs.Common.{refl, sym, ap, ◌∙◌, subst, arith, false, tru
 use Rattle.std.specs.Prelude.{if◌then◌else◌}
 use Rattle.machine.specs.Blocks.{freed_block, goes_with}
 use Rattle.machine.specs.Freeing.{IsStep, fields_left, freed_one}
-use Rattle.machine.specs.Heaps.{IsBrought, IsHeld, of_process, one_if}
+use Rattle.machine.specs.Heaps.{QueuesBring, FieldsHold, of_process, one_if}
 use Rattle.machine.specs.World.{Block, block_at, changed, freed, is_freed}
 use Rattle.machine.specs.declared.worlds.Owner.TheVariants.{Freed}
 use Rattle.machine.proofs.ChangeLemmas.{eqb_apart, eqb_same}
@@ -72,14 +72,14 @@ size_freed bs x short empty lives = size_less (freed_one x) bs x short
 -- ---- the way
 -- what is left when the way ends, or what is true where it goes on
 abbrev pub IsOnWay : List Block → ℕ → List Block → Option ℕ → Type 0
-IsOnWay old a now None = (now ≡ changed (freed_block (goes_with old a)) old) × IsBrought now
-IsOnWay old a now (Some x) = Frees old a now x × IsBrought now
+IsOnWay old a now None = (now ≡ changed (freed_block (goes_with old a)) old) × QueuesBring now
+IsOnWay old a now (Some x) = Frees old a now x × QueuesBring now
 
 abbrev pub left_over : List Block → Option ℕ → ℕ
 left_over now None = size now
 left_over now (Some x) = size now + 1
 
-pub way_begins : (bs : List Block) (a : ℕ) → IsHeld bs → IsBrought bs → of_process (block_at bs a).owner ≡ true → IsOnWay bs a bs (Some a)
+pub way_begins : (bs : List Block) (a : ℕ) → FieldsHold bs → QueuesBring bs → of_process (block_at bs a).owner ≡ true → IsOnWay bs a bs (Some a)
 way_begins bs a h is own = (begins bs a h own, is)
 
 pub way_there : (old : List Block) (a : ℕ) (now : List Block) (x : ℕ) → IsOnWay old a now (Some x) → x < length now
@@ -90,15 +90,15 @@ pub way_on : (old : List Block) (a : ℕ) (now new : List Block) (x : ℕ) (r : 
     → IsOnWay old a new r
 way_on old a now new x None h s = (
   s.0.blocks ∙ (is_done old a now x h.0 s.0.empty s.1).1,
-  subst IsBrought (sym s.0.blocks) (brought_freed now x (x_there old a now x h.0) (x_no_queue old a now x h.0) h.1),
+  subst QueuesBring (sym s.0.blocks) (brought_freed now x (x_there old a now x h.0) (x_no_queue old a now x h.0) h.1),
 )
 way_on old a now new x (Some y) h (inl s) =
-    subst (λ (bs : List Block). Frees old a bs y × IsBrought bs) (sym s.blocks) (
+    subst (λ (bs : List Block). Frees old a bs y × QueuesBring bs) (sym s.blocks) (
       goes_down_into old a now x h.0 s.rest y s.fields,
       brought_kept (fields_left x s.rest) now (λ j b. refl) (λ j b. refl) h.1,
     )
 way_on old a now new x (Some y) h (inr s) =
-    subst (λ (bs : List Block). Frees old a bs y × IsBrought bs) (sym s.0.blocks) (
+    subst (λ (bs : List Block). Frees old a bs y × QueuesBring bs) (sym s.0.blocks) (
       goes_up_to old a now x h.0 s.0.empty y s.1,
       brought_freed now x (x_there old a now x h.0) (x_no_queue old a now x h.0) h.1,
     )

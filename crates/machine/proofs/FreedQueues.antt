@@ -6,7 +6,7 @@ use Rattle.program.specs.Lists.{is_among}
 use Rattle.machine.specs.Answers.{left_in}
 use Rattle.machine.specs.Blocks.{handed, in_queue_of}
 use Rattle.machine.specs.Freeing.{freed_one}
-use Rattle.machine.specs.Heaps.{IsBrought, brings, occurs, one_if}
+use Rattle.machine.specs.Heaps.{QueuesBring, brings, occurs, one_if}
 use Rattle.machine.specs.World.{Block, MessageHeld, block_at, changed, is_queue}
 use Rattle.machine.specs.declared.worlds.Owner.{Owner}
 use Rattle.machine.specs.declared.worlds.Owner.TheVariants.{Process, Queue, Inside, Channel, Freed}
@@ -24,7 +24,7 @@ changed_at f g (b ∷ bs) same =
     changed_at (λ a. f (suc a)) (λ a. g (suc a)) bs (λ j short. same (suc j) (omega arith)) in
     cc
 
-among_queue : (bs : List Block) (x j : ℕ) → IsBrought bs → is_among (brings (block_at bs x).queue) j ≡ is_queue (block_at bs j).owner x
+among_queue : (bs : List Block) (x j : ℕ) → QueuesBring bs → is_among (brings (block_at bs x).queue) j ≡ is_queue (block_at bs j).owner x
 among_queue bs x j is = ⊎_elim
     (λ t. t ∙ sym (queue_of_some (is_queue (block_at bs j).owner x) (occurs (brings (block_at bs x).queue) j)
     (some_occurs (brings (block_at bs x).queue) j t) (is.brings_are x j)))
@@ -43,7 +43,7 @@ queue_one Channel x = refl
 queue_one Freed x = refl
 
 -- Its queue is taken, what that brought goes to the channel, and it is nobody's: that is to free it, if its fields hold nothing.
-pub freed_is : (bs : List Block) (x : ℕ) → IsBrought bs → (block_at bs x).fields ≡ []
+pub freed_is : (bs : List Block) (x : ℕ) → QueuesBring bs → (block_at bs x).fields ≡ []
     → changed (handed Freed (x ∷ [])) (changed (handed Channel (brings (block_at bs x).queue)) (changed (left_in x []) bs))
     ≡ changed (freed_one x) bs
 freed_is bs x is empty =
@@ -84,8 +84,8 @@ freed_at true false false a b j q o e none queue is =
 freed_at false false false a b j q o e none queue is = is
 
 -- a block is freed that no queue owns
-pub brought_freed : (bs : List Block) (x : ℕ) → x < length bs → ((c : ℕ) → is_queue (block_at bs x).owner c ≡ false) → IsBrought bs
-    → IsBrought (changed (freed_one x) bs)
+pub brought_freed : (bs : List Block) (x : ℕ) → x < length bs → ((c : ℕ) → is_queue (block_at bs x).owner c ≡ false) → QueuesBring bs
+    → QueuesBring (changed (freed_one x) bs)
 brought_freed bs x short none is =
     brought_by (freed_one x) bs (λ j h. ap (λ t. if t then Freed else Channel) (eqb_apart j x (λ e. omega arith)))
     (λ b h. same_both (b == x) [])

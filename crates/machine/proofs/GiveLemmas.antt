@@ -15,13 +15,13 @@ use Rattle.machine.specs.declared.halts.Fault.{Fault}
 use Rattle.machine.specs.declared.halts.Fault.TheVariants.{F1, F3}
 use Rattle.machine.specs.Blocks.{is_own_still, argument_tests_in}
 use Rattle.machine.specs.Frames.{address, addresses, payloads_claimed}
-use Rattle.machine.specs.Outcomes.{Test, Outcome, Faulty, test, tested}
+use Rattle.machine.specs.Outcomes.{FaultTest, Outcome, Faulty, test, tested}
 use Rattle.machine.specs.World.{Block, read}
 
-pub passes : (b : Bool) (f : Fault) (ts : List Test) (o : Outcome) → b ≡ true → tested (test b f ∷ ts) o ≡ tested ts o
+pub passes : (b : Bool) (f : Fault) (ts : List FaultTest) (o : Outcome) → b ≡ true → tested (test b f ∷ ts) o ≡ tested ts o
 passes b f ts o h = ap (λ t. tested (test t f ∷ ts) o) h
 
-pub refuses : (b : Bool) (f : Fault) (ts : List Test) (o : Outcome) → b ≡ false → tested (test b f ∷ ts) o ≡ Faulty f
+pub refuses : (b : Bool) (f : Fault) (ts : List FaultTest) (o : Outcome) → b ≡ false → tested (test b f ∷ ts) o ≡ Faulty f
 refuses b f ts o h = ap (λ t. tested (test t f ∷ ts) o) h
 
 -- ---- what is claimed
@@ -87,7 +87,7 @@ claims_not variables arguments n a d lt none misses =
 -- ---- the tests
 -- So many arguments were looked at, and their tests passed.
 pub record Given (blocks : List Block) (self : ℕ) (variables : List (Option ℕ)) (arguments : List Argument) (done : ℕ) : Type 0 where
-  pub tests : (more : List Test) (o : Outcome) → tested (argument_tests_in blocks self variables [] arguments ++ more) o
+  pub tests : (more : List FaultTest) (o : Outcome) → tested (argument_tests_in blocks self variables [] arguments ++ more) o
       ≡ tested (argument_tests_in blocks self variables (claimed_in variables [] (take done arguments)) (drop done arguments) ++ more) o
 
 -- none was looked at
@@ -95,7 +95,7 @@ pub given_none : (blocks : List Block) (self : ℕ) (variables : List (Option �
 given_none blocks self variables arguments = record { tests = λ more o. refl }
 
 -- the argument at hand is the first of those that are left
-tests_left : (blocks : List Block) (self : ℕ) (variables : List (Option ℕ)) (arguments : List Argument) (done : ℕ) (d : Argument) (more : List Test) (o : Outcome) → done < length arguments
+tests_left : (blocks : List Block) (self : ℕ) (variables : List (Option ℕ)) (arguments : List Argument) (done : ℕ) (d : Argument) (more : List FaultTest) (o : Outcome) → done < length arguments
     → Given blocks self variables arguments done
     → tested (argument_tests_in blocks self variables [] arguments ++ more) o
     ≡ tested (argument_tests_in blocks self variables (claimed_in variables [] (take done arguments)) (get_or arguments done d ∷ drop (done + 1) arguments) ++ more) o
@@ -107,7 +107,7 @@ pub given_fails : (blocks : List Block) (self : ℕ) (variables : List (Option �
     → done < length arguments → Given blocks self variables arguments done
     → is_own_still blocks self (claimed_in variables [] (take done arguments)) (read variables (get_or arguments done d).mention.variable.0) ≡ false
     → fault ≡ (if (get_or arguments done d).claimed then F3 else F1)
-    → (more : List Test) (o : Outcome) → tested (argument_tests_in blocks self variables [] arguments ++ more) o ≡ Faulty fault
+    → (more : List FaultTest) (o : Outcome) → tested (argument_tests_in blocks self variables [] arguments ++ more) o ≡ Faulty fault
 given_fails blocks self variables arguments done d fault lt h fails is more o =
     let x = get_or arguments done d in
     let taken = claimed_in variables [] (take done arguments) in
@@ -216,7 +216,7 @@ sent_own blocks self variables payloads n d own lt is =
 pub sent_fails : (blocks : List Block) (self : ℕ) (variables : List (Option ℕ)) (payloads : List Mention) (done : ℕ) (d : Mention)
     → done < length payloads → Given blocks self variables (payloads_claimed payloads) done
     → is_own_still blocks self (claimed_in variables [] (payloads_claimed (take done payloads))) (read variables (get_or payloads done d).variable.0) ≡ false
-    → (more : List Test) (o : Outcome) → tested (argument_tests_in blocks self variables [] (payloads_claimed payloads) ++ more) o ≡ Faulty F3
+    → (more : List FaultTest) (o : Outcome) → tested (argument_tests_in blocks self variables [] (payloads_claimed payloads) ++ more) o ≡ Faulty F3
 sent_fails blocks self variables payloads done d lt h fails =
     given_fails blocks self variables (payloads_claimed payloads) done (payload d) F3 (sent_short payloads done lt) h (sent_own blocks self variables payloads done d false lt fails)
     (ap (λ x. if x.claimed then F3 else F1) (sym (sent_at payloads done d lt)))

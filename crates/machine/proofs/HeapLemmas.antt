@@ -6,7 +6,7 @@ use Rattle.std.proofs.lemmas.Bool.Decides.{eqb_tells}
 use Rattle.std.proofs.lemmas.List.{append-nil, get_or_past}
 use Rattle.program.specs.Lists.{is_among}
 use Rattle.machine.specs.Blocks.{handed, received_block, sent_block}
-use Rattle.machine.specs.Heaps.{AreOnce, AreOwned, IsBrought, brings, occurs, of_process, one_if}
+use Rattle.machine.specs.Heaps.{AreOnce, AreOwned, QueuesBring, brings, occurs, of_process, one_if}
 use Rattle.machine.specs.World.{Block, MessageHeld, block_at, changed, is_process, is_queue, no_block}
 use Rattle.machine.specs.declared.worlds.Owner.{Owner}
 use Rattle.machine.specs.declared.worlds.Owner.TheVariants.{Process, Queue, Inside, Channel, Freed}
@@ -107,13 +107,13 @@ queue_there bs a m ms is = ⊎_elim (λ h. h) (λ h. absurd (let bad : [] ≡ m 
 
 -- ---- what stays true
 pub brought_by : (f : ℕ → Block → Block) (bs : List Block) → ((j : ℕ) → length bs ≤ j → (f j no_block).owner ≡ Channel) → ((a : ℕ) → length bs ≤ a → (f a no_block).queue ≡ [])
-    → ((a j : ℕ) → occurs (brings (f a (block_at bs a)).queue) j ≡ one_if (is_queue (f j (block_at bs j)).owner a)) → IsBrought (changed f bs)
+    → ((a j : ℕ) → occurs (brings (f a (block_at bs a)).queue) j ≡ one_if (is_queue (f j (block_at bs j)).owner a)) → QueuesBring (changed f bs)
 brought_by f bs none empty is = record {
   brings_are = λ a j. ap (λ l. occurs (brings l) j) (queue_at f bs a (empty a)) ∙ (is a j ∙ ap (λ o. one_if (is_queue o a)) (sym (owner_at f bs j (none j))));
 }
 
 -- owners and queues stay
-pub brought_kept : (f : ℕ → Block → Block) (bs : List Block) → ((j : ℕ) (b : Block) → (f j b).owner ≡ b.owner) → ((j : ℕ) (b : Block) → (f j b).queue ≡ b.queue) → IsBrought bs → IsBrought (changed f bs)
+pub brought_kept : (f : ℕ → Block → Block) (bs : List Block) → ((j : ℕ) (b : Block) → (f j b).owner ≡ b.owner) → ((j : ℕ) (b : Block) → (f j b).queue ≡ b.queue) → QueuesBring bs → QueuesBring (changed f bs)
 brought_kept f bs owners queues is =
     brought_by f bs (λ j h. owners j no_block) (λ a h. queues a no_block)
     (λ a j. ap (λ l. occurs (brings l) j) (queues a (block_at bs a)) ∙ (is.brings_are a j ∙ ap (λ o. one_if (is_queue o a)) (sym (owners j (block_at bs j)))))
@@ -123,7 +123,7 @@ handed_at true to o a n free own is = is ∙ (ap one_if (no_queue o a (own refl)
 handed_at false to o a n free own is = is
 
 -- blocks of processes go to an owner that is no queue
-pub brought_handed : (to : Owner) (bs : List Block) (given : List ℕ) → ((a : ℕ) → is_queue to a ≡ false) → AreOwned bs given → IsBrought bs → IsBrought (changed (handed to given) bs)
+pub brought_handed : (to : Owner) (bs : List Block) (given : List ℕ) → ((a : ℕ) → is_queue to a ≡ false) → AreOwned bs given → QueuesBring bs → QueuesBring (changed (handed to given) bs)
 brought_handed to bs given free owned is =
     brought_by (handed to given) bs (λ j h. ap (λ t. if t then to else Channel) (owned_there bs given j owned h)) (λ a h. refl)
     (λ a j. handed_at (is_among given j) to (block_at bs j).owner a (occurs (brings (block_at bs a).queue) j) (free a) (owned.own j) (is.brings_are a j))
@@ -145,14 +145,14 @@ sent_at true true to a j m q o own once is e =
     omega arith
 
 -- a message is sent
-pub brought_sent : (bs : List Block) (at state to : ℕ) (m : MessageHeld) → AreOwned bs m.payload → AreOnce m.payload → to < length bs → IsBrought bs → IsBrought (changed (sent_block at state to false m) bs)
+pub brought_sent : (bs : List Block) (at state to : ℕ) (m : MessageHeld) → AreOwned bs m.payload → AreOnce m.payload → to < length bs → QueuesBring bs → QueuesBring (changed (sent_block at state to false m) bs)
 brought_sent bs at state to m owned once short is =
     brought_by (sent_block at state to false m) bs (λ j h. ap (λ t. if t then Queue to else Channel) (owned_there bs m.payload j owned h))
     (λ a h. ap (λ t. if t && not false then m ∷ [] else []) (eqb_apart a to (λ e. omega arith)))
     (λ a j. sent_at (a == to) (is_among m.payload j) to a j m (block_at bs a).queue (block_at bs j).owner (owned.own j) (once.once j) (is.brings_are a j) (eqb_swap to a))
 
 -- a block that the front of a queue brings is the queue's
-pub front_is : (bs : List Block) (at j : ℕ) (m : MessageHeld) (ms : List MessageHeld) → (block_at bs at).queue ≡ m ∷ ms → IsBrought bs
+pub front_is : (bs : List Block) (at j : ℕ) (m : MessageHeld) (ms : List MessageHeld) → (block_at bs at).queue ≡ m ∷ ms → QueuesBring bs
     → occurs m.payload j + occurs (brings ms) j ≡ one_if (is_queue (block_at bs j).owner at)
 front_is bs at j m ms here is = sym (occurs_both m.payload (brings ms) j) ∙ (ap (λ l. occurs (brings l) j) (sym here) ∙ is.brings_are at j)
 
@@ -180,7 +180,7 @@ received_at false true self at a j m ms q o there e front is =
 received_at false false self at a j m ms q o there e front is = is
 
 -- a message is received
-pub brought_received : (bs : List Block) (self at state : ℕ) (m : MessageHeld) (ms : List MessageHeld) → (block_at bs at).queue ≡ m ∷ ms → IsBrought bs → IsBrought (changed (received_block self at state m ms) bs)
+pub brought_received : (bs : List Block) (self at state : ℕ) (m : MessageHeld) (ms : List MessageHeld) → (block_at bs at).queue ≡ m ∷ ms → QueuesBring bs → QueuesBring (changed (received_block self at state m ms) bs)
 brought_received bs self at state m ms here is =
     let short : at < length bs = queue_there bs at m ms here in
     brought_by (received_block self at state m ms) bs
@@ -206,7 +206,7 @@ owner_added (x ∷ bs) b zero a own = refl
 owner_added (x ∷ bs) b (suc j) a own = owner_added bs b j a own
 
 -- a process has a new block
-pub brought_added : (bs : List Block) (b : Block) → of_process b.owner ≡ true → b.queue ≡ [] → IsBrought bs → IsBrought (bs ++ b ∷ [])
+pub brought_added : (bs : List Block) (b : Block) → of_process b.owner ≡ true → b.queue ≡ [] → QueuesBring bs → QueuesBring (bs ++ b ∷ [])
 brought_added bs b own empty is = record {
   brings_are = λ a j. ap (λ l. occurs (brings l) j) (queue_added bs b a empty) ∙ (is.brings_are a j ∙ ap one_if (sym (owner_added bs b j a own)));
 }

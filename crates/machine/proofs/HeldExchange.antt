@@ -4,7 +4,7 @@ use Rattle.std.proofs.Common.{refl, sym, ap, ◌∙◌, subst, arith, inl, inr, 
 use Rattle.std.proofs.lemmas.Bool.{cases_eq}
 use Rattle.std.specs.Prelude.{◌⊎◌, if◌then◌else◌, slice_get}
 use Rattle.machine.specs.Blocks.{exchanged_block}
-use Rattle.machine.specs.Heaps.{IsHeld, occurs, one_if}
+use Rattle.machine.specs.Heaps.{FieldsHold, occurs, one_if}
 use Rattle.machine.specs.World.{Block, block_at, changed, is_inside, no_type, owns}
 use Rattle.machine.specs.declared.worlds.Owner.{Owner}
 use Rattle.machine.specs.declared.worlds.Owner.TheVariants.{Process, Inside, Channel}
@@ -37,14 +37,14 @@ occurs_set (z ∷ xs) zero x y j e =
 occurs_set (z ∷ xs) (suc i) x y j e = let k = occurs_set xs i x y j e in omega arith
 
 -- an address that a field holds is inside the block
-pub field_inside : (bs : List Block) (a i x : ℕ) → IsHeld bs → slice_get (block_at bs a).fields i ≡ Some x
+pub field_inside : (bs : List Block) (a i x : ℕ) → FieldsHold bs → slice_get (block_at bs a).fields i ≡ Some x
     → (block_at bs x).owner ≡ Inside a
 field_inside bs a i x h e =
     is_inside_is (block_at bs x).owner a (one_if_true (is_inside (block_at bs x).owner a)
     (subst (λ (n : ℕ). 0 < n) (h.holds_are a x) (occurs_there (block_at bs a).fields i x e)))
 
 -- ---- a block and what a field of another holds change places
-module _ (bs : List Block) (self at field given held : ℕ) (h : IsHeld bs) (owned_at : owns bs self at ≡ true)
+module _ (bs : List Block) (self at field given held : ℕ) (h : FieldsHold bs) (owned_at : owns bs self at ≡ true)
     (owned_given : owns bs self given ≡ true) (apart : given ≢ at) (found : slice_get (block_at bs at).fields field ≡ Some held) where
   abbrev pub changes : List Block
   changes = changed (exchanged_block self at field given held) bs
@@ -174,7 +174,7 @@ module _ (bs : List Block) (self at field given held : ℕ) (h : IsHeld bs) (own
       (λ s. inr (sym (owner_other j g s) ∙ is)) (cases_eq j held)) (cases_eq j given)
 
   -- fields hold what is inside their block as before
-  pub exchange_held : IsHeld changes
+  pub exchange_held : FieldsHold changes
   exchange_held = record {
     holds_are = holds_now;
     rooted = λ x. rooted_put bs changes at at_root put_now x (h.rooted x);

@@ -9,7 +9,7 @@ use Rattle.program.specs.declared.types.HeapType.{HeapType}
 use Rattle.machine.specs.Answers.{with_field}
 use Rattle.machine.specs.BlockViews.{block_model, blocks_model, held_model}
 use Rattle.machine.specs.Blocks.{exchanged_block, handed, new_block, received_block, sent_block}
-use Rattle.machine.specs.Heaps.{AreOwned, IsBrought, IsHeld, brings, occurs, of_process, one_if}
+use Rattle.machine.specs.Heaps.{AreOwned, QueuesBring, FieldsHold, brings, occurs, of_process, one_if}
 use Rattle.machine.specs.World.{Block, MessageHeld, block_at, changed, is_inside, is_queue, owns}
 use Rattle.machine.specs.declared.worlds.Block as made_block
 use Rattle.machine.specs.declared.worlds.Held as made_held
@@ -24,7 +24,7 @@ use Rattle.machine.proofs.WayKept.{with_parts}
 
 -- fields stay, and what is inside which block
 held_by : (f : ℕ → Block → Block) (bs : List Block) → ((j : ℕ) (b : Block) → (f j b).fields ≡ b.fields)
-    → ((j a : ℕ) → is_inside (f j (block_at bs j)).owner a ≡ is_inside (block_at bs j).owner a) → IsHeld bs → IsHeld (changed f bs)
+    → ((j a : ℕ) → is_inside (f j (block_at bs j)).owner a ≡ is_inside (block_at bs j).owner a) → FieldsHold bs → FieldsHold (changed f bs)
 held_by f bs fields inside h = held_same bs (changed f bs) (λ a. ⊎_elim
     (λ l. ap (λ (b : Block). b.fields) (at_changed f bs a l) ∙ fields a (block_at bs a))
     (λ p. ap (λ (b : Block). b.fields) (at_past f bs a p) ∙ sym (ap (λ (b : Block). b.fields) (past bs a p))) (cases_lt a (length bs)))
@@ -34,7 +34,7 @@ held_by f bs fields inside h = held_same bs (changed f bs) (λ a. ⊎_elim
 
 -- owners and fields stay
 pub held_kept : (f : ℕ → Block → Block) (bs : List Block) → ((j : ℕ) (b : Block) → (f j b).owner ≡ b.owner)
-    → ((j : ℕ) (b : Block) → (f j b).fields ≡ b.fields) → IsHeld bs → IsHeld (changed f bs)
+    → ((j : ℕ) (b : Block) → (f j b).fields ≡ b.fields) → FieldsHold bs → FieldsHold (changed f bs)
 held_kept f bs owners fields h = held_by f bs fields (λ j a. ap (λ (o : Owner). is_inside o a) (owners j (block_at bs j))) h
 
 to_same : (t : Bool) (to o : Owner) (a : ℕ) → is_inside to a ≡ false → (t ≡ true → is_inside o a ≡ false)
@@ -43,21 +43,21 @@ to_same true to o a out was = out ∙ sym (was refl)
 to_same false to o a out was = refl
 
 -- blocks of processes go to an owner that is no block
-pub held_handed : (to : Owner) (bs : List Block) (given : List ℕ) → ((a : ℕ) → is_inside to a ≡ false) → AreOwned bs given → IsHeld bs
-    → IsHeld (changed (handed to given) bs)
+pub held_handed : (to : Owner) (bs : List Block) (given : List ℕ) → ((a : ℕ) → is_inside to a ≡ false) → AreOwned bs given → FieldsHold bs
+    → FieldsHold (changed (handed to given) bs)
 held_handed to bs given out owned h = held_by (handed to given) bs (λ j b. refl)
     (λ j a. to_same (is_among given j) to (block_at bs j).owner a (out a) (λ t. not_inside (block_at bs j).owner a (owned.own j t))) h
 
 -- a message is sent
-pub held_sent : (bs : List Block) (at state to : ℕ) (m : MessageHeld) → AreOwned bs m.payload → IsHeld bs
-    → IsHeld (changed (sent_block at state to false m) bs)
+pub held_sent : (bs : List Block) (at state to : ℕ) (m : MessageHeld) → AreOwned bs m.payload → FieldsHold bs
+    → FieldsHold (changed (sent_block at state to false m) bs)
 held_sent bs at state to m owned h = held_by (sent_block at state to false m) bs (λ j b. refl)
     (λ j a. to_same (is_among m.payload j) (Queue to) (block_at bs j).owner a refl
     (λ t. not_inside (block_at bs j).owner a (owned.own j t))) h
 
 -- a message is received
 pub held_received : (bs : List Block) (self at state : ℕ) (m : MessageHeld) (ms : List MessageHeld) → (block_at bs at).queue ≡ m ∷ ms
-    → IsBrought bs → IsHeld bs → IsHeld (changed (received_block self at state m ms) bs)
+    → QueuesBring bs → FieldsHold bs → FieldsHold (changed (received_block self at state m ms) bs)
 held_received bs self at state m ms here is h = held_by (received_block self at state m ms) bs (λ j b. refl)
     (λ j a. to_same (is_among m.payload j) (Process self) (block_at bs j).owner a refl (λ t.
     let some : 0 < occurs m.payload j = some_occurs m.payload j t in
@@ -78,12 +78,12 @@ inside_added [] b (suc j) a own = refl
 inside_added (x ∷ bs) b zero a own = refl
 inside_added (x ∷ bs) b (suc j) a own = inside_added bs b j a own
 
-pub held_added : (bs : List Block) (b : Block) → of_process b.owner ≡ true → b.fields ≡ [] → IsHeld bs → IsHeld (bs ++ b ∷ [])
+pub held_added : (bs : List Block) (b : Block) → of_process b.owner ≡ true → b.fields ≡ [] → FieldsHold bs → FieldsHold (bs ++ b ∷ [])
 held_added bs b own empty h = held_same bs (bs ++ b ∷ []) (λ a. fields_added bs b a empty) (λ j a. inside_added bs b j a own) h
 
 -- what queues bring is the same, and what they own
 brought_same : (bs bs' : List Block) → ((a : ℕ) → (block_at bs' a).queue ≡ (block_at bs a).queue)
-    → ((j a : ℕ) → is_queue (block_at bs' j).owner a ≡ is_queue (block_at bs j).owner a) → IsBrought bs → IsBrought bs'
+    → ((j a : ℕ) → is_queue (block_at bs' j).owner a ≡ is_queue (block_at bs j).owner a) → QueuesBring bs → QueuesBring bs'
 brought_same bs bs' queues owners is = record {
   brings_are = λ a j. ap (λ (q : List MessageHeld). occurs (brings q) j) (queues a) ∙ (is.brings_are a j ∙ ap one_if (sym (owners j a)));
 }
@@ -108,9 +108,9 @@ exchanged_is self at field given held bs =
     ∙ changed_same (λ j b. handed (Inside at) (given ∷ []) j (handed (Process self) (held ∷ []) j (with_field at field given j b)))
     (exchanged_block self at field given held) (exchanged_one self at field given held) bs)
 
-module _ (bs : List Block) (self at field given held : ℕ) (h : IsHeld bs) (owned_at : owns bs self at ≡ true)
+module _ (bs : List Block) (self at field given held : ℕ) (h : FieldsHold bs) (owned_at : owns bs self at ≡ true)
     (owned_given : owns bs self given ≡ true) (apart : given ≢ at) (found : slice_get (block_at bs at).fields field ≡ Some held) where
-  pub exchange_brought : IsBrought bs → IsBrought (changed (exchanged_block self at field given held) bs)
+  pub exchange_brought : QueuesBring bs → QueuesBring (changed (exchanged_block self at field given held) bs)
   exchange_brought is = brought_same bs (exchange.changes bs self at field given held h owned_at owned_given apart found)
       (λ a. ap (λ (b : Block). b.queue) (exchange.exchanged_at bs self at field given held h owned_at owned_given apart found a))
       (λ j a. by j a (cases_eq j given) (cases_eq j held)) is
@@ -127,7 +127,7 @@ module _ (bs : List Block) (self at field given held : ℕ) (h : IsHeld bs) (own
       by j a (inr g) (inr s) = ap (λ (o : Owner). is_queue o a)
           (exchange.owner_other bs self at field given held h owned_at owned_given apart found j g s)
 
-  pub exchange_holds : IsHeld (changed (exchanged_block self at field given held) bs)
+  pub exchange_holds : FieldsHold (changed (exchanged_block self at field given held) bs)
   exchange_holds = exchange.exchange_held bs self at field given held h owned_at owned_given apart found
 
 -- ---- a process has a new block, into which goes what it gives
@@ -148,7 +148,7 @@ pub made_pushed : (made : Block) (old new : List made_block.Block) (b : made_blo
 made_pushed made old new b pushed same =
     ap blocks_model pushed ∙ (map-append block_model old (b ∷ []) ∙ ap (λ (x : Block). blocks_model old ++ x ∷ []) same)
 
-module _ (bs : List Block) (self : ℕ) (given : List ℕ) (ty : HeapType) (h : IsHeld bs)
+module _ (bs : List Block) (self : ℕ) (given : List ℕ) (ty : HeapType) (h : FieldsHold bs)
     (mine : (x : ℕ) → is_among given x ≡ true → owns bs self x ≡ true)
     (once : (x : ℕ) → occurs given x ≡ one_if (is_among given x)) where
   -- The block stands behind the others, and then what is given goes into it.
@@ -172,7 +172,7 @@ module _ (bs : List Block) (self : ℕ) (given : List ℕ) (ty : HeapType) (h : 
       ∙ (ap (changed (handed (Inside (length bs)) given)) (put ∙ ap (λ (xs : List Block). xs ++ new_block ty self 0 0 given ∷ []) same)
       ∙ made_is))
 
-  pub new_brought : IsBrought bs → IsBrought (changed (handed (Inside (length bs)) given) bs ++ new_block ty self 0 0 given ∷ [])
+  pub new_brought : QueuesBring bs → QueuesBring (changed (handed (Inside (length bs)) given) bs ++ new_block ty self 0 0 given ∷ [])
   new_brought is = brought_same bs (new.grown bs self given ty h mine once)
       (λ a. queue a (new.where_is bs self given ty h mine once a))
       (λ j a. by j a (new.where_is bs self given ty h mine once j)) is
@@ -201,5 +201,5 @@ module _ (bs : List Block) (self : ℕ) (given : List ℕ) (ty : HeapType) (h : 
       by j a (inr (inr more)) = ap (λ (b : Block). is_queue b.owner a) (new.grown_past bs self given ty h mine once j more)
           ∙ sym (ap (λ (b : Block). is_queue b.owner a) (past bs j (omega arith)))
 
-  pub new_holds : IsHeld (changed (handed (Inside (length bs)) given) bs ++ new_block ty self 0 0 given ∷ [])
+  pub new_holds : FieldsHold (changed (handed (Inside (length bs)) given) bs ++ new_block ty self 0 0 given ∷ [])
   new_holds = new.new_held bs self given ty h mine once

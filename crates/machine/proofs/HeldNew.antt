@@ -7,7 +7,7 @@ use Rattle.std.specs.Prelude.{◌⊎◌, if◌then◌else◌}
 use Rattle.program.specs.Lists.{is_among}
 use Rattle.program.specs.declared.types.HeapType.{HeapType}
 use Rattle.machine.specs.Blocks.{handed, new_block}
-use Rattle.machine.specs.Heaps.{IsHeld, occurs, one_if}
+use Rattle.machine.specs.Heaps.{FieldsHold, occurs, one_if}
 use Rattle.machine.specs.World.{Block, block_at, changed, is_inside, no_block, no_type, owns}
 use Rattle.machine.specs.declared.worlds.Owner.{Owner}
 use Rattle.machine.specs.declared.worlds.Owner.TheVariants.{Inside, Channel}
@@ -26,7 +26,7 @@ added_new : (bs : List Block) (b : Block) → block_at (bs ++ b ∷ []) (length 
 added_new [] b = refl
 added_new (x ∷ bs) b = added_new bs b
 
-module _ (bs : List Block) (self : ℕ) (given : List ℕ) (ty : HeapType) (h : IsHeld bs)
+module _ (bs : List Block) (self : ℕ) (given : List ℕ) (ty : HeapType) (h : FieldsHold bs)
     (mine : (x : ℕ) → is_among given x ≡ true → owns bs self x ≡ true)
     (once : (x : ℕ) → occurs given x ≡ one_if (is_among given x)) where
   abbrev pub new_at : ℕ
@@ -140,7 +140,7 @@ module _ (bs : List Block) (self : ℕ) (given : List ℕ) (ty : HeapType) (h : 
       (sym (inside_stays j b t) ∙ (ap (λ (o : Owner). is_inside o b) is ∙ is_inside_same b)))) (cases_Bool (is_among given j))
 
   -- fields hold what is inside their block as before
-  pub new_held : IsHeld grown
+  pub new_held : FieldsHold grown
   new_held = record {
     holds_are = holds_grown;
     rooted = λ x. rooted_put bs grown new_at (λ b. ap (λ (y : Block). is_inside y.owner b) grown_new) put_grown x (h.rooted x);

@@ -4,7 +4,7 @@ use Rattle.std.proofs.Common.{refl, sym, ap, ◌∙◌, subst, arith, ⊎_elim}
 use Rattle.std.proofs.lemmas.Bool.{cases_Bool}
 use Rattle.std.specs.Prelude.{◌⊎◌, if◌then◌else◌}
 use Rattle.machine.specs.Blocks.{freed_block, goes_with, in_queue_of}
-use Rattle.machine.specs.Heaps.{IsHeld, Rooted, below, occurs, of_process, one_if, top}
+use Rattle.machine.specs.Heaps.{FieldsHold, Rooted, below, occurs, of_process, one_if, top}
 use Rattle.machine.specs.World.{Block, block_at, changed, is_inside, is_process, is_queue, no_type, owns}
 use Rattle.machine.specs.declared.worlds.Owner.{Owner}
 use Rattle.machine.specs.declared.worlds.Owner.TheVariants.{Process, Queue, Inside, Channel, Freed}
@@ -88,7 +88,7 @@ rooted_put bs bs' at root put x (below a c is s) = ⊎_elim
 
 -- ---- nothing is put into a block, and nothing comes out
 pub held_same : (bs bs' : List Block) → ((a : ℕ) → (block_at bs' a).fields ≡ (block_at bs a).fields)
-    → ((j a : ℕ) → is_inside (block_at bs' j).owner a ≡ is_inside (block_at bs j).owner a) → IsHeld bs → IsHeld bs'
+    → ((j a : ℕ) → is_inside (block_at bs' j).owner a ≡ is_inside (block_at bs j).owner a) → FieldsHold bs → FieldsHold bs'
 held_same bs bs' fields inside h = record {
   holds_are = λ a j. ap (λ (xs : List ℕ). occurs xs j) (fields a) ∙ (h.holds_are a j ∙ ap one_if (sym (inside j a)));
   rooted = λ x. rooted_less bs bs' (λ j b is. is_inside_is (block_at bs j).owner b
@@ -96,7 +96,7 @@ held_same bs bs' fields inside h = record {
 }
 
 -- ---- a block is freed with all that is inside it
-module _ (bs : List Block) (a : ℕ) (h : IsHeld bs) (own : of_process (block_at bs a).owner ≡ true) where
+module _ (bs : List Block) (a : ℕ) (h : FieldsHold bs) (own : of_process (block_at bs a).owner ≡ true) where
   abbrev goes : ℕ → Bool
   goes = goes_with bs a
 
@@ -164,7 +164,7 @@ module _ (bs : List Block) (a : ℕ) (h : IsHeld bs) (own : of_process (block_at
       by false false s t = ap (λ (xs : List ℕ). occurs xs j) (fields_stay b s) ∙ (h.holds_are b j ∙ sym (ap one_if (inside_left j b t)))
 
   -- fields hold what is inside their block as before
-  pub held_freed : IsHeld left
+  pub held_freed : FieldsHold left
   held_freed = record {
     holds_are = holds_left;
     rooted = λ x. rooted_less bs left (λ j b is. ⊎_elim

@@ -10,7 +10,7 @@ use Rattle.machine.specs.Answers.{Pass}
 use Rattle.machine.specs.Blocks.{argument_tests_in, is_own_still}
 use Rattle.machine.specs.Frames.{address, addresses, payloads_claimed}
 use Rattle.machine.specs.Heaps.{AreOnce, AreOwned, AreOwnedBy, occurs, one_if}
-use Rattle.machine.specs.Outcomes.{Faulty, Test, Waits, test}
+use Rattle.machine.specs.Outcomes.{Faulty, FaultTest, Waits, test}
 use Rattle.machine.specs.World.{Block, block_at, is_own_in, owns, read}
 use Rattle.machine.specs.declared.halts.Fault.{Fault}
 use Rattle.machine.specs.declared.halts.Fault.TheVariants.{F1, F3}
@@ -18,11 +18,11 @@ use Rattle.machine.proofs.FrameLemmas.{own_tests}
 use Rattle.machine.proofs.HeapLemmas.{of_some}
 
 -- the first of tests that pass is no fault
-first_passes : (own : Bool) (fault : Fault) (tests : List Test) → Pass (test own fault ∷ tests) → own ≡ true
+first_passes : (own : Bool) (fault : Fault) (tests : List FaultTest) → Pass (test own fault ∷ tests) → own ≡ true
 first_passes true fault tests pass = refl
 first_passes false fault tests pass = absurd (let bad : Faulty fault ≡ Waits = pass [] Waits in cc)
 
-rest_pass : (own : Bool) (fault : Fault) (tests : List Test) → own ≡ true → Pass (test own fault ∷ tests) → Pass tests
+rest_pass : (own : Bool) (fault : Fault) (tests : List FaultTest) → own ≡ true → Pass (test own fault ∷ tests) → Pass tests
 rest_pass true fault tests is pass = λ more o. pass more o
 rest_pass false fault tests is pass = absurd (cc)
 

@@ -4,10 +4,10 @@ use Rattle.std.proofs.Common.{subst, arith, slice_get, ⊎_elim}
 use Rattle.std.proofs.lemmas.Bool.{cases_lt}
 use Rattle.program.specs.Programs.{ProgramModel}
 use Rattle.machine.specs.Machine.{event_outcome}
-use Rattle.machine.specs.Outcomes.{Bounds, Outcome, Moved, Faulty, Waits, NoProcess, NoChoice, TellsStep}
+use Rattle.machine.specs.Outcomes.{QueueBounds, Outcome, Moved, Faulty, Waits, NoProcess, NoChoice, TellsStep}
 use Rattle.machine.specs.Places.{process_place}
-use Rattle.machine.specs.Replays.{EndsWith, IsKnown, IsReplay, ReplayModel}
-use Rattle.machine.specs.Runs.{Leads, moves, start_of, stays}
+use Rattle.machine.specs.Replays.{EndsWith, MayEndReplay, IsReplay, ReplayModel}
+use Rattle.machine.specs.Runs.{RunsTo, moves, start_of, stays}
 use Rattle.machine.specs.World.{World}
 use Rattle.machine.specs.declared.halts.Event.{Event}
 use Rattle.machine.specs.declared.halts.Halt.{Halt}
@@ -15,12 +15,12 @@ use Rattle.machine.specs.declared.halts.Halt.TheVariants as halt
 use Rattle.source.specs.declared.place.Place.{Place}
 
 -- what these events come to behind an outcome
-abbrev after : ProgramModel → Bounds → Outcome → List Event → Outcome
+abbrev after : ProgramModel → QueueBounds → Outcome → List Event → Outcome
 after p bound o [] = o
 after p bound (Moved w) (e ∷ events) = after p bound (event_outcome p bound w e) events
 after p bound o (e ∷ events) = o
 
-after_both : (p : ProgramModel) (bound : Bounds) (o : Outcome) (xs ys : List Event)
+after_both : (p : ProgramModel) (bound : QueueBounds) (o : Outcome) (xs ys : List Event)
     → after p bound o (xs ++ ys) ≡ after p bound (after p bound o xs) ys
 after_both p bound o [] ys = refl
 after_both p bound (Moved w) (e ∷ xs) ys = after_both p bound (event_outcome p bound w e) xs ys
@@ -34,7 +34,7 @@ after_both p bound NoChoice (e ∷ xs) [] = refl
 after_both p bound NoChoice (e ∷ xs) (y ∷ ys) = refl
 
 -- events that lead to a world come to it
-leads_to : (p : ProgramModel) (bound : Bounds) (w v : World) (events : List Event) → Leads p bound w events v
+leads_to : (p : ProgramModel) (bound : QueueBounds) (w v : World) (events : List Event) → RunsTo p bound w events v
     → after p bound (Moved w) events ≡ Moved v
 leads_to p bound w _ _ stays = refl
 leads_to p bound w _ _ (moves events v u e led is) =
@@ -44,7 +44,7 @@ moved_same : (w v : World) → Moved w ≡ Moved v → w ≡ v
 moved_same w v is = cc
 
 -- an outcome that goes on is a move
-went : (p : ProgramModel) (bound : Bounds) (o : Outcome) (events : List Event) (v : World) → after p bound o events ≡ Moved v
+went : (p : ProgramModel) (bound : QueueBounds) (o : Outcome) (events : List Event) (v : World) → after p bound o events ≡ Moved v
     → (w : World) × (o ≡ Moved w)
 went p bound (Moved w) events v is = (w, refl)
 went p bound (Faulty f) [] v is = absurd (cc)
@@ -57,7 +57,7 @@ went p bound NoChoice [] v is = absurd (cc)
 went p bound NoChoice (e ∷ events) v is = absurd (cc)
 
 -- no halt tells of a move
-halt_stays : (why : Halt) (w v : World) (o : Outcome) (place : Option Place) → IsKnown (Some why) → o ≡ Moved w
+halt_stays : (why : Halt) (w v : World) (o : Outcome) (place : Option Place) → MayEndReplay (Some why) → o ≡ Moved w
     → TellsStep {X = Unit {0}} (Err why) o place v → ⊥
 halt_stays halt.NoSuchProcess w v o place known is tells = absurd (let bad : NoProcess ≡ Moved w = sym tells ∙ is in cc)
 halt_stays halt.NoSuchChoice w v o place known is tells = absurd (let bad : NoChoice ≡ Moved w = sym tells ∙ is in cc)
@@ -71,7 +71,7 @@ some_short [] n e is = absurd (cc)
 some_short (x ∷ events) zero e is = omega arith
 some_short (x ∷ events) (suc n) e is = let less : n < length events = some_short events n e is in omega arith
 
-ends_within : (p : ProgramModel) (bound : Bounds) (w : World) (events : List Event) (n : ℕ) (why : Option Halt)
+ends_within : (p : ProgramModel) (bound : QueueBounds) (w : World) (events : List Event) (n : ℕ) (why : Option Halt)
     → EndsWith p bound w events n why → n ≤ length events
 ends_within p bound w events n None ends = let all : n ≡ length events = ends in omega arith
 ends_within p bound w events n (Some why) ends = let short : n < length events = some_short events n ends.event ends.there in omega arith
@@ -91,9 +91,9 @@ one_event : (o : Option Event) (e d : Event) → o ≡ Some e → o ≡ Some d �
 one_event o e d one two = let same : Some e ≡ Some d = sym one ∙ two in cc
 
 -- no replay goes on where another ends
-no_further : (p : ProgramModel) (bound : Bounds) (o : Outcome) (w v : World) (events : List Event) (n k : ℕ) (why : Option Halt)
+no_further : (p : ProgramModel) (bound : QueueBounds) (o : Outcome) (w v : World) (events : List Event) (n k : ℕ) (why : Option Halt)
     → after p bound o (take n events) ≡ Moved w → after p bound o (take k events) ≡ Moved v → n < k → k ≤ length events
-    → EndsWith p bound w events n why → IsKnown why → ⊥
+    → EndsWith p bound w events n why → MayEndReplay why → ⊥
 no_further p bound o w v events n k None one two less short ends known = absurd (let all : n ≡ length events = ends in omega arith)
 no_further p bound o w v events n k (Some why) one two less short ends known =
     let apart = take_apart events n k less short in
@@ -107,7 +107,7 @@ no_further p bound o w v events n k (Some why) one two less short ends known =
     (ap (event_outcome p bound w) same ∙ moved.1) ends.tells
 
 -- an outcome has one halt
-one_halt : (x y : Halt) (o : Outcome) (place : Option Place) (v : World) → IsKnown (Some x) → IsKnown (Some y)
+one_halt : (x y : Halt) (o : Outcome) (place : Option Place) (v : World) → MayEndReplay (Some x) → MayEndReplay (Some y)
     → TellsStep {X = Unit {0}} (Err x) o place v → TellsStep {X = Unit {0}} (Err y) o place v → x ≡ y
 one_halt halt.NoSuchProcess halt.NoSuchProcess o place v kx ky tx ty = refl
 one_halt halt.NoSuchProcess halt.NoSuchChoice o place v kx ky tx ty = absurd (let bad : NoProcess ≡ NoChoice = sym tx ∙ ty in cc)
@@ -135,7 +135,7 @@ one_halt halt.Waits halt.Memory o place v kx ky tx ty = absurd ky
 one_halt halt.Memory y o place v kx ky tx ty = absurd kx
 
 -- two ends behind the same steps are the same
-one_end : (p : ProgramModel) (bound : Bounds) (w : World) (events : List Event) (n : ℕ) (x y : Option Halt) → IsKnown x → IsKnown y
+one_end : (p : ProgramModel) (bound : QueueBounds) (w : World) (events : List Event) (n : ℕ) (x y : Option Halt) → MayEndReplay x → MayEndReplay y
     → EndsWith p bound w events n x → EndsWith p bound w events n y → x ≡ y
 one_end p bound w events n None None kx ky ex ey = refl
 one_end p bound w events n None (Some y) kx ky ex ey =
@@ -158,7 +158,7 @@ same_parts : (r s : ReplayModel) → r.world ≡ s.world → r.steps ≡ s.steps
 same_parts r s world steps halt = λ i. record { world = world i; steps = steps i; halt = halt i }
 
 -- two replays of one method and one list of events
-pub one_replay : (p : ProgramModel) (bound : Bounds) (m : ℕ) (events : List Event) (r s : ReplayModel)
+pub one_replay : (p : ProgramModel) (bound : QueueBounds) (m : ℕ) (events : List Event) (r s : ReplayModel)
     → IsReplay p bound m events r → IsReplay p bound m events s → r ≡ s
 one_replay p bound m events r s one two =
     let begins = Moved (start_of p m) in

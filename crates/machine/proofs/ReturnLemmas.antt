@@ -7,7 +7,7 @@ use Rattle.program.specs.declared.statement.Mention.{Mention}
 use Rattle.machine.specs.Answers.{ended, given_back, with_stack, with_variables}
 use Rattle.machine.specs.Frames.{call_next, call_target, instruction_at}
 use Rattle.machine.specs.Machine.{returns}
-use Rattle.machine.specs.Outcomes.{Bounds, Moved}
+use Rattle.machine.specs.Outcomes.{QueueBounds, Moved}
 use Rattle.machine.specs.Views.{frame_model, stack_of}
 use Rattle.machine.specs.World.{Block, Frame, World}
 use Rattle.machine.specs.declared.worlds as made
@@ -20,7 +20,7 @@ came_back p value stack g = record {
   variables = given_back value (call_target (instruction_at p g)) stack g.variables;
 }
 
-returns_is : (p : ProgramModel) (bound : Bounds) (w : World) (self : ℕ) (value : Option Mention) (f g : Frame) (rest more : List Frame) → rest ≡ g ∷ more
+returns_is : (p : ProgramModel) (bound : QueueBounds) (w : World) (self : ℕ) (value : Option Mention) (f g : Frame) (rest more : List Frame) → rest ≡ g ∷ more
     → ended p bound w self value (f ∷ rest) ≡ Moved (with_stack w self (came_back p value (f ∷ []) g ∷ more) w.blocks)
 returns_is p bound w self None f g rest more is = ap (λ (l : List Frame). returns p bound w self f rest None l) is
 returns_is p bound w self (Some v) f g rest more is = ap (λ (l : List Frame). returns p bound w self f rest (Some v) l) is
@@ -36,7 +36,7 @@ last_first ws n c many last =
     ap (λ (l : List made.Frame.Frame). map frame_model (reverse l)) (split_last ws n c many last)
     ∙ ap (map frame_model) (reverse-append (take n ws) (c ∷ []))
 
-pub ended_is : (p : ProgramModel) (bound : Bounds) (w : World) (self : ℕ) (value : Option Mention) (top : Option made.Frame.Frame) (ws : List made.Frame.Frame) (n : ℕ) (c : made.Frame.Frame)
+pub ended_is : (p : ProgramModel) (bound : QueueBounds) (w : World) (self : ℕ) (value : Option Mention) (top : Option made.Frame.Frame) (ws : List made.Frame.Frame) (n : ℕ) (c : made.Frame.Frame)
     → IsSome top → n + 1 ≡ length ws → c ≡ get_or ws n c
     → ended p bound w self value (stack_of top ws) ≡ Moved (with_stack w self (came_back p value (stack_of top []) (frame_model c) ∷ map frame_model (reverse (take n ws))) w.blocks)
 ended_is p bound w self value None ws n c some many last = absurd (cc)
@@ -79,7 +79,7 @@ back_is p value target stack g h next takes to on =
     ∙ ap (λ (x : Frame). record { method = x.method; point = next; variables = x.variables }) (sym takes))
 
 -- what the end of a frame comes to, when the caller is d then
-pub goes_back : (p : ProgramModel) (bound : Bounds) (w : World) (self : ℕ) (value target : Option Mention) (top now : Option made.Frame.Frame) (ws left : List made.Frame.Frame) (n next : ℕ) (c h d : made.Frame.Frame)
+pub goes_back : (p : ProgramModel) (bound : QueueBounds) (w : World) (self : ℕ) (value target : Option Mention) (top now : Option made.Frame.Frame) (ws left : List made.Frame.Frame) (n next : ℕ) (c h d : made.Frame.Frame)
     (bs : List Block) → IsSome top → n + 1 ≡ length ws → c ≡ get_or ws n c
     → frame_model h ≡ with_variables (frame_model c) (given_back value target (stack_of top []) (frame_model c).variables)
     → target ≡ call_target (instruction_at p (frame_model c)) → next ≡ call_next (instruction_at p (frame_model c))

@@ -6,14 +6,14 @@ use Rattle.program.specs.declared.statement.Mention.{Mention}
 use Rattle.machine.specs.Answers.{Pass}
 use Rattle.machine.specs.Blocks.{argument_tests_in, sent_state, send_tests_in}
 use Rattle.machine.specs.Frames.{address, payloads_claimed}
-use Rattle.machine.specs.Outcomes.{Bounds, Moved, test, tested}
+use Rattle.machine.specs.Outcomes.{QueueBounds, Moved, test, tested}
 use Rattle.machine.specs.World.{Block, World, is_own_in, read}
 use Rattle.machine.specs.declared.halts.Fault.TheVariants.{F1}
 use Rattle.machine.proofs.CallLemmas.{pass_alone}
 use Rattle.machine.proofs.GiveLemmas.{passes}
 
 -- it changes the world; b, c and d are the blocks where the endpoint, the payloads and the way out are tested
-pub send_moves : (p : ProgramModel) (bound : Bounds) (bs b c d : List Block) (self : ℕ) (variables : List (Option ℕ)) (e : ℕ) (x : Option ℕ) (at m : ℕ) (payloads sent : List Mention) (v : World)
+pub send_moves : (p : ProgramModel) (bound : QueueBounds) (bs b c d : List Block) (self : ℕ) (variables : List (Option ℕ)) (e : ℕ) (x : Option ℕ) (at m : ℕ) (payloads sent : List Mention) (v : World)
     → bs ≡ b → bs ≡ c → bs ≡ d → sent ≡ payloads
     → x ≡ read variables e → x ≡ Some at → is_own_in b self x ≡ true
     → Pass (argument_tests_in c self variables [] (payloads_claimed sent)) → Pass (send_tests_in bound d at (sent_state p d at m))

@@ -16,7 +16,7 @@ use Rattle.program.specs.declared.statement.Action.TheVariants as does
 use Rattle.program.specs.declared.statement.Mention.{Mention}
 use Rattle.machine.specs.Frames.{entered}
 use Rattle.machine.specs.Machine.{event_outcome}
-use Rattle.machine.specs.Outcomes.{Bounds, Outcome, Moved, Faulty}
+use Rattle.machine.specs.Outcomes.{QueueBounds, Outcome, Moved, Faulty}
 use Rattle.machine.specs.Runs.{start_of}
 use Rattle.machine.specs.World.{Block, Frame, MessageHeld, cut_off, stack_at}
 use Rattle.machine.specs.declared.halts.Event.{Event}
@@ -79,7 +79,7 @@ sends n = Send record { reads = []; place = at; endpoint = mention 1; message = 
 abbrev makes : List Mention → StatementModel
 makes arguments = New record { reads = []; target = mention 2; arguments = arguments }
 
-abbrev bound : Bounds
+abbrev bound : QueueBounds
 bound c s = 1
 
 abbrev event : Event

@@ -13,7 +13,7 @@ use Rattle.flow.specs.Graphs.{GraphModel, graph_model, instruction_model}
 use Rattle.flow.specs.Lowering.{graph_of}
 use Rattle.machine.specs.Answers.{ended, given_back, with_stack}
 use Rattle.machine.specs.Frames.{call_next, call_target, instruction_at, method_at, point_instruction}
-use Rattle.machine.specs.Outcomes.{Bounds, Moved}
+use Rattle.machine.specs.Outcomes.{QueueBounds, Moved}
 use Rattle.machine.specs.Views.{frame_model, stack_of}
 use Rattle.machine.specs.World.{World}
 use Rattle.machine.specs.declared.worlds as made
@@ -30,7 +30,7 @@ pub nowhere : (p : ProgramModel) (n point : ℕ) → length p.methods ≤ n → 
 nowhere p n point past = sym (ap (λ o. point_instruction o point) (slice_get_past p.methods n past))
 
 -- the frame that waits goes on
-pub ended_goes : (p : ProgramModel) (bound : Bounds) (w : World) (self : ℕ) (value : Option Mention) (top : Option made.Frame.Frame) (waiting xs : List made.Frame.Frame) (g : made.Frame.Frame) (next : ℕ) (variables : List (Option ℕ))
+pub ended_goes : (p : ProgramModel) (bound : QueueBounds) (w : World) (self : ℕ) (value : Option Mention) (top : Option made.Frame.Frame) (waiting xs : List made.Frame.Frame) (g : made.Frame.Frame) (next : ℕ) (variables : List (Option ℕ))
     → IsSome top → waiting ≡ xs ++ g ∷ [] → next ≡ call_next (instruction_at p (frame_model g))
     → variables ≡ given_back value (call_target (instruction_at p (frame_model g))) (stack_of top xs) (frame_model g).variables
     → ended p bound w self value (stack_of top waiting)

@@ -10,7 +10,7 @@ use Rattle.flow.specs.Graphs.{Start}
 use Rattle.machine.specs.Answers.{Pass, on_stack, went_on}
 use Rattle.machine.specs.Blocks.{argument_tests_in, handed}
 use Rattle.machine.specs.Frames.{addresses, entered}
-use Rattle.machine.specs.Outcomes.{Bounds, Outcome, Moved, tested}
+use Rattle.machine.specs.Outcomes.{QueueBounds, Outcome, Moved, tested}
 use Rattle.machine.specs.Views.{frame_model, stack_of, stack_model}
 use Rattle.machine.specs.World.{Block, Frame, World, changed, let_go}
 use Rattle.machine.specs.declared.worlds.Owner.TheVariants.{Process}
@@ -27,7 +27,7 @@ started_to p w self f rest method arguments next = Moved record {
 }
 
 -- a start: its tests, and then that
-pub start_is : (p : ProgramModel) (bound : Bounds) (w : World) (self : ℕ) (place : Place) (method : MethodId) (arguments given : List Argument) (next : ℕ) (stack : List Frame) (s : made.Process.Process) (f : made.Frame.Frame) (bs : List Block)
+pub start_is : (p : ProgramModel) (bound : QueueBounds) (w : World) (self : ℕ) (place : Place) (method : MethodId) (arguments given : List Argument) (next : ℕ) (stack : List Frame) (s : made.Process.Process) (f : made.Frame.Frame) (bs : List Block)
     → stack_model s ≡ stack → s.top ≡ Some f → bs ≡ w.blocks → given ≡ arguments
     → on_stack p bound w self (Start place method arguments next) 0 stack
     ≡ tested (argument_tests_in bs self (frame_model f).variables [] given) (started_to p w self f (map frame_model (reverse s.waiting.items)) method arguments next)
@@ -39,7 +39,7 @@ start_is p bound w self place method arguments given next stack s f bs here top 
     ∙ ap (λ l. tested (argument_tests_in bs self (frame_model f).variables [] l) goes) (sym args)))
 
 -- a start whose tests pass
-pub start_goes : (p : ProgramModel) (bound : Bounds) (w : World) (self : ℕ) (place : Place) (method : MethodId) (arguments given : List Argument) (next : ℕ) (stack : List Frame) (s : made.Process.Process) (f : made.Frame.Frame) (bs : List Block)
+pub start_goes : (p : ProgramModel) (bound : QueueBounds) (w : World) (self : ℕ) (place : Place) (method : MethodId) (arguments given : List Argument) (next : ℕ) (stack : List Frame) (s : made.Process.Process) (f : made.Frame.Frame) (bs : List Block)
     → stack_model s ≡ stack → s.top ≡ Some f → bs ≡ w.blocks → given ≡ arguments → Pass (argument_tests_in bs self (frame_model f).variables [] given)
     → on_stack p bound w self (Start place method arguments next) 0 stack ≡ started_to p w self f (map frame_model (reverse s.waiting.items)) method arguments next
 start_goes p bound w self place method arguments given next stack s f bs here top is args pass =

@@ -9,7 +9,7 @@ use Rattle.flow.specs.Graphs.{Instruction, Stop}
 use Rattle.program.specs.Programs.{ProgramModel}
 use Rattle.machine.specs.Answers.{Tells, ended, on_stack, on_top, with_stack}
 use Rattle.machine.specs.Machine.{event_of}
-use Rattle.machine.specs.Outcomes.{Outcome, Bounds}
+use Rattle.machine.specs.Outcomes.{Outcome, QueueBounds}
 use Rattle.machine.specs.Views.{blocks_model, frame_model, stack_of, stack_model}
 use Rattle.machine.specs.World.{Block, Frame, World, stack_at}
 use Rattle.machine.specs.declared.worlds as made
@@ -17,7 +17,7 @@ use Rattle.machine.specs.declared.worlds as made
 abbrev pub the_world : List (List Frame) → List Block → World
 the_world processes blocks = record { processes = processes; blocks = blocks }
 
-pub on_frame : (p : ProgramModel) (bound : Bounds) (w : World) (self : ℕ) (i j : Instruction) (choice : ℕ) (top : Option made.Frame.Frame) (waiting : List made.Frame.Frame) (f : made.Frame.Frame) → top ≡ Some f → i ≡ j → on_stack p bound w self i choice (stack_of top waiting) ≡ event_of p bound w self (frame_model f) (map frame_model (reverse waiting)) j choice
+pub on_frame : (p : ProgramModel) (bound : QueueBounds) (w : World) (self : ℕ) (i j : Instruction) (choice : ℕ) (top : Option made.Frame.Frame) (waiting : List made.Frame.Frame) (f : made.Frame.Frame) → top ≡ Some f → i ≡ j → on_stack p bound w self i choice (stack_of top waiting) ≡ event_of p bound w self (frame_model f) (map frame_model (reverse waiting)) j choice
 on_frame p bound w self i j choice top waiting f e is =
     ap (λ t. on_stack p bound w self i choice (stack_of t waiting)) e ∙ ap (λ k. event_of p bound w self (frame_model f) (map frame_model (reverse waiting)) k choice) is
 
@@ -42,7 +42,7 @@ run_same (Err h) ps q s t before after is same kept =
     ap (λ xs. the_world xs after) stacks ∙ ap (the_world (map stack_model ps)) kept
 
 -- an instruction as it lies in memory
-pub frame_tells : (X : Type 0) (r : Result X Refusal) (p : ProgramModel) (bound : Bounds) (w : World) (self : ℕ) (f : Frame) (rest : List Frame) (i j : Instruction) (choice : ℕ) (after : World)
+pub frame_tells : (X : Type 0) (r : Result X Refusal) (p : ProgramModel) (bound : QueueBounds) (w : World) (self : ℕ) (f : Frame) (rest : List Frame) (i j : Instruction) (choice : ℕ) (after : World)
     → i ≡ j → Tells r (event_of p bound w self f rest j choice) after → Tells r (event_of p bound w self f rest i choice) after
 frame_tells X r p bound w self f rest i j choice after is told = subst (λ k. Tells r (event_of p bound w self f rest k choice) after) (sym is) told
 
@@ -52,6 +52,6 @@ pub slice_tells : (X : Type 0) (r : Result X Refusal) (o : Outcome) (processes :
 slice_tells X r o processes self rest f read blocks is told = subst (λ l. Tells r o (on_top processes self rest f (blocks_model l))) is told
 
 -- a Stop ends the innermost frame
-pub stop_is : (p : ProgramModel) (bound : Bounds) (w : World) (self : ℕ) (i : Instruction) (place : Place) (choice : ℕ) (stack : List Frame) → i ≡ Stop place → on_stack p bound w self i choice stack ≡ ended p bound w self None stack
+pub stop_is : (p : ProgramModel) (bound : QueueBounds) (w : World) (self : ℕ) (i : Instruction) (place : Place) (choice : ℕ) (stack : List Frame) → i ≡ Stop place → on_stack p bound w self i choice stack ≡ ended p bound w self None stack
 stop_is p bound w self i place choice [] is = refl
 stop_is p bound w self i place choice (f ∷ rest) is = ap (λ k. event_of p bound w self f rest k choice) is

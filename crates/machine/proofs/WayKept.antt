@@ -4,7 +4,7 @@ use Rattle.std.proofs.Common.{◌∙◌, arith, ⊎_elim}
 use Rattle.std.proofs.lemmas.Bool.{cases_Bool, eqb-true}
 use Rattle.std.specs.Prelude.{◌||◌, ◌&&◌, if◌then◌else◌}
 use Rattle.machine.specs.Blocks.{freed_block, goes_with, in_block_of, in_queue_of, lies_in}
-use Rattle.machine.specs.Heaps.{IsHeld, Rooted, below, occurs, of_process, one_if, top}
+use Rattle.machine.specs.Heaps.{FieldsHold, Rooted, below, occurs, of_process, one_if, top}
 use Rattle.machine.specs.World.{Block, MessageHeld, block_at, changed, freed, is_freed, is_inside, is_queue}
 use Rattle.machine.specs.declared.worlds.Owner.{Owner}
 use Rattle.machine.specs.declared.worlds.Owner.TheVariants.{Process, Queue, Inside, Channel, Freed}
@@ -80,7 +80,7 @@ and_false true t h = h refl
 and_false false t h = refl
 
 -- it is true at the beginning
-pub begins : (bs : List Block) (a : ℕ) → IsHeld bs → of_process (block_at bs a).owner ≡ true → Frees bs a bs a
+pub begins : (bs : List Block) (a : ℕ) → FieldsHold bs → of_process (block_at bs a).owner ≡ true → Frees bs a bs a
 begins bs a h own = record {
   goes = goes_self bs h.rooted a;
   owned = own;

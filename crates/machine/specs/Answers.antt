@@ -8,7 +8,7 @@ use Rattle.program.specs.declared.call.Argument.{Argument}
 use Rattle.program.specs.declared.statement.Mention.{Mention}
 use Rattle.machine.specs.Frames.{address, put}
 use Rattle.machine.specs.Machine.{event_of, returns}
-use Rattle.machine.specs.Outcomes.{Test, tested, Bounds, Outcome, Moved, Faulty, Waits, NoProcess}
+use Rattle.machine.specs.Outcomes.{FaultTest, tested, QueueBounds, Outcome, Moved, Faulty, Waits, NoProcess}
 use Rattle.machine.specs.World.{Block, Frame, MessageHeld, World, let_go, read}
 use Rattle.machine.specs.declared.halts.Fault.{Fault}
 use Rattle.machine.specs.declared.halts.Halt.{Halt}
@@ -38,12 +38,12 @@ abbrev pub with_variables : Frame → List (Option ℕ) → Frame
 with_variables f variables = record { method = f.method; point = f.point; variables = variables }
 
 -- what an instruction comes to on a stack
-abbrev pub on_stack : ProgramModel → Bounds → World → ℕ → Instruction → ℕ → List Frame → Outcome
+abbrev pub on_stack : ProgramModel → QueueBounds → World → ℕ → Instruction → ℕ → List Frame → Outcome
 on_stack p bound w self i choice [] = NoProcess
 on_stack p bound w self i choice (f ∷ rest) = event_of p bound w self f rest i choice
 
 -- what the end of the innermost frame of a stack comes to, where it gives what a variable has
-abbrev pub ended : ProgramModel → Bounds → World → ℕ → Option Mention → List Frame → Outcome
+abbrev pub ended : ProgramModel → QueueBounds → World → ℕ → Option Mention → List Frame → Outcome
 ended p bound w self value [] = NoProcess
 ended p bound w self value (f ∷ rest) = returns p bound w self f rest value rest
 
@@ -95,16 +95,16 @@ abbrev pub with_stack : World → ℕ → List Frame → List Block → World
 with_stack w self stack blocks = record { processes = set w.processes self stack; blocks = blocks }
 
 -- all these tests pass
-abbrev pub Pass : List Test → Type 0
-Pass tests = (more : List Test) (outcome : Outcome) → tested (tests ++ more) outcome ≡ tested more outcome
+abbrev pub Pass : List FaultTest → Type 0
+Pass tests = (more : List FaultTest) (outcome : Outcome) → tested (tests ++ more) outcome ≡ tested more outcome
 
 -- the fault of the first of these tests that fails, if one does
-abbrev pub IsFirstFault : Option Fault → List Test → Type 0
+abbrev pub IsFirstFault : Option Fault → List FaultTest → Type 0
 IsFirstFault None tests = Pass tests
-IsFirstFault (Some fault) tests = (more : List Test) (outcome : Outcome) → tested (tests ++ more) outcome ≡ Faulty fault
+IsFirstFault (Some fault) tests = (more : List FaultTest) (outcome : Outcome) → tested (tests ++ more) outcome ≡ Faulty fault
 
 -- The first of these tests that fails has this fault. No test waits or takes memory.
-abbrev pub IsRefusal : Refusal → List Test → Type 0
+abbrev pub IsRefusal : Refusal → List FaultTest → Type 0
 IsRefusal (refusal.Fault fault) tests = IsFirstFault (Some fault) tests
 IsRefusal refusal.Memory tests = ⊥
 IsRefusal refusal.Waits tests = ⊥

@@ -12,7 +12,7 @@ use Rattle.program.specs.declared.statement.Channel as made
 use Rattle.contracts.specs.Leaving.{end_on}
 use Rattle.rules.specs.Endpoints.{edges_in, edges_out}
 use Rattle.machine.specs.Frames.{address}
-use Rattle.machine.specs.Outcomes.{Bounds, Test, test}
+use Rattle.machine.specs.Outcomes.{QueueBounds, FaultTest, test}
 use Rattle.machine.specs.World.{MessageHeld, Block, block_at, cut_off, freed, is_process, owns, read}
 use Rattle.machine.specs.declared.halts.Fault.TheVariants.{F1, F3, F4, F6}
 use Rattle.machine.specs.declared.worlds.Owner.{Owner}
@@ -116,7 +116,7 @@ abbrev pub end_type : made.Channel → Side → HeapType
 end_type c side = Endpoint c.contract side record { 0 = 0 }
 
 -- how many messages the queue to it may hold
-abbrev pub bound_of : Bounds → HeapType → ℕ
+abbrev pub bound_of : QueueBounds → HeapType → ℕ
 bound_of bound (Endpoint contract side state) = bound contract.0 side
 bound_of bound _ = 0
 
@@ -131,7 +131,7 @@ is_own_still blocks self taken None = false
 is_own_still blocks self taken (Some a) = owns blocks self a && not (is_among taken a)
 
 -- the tests of arguments, in order: what is lent, and what is claimed
-abbrev pub argument_tests_in : List Block → ℕ → List (Option ℕ) → List ℕ → List Argument → List Test
+abbrev pub argument_tests_in : List Block → ℕ → List (Option ℕ) → List ℕ → List Argument → List FaultTest
 argument_tests_in blocks self variables taken [] = []
 argument_tests_in blocks self variables taken (a ∷ arguments) =
     test (is_own_still blocks self taken (read variables a.mention.variable.0)) (if a.claimed then F3 else F1)
@@ -146,10 +146,10 @@ abbrev pub received_state : ProgramModel → List Block → (at message : ℕ) �
 received_state p blocks at message = end_on (edges_in p (Some (block_at blocks at).ty) (block_at blocks at).state) message
 
 -- whether the endpoint at an address may take one more message, unless it is freed
-abbrev pub has_room_in : Bounds → List Block → ℕ → Bool
+abbrev pub has_room_in : QueueBounds → List Block → ℕ → Bool
 has_room_in bound blocks to = freed blocks to || nat_lt (length (block_at blocks to).queue) (bound_of bound (block_at blocks to).ty)
 
 -- the tests of a send behind those of what it names
-abbrev pub send_tests_in : Bounds → List Block → ℕ → Option ℕ → List Test
+abbrev pub send_tests_in : QueueBounds → List Block → ℕ → Option ℕ → List FaultTest
 send_tests_in bound blocks at edge =
     test (cut_off blocks at || is_some edge) F4 ∷ test (has_room_in bound blocks (block_at blocks at).peer) F6 ∷ []

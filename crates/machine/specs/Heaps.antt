@@ -30,7 +30,7 @@ pub record IsCounted (blocks : List Block) (counts : List ℕ) : Type 0 where
   pub counts_are : (q : ℕ) → get_or counts q 0 ≡ owned_by blocks q
 
 -- The messages of a queue bring each block that it owns once, and no other.
-pub record IsBrought (blocks : List Block) : Type 0 where
+pub record QueuesBring (blocks : List Block) : Type 0 where
   pub brings_are : (a j : ℕ) → occurs (brings (block_at blocks a).queue) j ≡ one_if (is_queue (block_at blocks j).owner a)
 
 -- The owners lead from an address, in finitely many steps, to a block that is inside no other. So no block is inside itself.
@@ -40,7 +40,7 @@ pub data Rooted (blocks : List Block) : ℕ → Type 0 where
 
 -- The fields of a block hold each block that is directly inside it once, and no other, and the owners lead up from each address in
 -- finitely many steps.
-pub record IsHeld (blocks : List Block) : Type 0 where
+pub record FieldsHold (blocks : List Block) : Type 0 where
   pub holds_are : (a j : ℕ) → occurs (block_at blocks a).fields j ≡ one_if (is_inside (block_at blocks j).owner a)
   pub rooted : (j : ℕ) → Rooted blocks j
 
@@ -53,8 +53,8 @@ pub record AreAllInside (blocks : List Block) (a : ℕ) (these : ℕ → Bool) :
 -- what a heap keeps true
 pub record IsHeap (blocks : List Block) (counts : List ℕ) : Type 0 where
   pub counted : IsCounted blocks counts
-  pub brought : IsBrought blocks
-  pub held : IsHeld blocks
+  pub brought : QueuesBring blocks
+  pub held : FieldsHold blocks
 
 -- an owner that may be given a block: a process needs a count
 abbrev pub IsListed : List ℕ → Owner → Type 0

@@ -17,7 +17,7 @@ use Rattle.machine.specs.Blocks.{received_state, sent_state}
 use Rattle.machine.specs.Blocks.{end_type, exchanged_block, freed_block, goes_with, handed, is_imp, new_block, received_block, sent_block}
 use Rattle.machine.specs.Frames.{call_next, call_target, entered, instruction_at, type_at, method_at, variables_of}
 use Rattle.machine.specs.Frames.{address, addresses, bound_to, forgotten, gone_with, payloads_claimed, put}
-use Rattle.machine.specs.Outcomes.{Bounds, Outcome, Moved, Faulty, Waits, NoChoice, Test, test, tested}
+use Rattle.machine.specs.Outcomes.{QueueBounds, Outcome, Moved, Faulty, Waits, NoChoice, FaultTest, test, tested}
 use Rattle.machine.specs.World.{Block, Frame, MessageHeld, World, block_at, changed, cut_off, freed, is_own_in, let_go, read}
 use Rattle.machine.specs.declared.halts.Fault.TheVariants.{F1, F2, F3, F5, F7}
 use Rattle.machine.specs.declared.worlds.Owner.TheVariants.{Process, Inside}
@@ -27,7 +27,7 @@ abbrev pub way : Branches → ℕ → ℕ
 way (Only point) choice = point
 way (Either inside past) choice = if choice == 0 then inside else past
 
-module _ (p : ProgramModel) (bound : Bounds) (w : World) (self : ℕ) (f : Frame) (rest : List Frame) where
+module _ (p : ProgramModel) (bound : QueueBounds) (w : World) (self : ℕ) (f : Frame) (rest : List Frame) where
   -- the process goes on with these frames and blocks
   abbrev pub goes : List Frame → List Block → Outcome
   goes frames blocks = Moved record { processes = set w.processes self frames; blocks = blocks }
@@ -45,7 +45,7 @@ module _ (p : ProgramModel) (bound : Bounds) (w : World) (self : ℕ) (f : Frame
   is_own x = is_own_in w.blocks self x
 
   -- the tests of arguments, in order
-  abbrev pub argument_tests : List ℕ → List Argument → List Test
+  abbrev pub argument_tests : List ℕ → List Argument → List FaultTest
   argument_tests taken arguments = argument_tests_in w.blocks self f.variables taken arguments
 
   -- the endpoint at an address sends
@@ -60,7 +60,7 @@ module _ (p : ProgramModel) (bound : Bounds) (w : World) (self : ℕ) (f : Frame
   has_room to = has_room_in bound w.blocks to
 
   -- the tests of a send behind those of what it names
-  abbrev pub send_tests : ℕ → Option ℕ → List Test
+  abbrev pub send_tests : ℕ → Option ℕ → List FaultTest
   send_tests at edge = send_tests_in bound w.blocks at edge
 
   -- the state behind the edge of the endpoint at an address, out and in
@@ -102,7 +102,7 @@ module _ (p : ProgramModel) (bound : Bounds) (w : World) (self : ℕ) (f : Frame
       goes (record { method = g.method; point = call_next call; variables = put g.variables (call_target call) (has v) } ∷ more) w.blocks
 
   -- the test of what a frame gives
-  abbrev pub value_tests : Option Mention → List Test
+  abbrev pub value_tests : Option Mention → List FaultTest
   value_tests None = []
   value_tests (Some v) = test (is_own (has v)) F3 ∷ []
 

@@ -1,11 +1,11 @@
--- What a heap keeps true has at most one proof, and so has the order of bindings. The types `Heap` and `Variables` have ghost fields of
--- these, and a ghost field wants that.
+-- What a heap keeps true has at most one proof, and so has the order of bindings. The types `BlockHeap` and `Variables` have ghost fields
+-- of these, and a ghost field wants that.
 use Rattle.std.specs.Prelude.{◌≡◌, ℕ, ◌==◌, ◌<◌, true, false, List, length}
 use Rattle.std.proofs.Common.{refl, sym, ap, ◌∙◌, subst, ⊎_elim}
 use Rattle.std.proofs.lemmas.Bool.Decides.{eqb_tells}
 use Rattle.std.proofs.Props.{props}
 use Rattle.machine.specs.Bindings.{AreSorted, variable_at}
-use Rattle.machine.specs.Heaps.{IsBrought, IsCounted, IsHeap, IsHeld, Rooted, top, below, occurs, one_if}
+use Rattle.machine.specs.Heaps.{QueuesBring, IsCounted, IsHeap, FieldsHold, Rooted, top, below, occurs, one_if}
 use Rattle.machine.specs.World.{Block, block_at, is_inside}
 use Rattle.machine.specs.declared.variables.Binding.{Binding}
 use Rattle.machine.specs.declared.worlds.Owner.{Owner}
@@ -39,13 +39,13 @@ rooted_once bs x (below a b e r) (below a2 c f s) =
 counts_once : (bs : List Block) (counts : List ℕ) → IsProp (IsCounted bs counts)
 counts_once bs counts = Prim.hlevel props
 
-brought_once : (bs : List Block) → IsProp (IsBrought bs)
+brought_once : (bs : List Block) → IsProp (QueuesBring bs)
 brought_once bs = Prim.hlevel props
 
 fields_once : (bs : List Block) → IsProp ((a j : ℕ) → occurs (block_at bs a).fields j ≡ one_if (is_inside (block_at bs j).owner a))
 fields_once bs = Prim.hlevel props
 
-held_once : (bs : List Block) → IsProp (IsHeld bs)
+held_once : (bs : List Block) → IsProp (FieldsHold bs)
 held_once bs h k = λ i. record {
   holds_are = fields_once bs h.holds_are k.holds_are i;
   rooted = λ x. rooted_once bs x (h.rooted x) (k.rooted x) i;

@@ -11,12 +11,12 @@ abbrev pub variables_model : Variables → List (Option ℕ)
 variables_model v = variables_in v.count v.bindings.items
 
 -- a variable may take something without more memory
-abbrev pub Takes : Variables → ℕ → Type 0
-Takes v u = MayTake v.count v.bindings.items u
+abbrev pub CanTake : Variables → ℕ → Type 0
+CanTake v u = MayTake v.count v.bindings.items u
 
 -- each variable that may take something without more memory still may
 abbrev pub StillTakes : (old new : Variables) → Type 0
-StillTakes old new = (u : ℕ) → Takes old u → Takes new u
+StillTakes old new = (u : ℕ) → CanTake old u → CanTake new u
 
 -- a frame
 abbrev pub frame_model : made.Frame.Frame → Frame

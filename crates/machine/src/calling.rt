@@ -8,7 +8,7 @@ ghost use Rattle.program.specs.WellFormed as formed;
 ghost use Rattle.rules.specs.Programs.{model_of};
 ghost use Rattle.machine.specs.Answers.{Tells, entered_on, on_stack, with_stack};
 ghost use Rattle.machine.specs.Frames.{entered, filled};
-ghost use Rattle.machine.specs.Outcomes.{Bounds};
+ghost use Rattle.machine.specs.Outcomes.{QueueBounds};
 ghost use Rattle.machine.specs.Views.{blocks_model, frame_model, stack_model, variables_model};
 ghost use Rattle.machine.specs.World as seen;
 ghost use Rattle.machine.specs.World.{read};
@@ -110,7 +110,7 @@ pub(crate) fn call(
     calling: &Calling,
 ) -> Result<(), Refusal>
     requires top { IsSome stack.old.top }
-    ensures tells { (bound : Bounds) (w : seen.World) → w.blocks ≡ blocks_model blocks.now →
+    ensures tells { (bound : QueueBounds) (w : seen.World) → w.blocks ≡ blocks_model blocks.now →
         Tells result (on_stack (model_of program.now) bound w process (instruction_model (Instr.Call calling.now)) 0
         (stack_model stack.old))
         (with_stack w process (stack_model stack.new) (blocks_model blocks.now)) }

@@ -10,7 +10,7 @@ ghost use Rattle.rules.specs.Programs.{model_of};
 ghost use Rattle.machine.specs.Answers.{IsRefusal, Pass};
 ghost use Rattle.machine.specs.Blocks as told;
 ghost use Rattle.machine.specs.Blocks.{received_state, sent_state, has_room_in, send_tests_in};
-ghost use Rattle.machine.specs.Outcomes.{Bounds};
+ghost use Rattle.machine.specs.Outcomes.{QueueBounds};
 ghost use Rattle.machine.specs.Runs.{AreBounds};
 ghost use Rattle.machine.specs.Views.{blocks_model};
 ghost use Rattle.machine.specs.World.{block_at, cut_off, freed, no_type};
@@ -32,7 +32,7 @@ pub(crate) struct Way {
 
 /// How many messages the queue to an end of a contract may hold; none, where there is no such contract.
 fn bound_at(program: &Program, contract: ContractId, side: Side) -> u32
-    ensures { (bound : Bounds) → AreBounds (model_of program.now) bound → result ≡ bound contract.0 side }
+    ensures { (bound : QueueBounds) → AreBounds (model_of program.now) bound → result ≡ bound contract.0 side }
 {
     match program.sounds().get(contract.0 as usize) {
         Some(sound) => sound.bound(side),
@@ -42,7 +42,7 @@ fn bound_at(program: &Program, contract: ContractId, side: Side) -> u32
 
 /// How many messages the queue to an endpoint of this type may hold.
 fn bound_of(program: &Program, ty: HeapType) -> u32
-    ensures bound { (bound : Bounds) → AreBounds (model_of program.now) bound → result ≡ told.bound_of bound ty }
+    ensures bound { (bound : QueueBounds) → AreBounds (model_of program.now) bound → result ≡ told.bound_of bound ty }
     ensures none { ty ≡ no_type → result ≡ 0 }
 {
     match ty {
@@ -53,7 +53,8 @@ fn bound_of(program: &Program, ty: HeapType) -> u32
 
 /// Whether the queue of an endpoint may take one more message, unless it is freed.
 fn has_room(program: &Program, blocks: &[Block], to: usize) -> bool
-    ensures room { (bound : Bounds) → AreBounds (model_of program.now) bound → result ≡ has_room_in bound (blocks_model blocks.now) to }
+    ensures room { (bound : QueueBounds) → AreBounds (model_of program.now) bound
+        → result ≡ has_room_in bound (blocks_model blocks.now) to }
     ensures there { IsTrue result → freed (blocks_model blocks.now) to ≡ false → to < length (blocks_model blocks.now) }
 {
     is_freed(blocks, to)
@@ -90,7 +91,7 @@ pub(crate) fn way_out(
     at: usize,
     message: MessageId,
 ) -> Result<Way, Refusal>
-    ensures pass { IfOk result (λ way. (bound : Bounds) → AreBounds (model_of program.now) bound
+    ensures pass { IfOk result (λ way. (bound : QueueBounds) → AreBounds (model_of program.now) bound
         → Pass (send_tests_in bound (blocks_model blocks.now) at
         (sent_state (model_of program.now) (blocks_model blocks.now) at message.0))) }
     ensures at { IfOk result (λ way. way.at ≡ at) }
@@ -101,7 +102,7 @@ pub(crate) fn way_out(
         else unwrap_or (sent_state (model_of program.now) (blocks_model blocks.now) at message.0)
         (block_at (blocks_model blocks.now) at).state)) }
     ensures there { IfOk result (λ way. way.gone ≡ false → way.peer < length (blocks_model blocks.now)) }
-    ensures refusal { IfErr result (λ refusal. (bound : Bounds) → AreBounds (model_of program.now) bound → IsRefusal refusal
+    ensures refusal { IfErr result (λ refusal. (bound : QueueBounds) → AreBounds (model_of program.now) bound → IsRefusal refusal
         (send_tests_in bound (blocks_model blocks.now) at
         (sent_state (model_of program.now) (blocks_model blocks.now) at message.0))) }
 {

@@ -6,12 +6,12 @@ ghost use Rattle.flow.specs.Graphs as instruction;
 ghost use Rattle.machine.specs.Answers.{Tells, on_top};
 ghost use Rattle.machine.specs.Blocks.{is_own_still};
 ghost use Rattle.machine.specs.Machine.{event_of};
-ghost use Rattle.machine.specs.Outcomes.{Bounds};
+ghost use Rattle.machine.specs.Outcomes.{QueueBounds};
 ghost use Rattle.machine.specs.Views.{blocks_model, frame_model};
 ghost use Rattle.machine.specs.World as seen;
 
 use crate::halts::{Fault, Refusal};
-use crate::heaps::Heap;
+use crate::heaps::BlockHeap;
 use crate::reading::own;
 use crate::worlds::{Block, Frame};
 use program::Exchange;
@@ -33,12 +33,12 @@ fn own_apart(blocks: &[Block], process: usize, at: usize, address: Option<usize>
 /// memory is taken.
 pub(crate) fn exchange(
     frame: &mut Frame,
-    heap: &mut Heap,
+    heap: &mut BlockHeap,
     process: usize,
     e: Exchange,
     next: usize,
 ) -> Result<(), Refusal>
-    ensures tells { (p : ProgramModel) (bound : Bounds) (w : seen.World) (rest : List seen.Frame) →
+    ensures tells { (p : ProgramModel) (bound : QueueBounds) (w : seen.World) (rest : List seen.Frame) →
         w.blocks ≡ blocks_model heap.old.blocks.items →
         Tells result (event_of p bound w process (frame_model frame.old) rest (instruction.Exchange e next) 0)
         (on_top w.processes process rest (frame_model frame.new) (blocks_model heap.new.blocks.items)) }

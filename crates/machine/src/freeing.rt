@@ -4,7 +4,7 @@ ghost use Rattle.std.specs.Prelude.{◌≡◌, ◌<◌, IfNone, IfSome, [], leng
 ghost use Rattle.machine.specs.BlockViews.{blocks_model};
 ghost use Rattle.machine.specs.Blocks.{freed_block, goes_with};
 ghost use Rattle.machine.specs.Freeing.{IsPopped, IsStep, freed_one};
-ghost use Rattle.machine.specs.Heaps.{IsBrought, IsCounted, IsHeld, of_process};
+ghost use Rattle.machine.specs.Heaps.{QueuesBring, IsCounted, FieldsHold, of_process};
 ghost use Rattle.machine.specs.World.{block_at, changed};
 
 use crate::changing::{hand_one, lose, take_queue};
@@ -24,7 +24,7 @@ fn pop_field(blocks: &mut Vec<Block>, x: usize) -> Option<usize>
 /// Frees one block, whose fields hold nothing. Its queue is emptied, and what that owned goes to the channel.
 fn free_one(alloc: Global, blocks: &mut Vec<Block>, counts: &mut Vec<usize>, x: usize)
     requires counted { IsCounted (blocks_model blocks.old.items) counts.old.items }
-    requires brought { IsBrought (blocks_model blocks.old.items) }
+    requires brought { QueuesBring (blocks_model blocks.old.items) }
     requires empty { (block_at (blocks_model blocks.old.items) x).fields ≡ [] }
     ensures freed { blocks_model blocks.new.items ≡ changed (freed_one x) (blocks_model blocks.old.items) }
     ensures counted { IsCounted (blocks_model blocks.new.items) counts.new.items }
@@ -44,7 +44,7 @@ fn free_step(
 ) -> Option<usize>
     requires there { x < length blocks.old.items }
     requires counted { IsCounted (blocks_model blocks.old.items) counts.old.items }
-    requires brought { IsBrought (blocks_model blocks.old.items) }
+    requires brought { QueuesBring (blocks_model blocks.old.items) }
     ensures steps { IsStep (blocks_model blocks.old.items) (blocks_model blocks.new.items) x result }
     ensures counted { IsCounted (blocks_model blocks.new.items) counts.new.items }
 {
@@ -62,13 +62,13 @@ fn free_step(
 /// Frees a block of a process and all that is inside it.
 pub(crate) fn free(alloc: Global, blocks: &mut Vec<Block>, counts: &mut Vec<usize>, a: usize)
     requires counted { IsCounted (blocks_model blocks.old.items) counts.old.items }
-    requires brought { IsBrought (blocks_model blocks.old.items) }
-    requires held { IsHeld (blocks_model blocks.old.items) }
+    requires brought { QueuesBring (blocks_model blocks.old.items) }
+    requires held { FieldsHold (blocks_model blocks.old.items) }
     requires owned { of_process (block_at (blocks_model blocks.old.items) a).owner ≡ true }
     ensures freed { blocks_model blocks.new.items
         ≡ changed (freed_block (goes_with (blocks_model blocks.old.items) a)) (blocks_model blocks.old.items) }
     ensures counted { IsCounted (blocks_model blocks.new.items) counts.new.items }
-    ensures brought { IsBrought (blocks_model blocks.new.items) }
+    ensures brought { QueuesBring (blocks_model blocks.new.items) }
 {
     let mut at = Some(a);
     'way: while let Some(x) = at {

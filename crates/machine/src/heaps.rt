@@ -20,18 +20,18 @@ use std::collections::VecDeque;
 
 /// Blocks by their addresses, and by its number how many of them each process has.
 #[derive(Drop)]
-pub(crate) struct Heap {
+pub(crate) struct BlockHeap {
     blocks: Vec<Block>,
     counts: Vec<usize>,
     ghost kept: { IsHeap (blocks_model blocks.items) counts.items } by { heap_once _ _ },
 }
 
-impl Heap {
+impl BlockHeap {
     /// A heap of no block.
-    pub(crate) fn new(alloc: Global) -> Heap
+    pub(crate) fn new(alloc: Global) -> BlockHeap
         ensures { blocks_model result.blocks.items ≡ [] }
     {
-        Heap {
+        BlockHeap {
             blocks: Vec::new(alloc),
             counts: Vec::new(alloc),
         }

@@ -6,7 +6,7 @@ ghost use Rattle.rules.specs.Programs.{model_of};
 ghost use Rattle.machine.specs.Answers.{Tells, is_of_channel, is_of_frame, is_of_heap, is_of_process, on_stack, on_top, with_stack};
 ghost use Rattle.machine.specs.Frames as told;
 ghost use Rattle.machine.specs.Machine.{event_of};
-ghost use Rattle.machine.specs.Outcomes.{Bounds};
+ghost use Rattle.machine.specs.Outcomes.{QueueBounds};
 ghost use Rattle.machine.specs.Runs.{AreBounds};
 ghost use Rattle.machine.specs.Views.{blocks_model, frame_model, stack_model, world_model};
 ghost use Rattle.machine.specs.World as seen;
@@ -16,7 +16,7 @@ ghost use Rattle.machine.specs.declared.worlds.Process.{Process};
 use crate::calling::call;
 use crate::exchanging::exchange;
 use crate::halts::Refusal;
-use crate::heaps::Heap;
+use crate::heaps::BlockHeap;
 use crate::owning::{Making, Turn, delete, new, new_channel};
 use crate::quiet::{branch, forget_, move_, use_};
 use crate::returning::{end, return_};
@@ -54,12 +54,12 @@ fn on_heap(
     alloc: Global,
     program: &Program,
     frame: &mut Frame,
-    heap: &mut Heap,
+    heap: &mut BlockHeap,
     chosen: Chosen,
     instr: &Instr,
 ) -> Result<(), Refusal>
     requires of { is_of_heap (instruction_model instr.now) ≡ true }
-    ensures tells { (bound : Bounds) (w : seen.World) (rest : List seen.Frame) → AreBounds (model_of program.now) bound →
+    ensures tells { (bound : QueueBounds) (w : seen.World) (rest : List seen.Frame) → AreBounds (model_of program.now) bound →
         w.blocks ≡ blocks_model heap.old.blocks.items →
         Tells result (event_of (model_of program.now) bound w chosen.process (frame_model frame.old) rest (instruction_model instr.now)
         chosen.choice)
@@ -102,13 +102,13 @@ fn on_channel(
     alloc: Global,
     program: &Program,
     frame: &mut Frame,
-    heap: &mut Heap,
+    heap: &mut BlockHeap,
     chosen: Chosen,
     instr: &Instr,
 ) -> Result<(), Refusal>
     requires of { is_of_channel (instruction_model instr.now) ≡ true }
     requires there { chosen.choice < told.choices (instruction_model instr.now) }
-    ensures tells { (bound : Bounds) (w : seen.World) (rest : List seen.Frame) → AreBounds (model_of program.now) bound →
+    ensures tells { (bound : QueueBounds) (w : seen.World) (rest : List seen.Frame) → AreBounds (model_of program.now) bound →
         w.blocks ≡ blocks_model heap.old.blocks.items →
         Tells result (event_of (model_of program.now) bound w chosen.process (frame_model frame.old) rest (instruction_model instr.now)
         chosen.choice)
@@ -129,13 +129,13 @@ fn on_frame(
     alloc: Global,
     program: &Program,
     frame: &mut Frame,
-    heap: &mut Heap,
+    heap: &mut BlockHeap,
     chosen: Chosen,
     instr: &Instr,
 ) -> Result<(), Refusal>
     requires of { is_of_frame (instruction_model instr.now) ≡ true }
     requires there { chosen.choice < told.choices (instruction_model instr.now) }
-    ensures tells { (bound : Bounds) (w : seen.World) (rest : List seen.Frame) → AreBounds (model_of program.now) bound →
+    ensures tells { (bound : QueueBounds) (w : seen.World) (rest : List seen.Frame) → AreBounds (model_of program.now) bound →
         w.blocks ≡ blocks_model heap.old.blocks.items →
         Tells result (event_of (model_of program.now) bound w chosen.process (frame_model frame.old) rest (instruction_model instr.now)
         chosen.choice)
@@ -171,14 +171,14 @@ fn on_stack(
     alloc: Global,
     program: &Program,
     stack: &mut Process,
-    heap: &mut Heap,
+    heap: &mut BlockHeap,
     chosen: Chosen,
     instr: &Instr,
 ) -> Result<(), Refusal>
     requires of { is_of_process (instruction_model instr.now) ≡ true }
     requires there { chosen.choice < told.choices (instruction_model instr.now) }
     requires top { IsSome stack.old.top }
-    ensures tells { (bound : Bounds) (w : seen.World) → AreBounds (model_of program.now) bound →
+    ensures tells { (bound : QueueBounds) (w : seen.World) → AreBounds (model_of program.now) bound →
         w.blocks ≡ blocks_model heap.old.blocks.items →
         Tells result (on_stack (model_of program.now) bound w chosen.process (instruction_model instr.now) chosen.choice
         (stack_model stack.old))
@@ -218,7 +218,7 @@ impl World {
         requires there { chosen.process < length self.old.processes.items }
         requires choice { chosen.choice < told.choices (instruction_model instr.now) }
         requires top { (d : Process) → IsSome (get_or self.old.processes.items chosen.process d).top }
-        ensures tells { (bound : Bounds) → AreBounds (model_of program.now) bound →
+        ensures tells { (bound : QueueBounds) → AreBounds (model_of program.now) bound →
             Tells result (on_stack (model_of program.now) bound (world_model self.old) chosen.process (instruction_model instr.now)
             chosen.choice (stack_at (world_model self.old).processes chosen.process))
             (world_model self.new) }

@@ -9,7 +9,7 @@ ghost use Rattle.machine.specs.Answers.{with_variables};
 ghost use Rattle.machine.specs.Bindings.{AllMayTake};
 ghost use Rattle.machine.specs.Frames.{address, bound_to, forgotten, type_at, variables_of};
 ghost use Rattle.machine.specs.Frames as told;
-ghost use Rattle.machine.specs.Views.{StillTakes, Takes, frame_model, variables_model};
+ghost use Rattle.machine.specs.Views.{StillTakes, CanTake, frame_model, variables_model};
 ghost use Rattle.machine.specs.World.{let_go, read};
 
 use crate::halts::Refusal;
@@ -36,7 +36,7 @@ impl Frame {
     /// Takes the memory that is needed to give a variable something. What it has stays.
     pub(crate) fn list(&mut self, v: Mention) -> Result<(), Refusal>
         ensures same { frame_model self.new ≡ frame_model self.old }
-        ensures takes { OnOk result (Takes self.new.variables v.variable.0) }
+        ensures takes { OnOk result (CanTake self.new.variables v.variable.0) }
         ensures still { StillTakes self.old.variables self.new.variables }
         ensures memory { IfErr result (λ refusal. refusal ≡ Refusal.Memory) }
     {
@@ -46,7 +46,7 @@ impl Frame {
 
     /// Replaces what a variable has. It takes no memory, so `list` comes before it if the variable is given something.
     pub(crate) fn put(&mut self, v: Mention, x: Option<usize>)
-        requires takes { (a : ℕ) → x ≡ Some a → Takes self.old.variables v.variable.0 }
+        requires takes { (a : ℕ) → x ≡ Some a → CanTake self.old.variables v.variable.0 }
         ensures put { frame_model self.new ≡ with_variables (frame_model self.old) (set (frame_model self.old).variables v.variable.0 x) }
         ensures still { StillTakes self.old.variables self.new.variables }
     {

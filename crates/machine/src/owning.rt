@@ -9,12 +9,12 @@ ghost use Rattle.machine.specs.Answers.{Tells, on_top};
 ghost use Rattle.machine.specs.Blocks.{end_type, is_imp, new_block};
 ghost use Rattle.machine.specs.Frames.{type_at, variables_of};
 ghost use Rattle.machine.specs.Machine.{event_of};
-ghost use Rattle.machine.specs.Outcomes.{Bounds};
+ghost use Rattle.machine.specs.Outcomes.{QueueBounds};
 ghost use Rattle.machine.specs.Views.{block_model, blocks_model, frame_model};
 ghost use Rattle.machine.specs.World as seen;
 
 use crate::halts::{Fault, Refusal};
-use crate::heaps::Heap;
+use crate::heaps::BlockHeap;
 use crate::mentions::type_at;
 use crate::payloads::{are_unsent, lets_payloads_go, payload_addresses};
 use crate::reading::own;
@@ -43,11 +43,11 @@ pub(crate) fn new(
     alloc: Global,
     program: &Program,
     frame: &mut Frame,
-    heap: &mut Heap,
+    heap: &mut BlockHeap,
     turn: Turn,
     making: &Making<'_>,
 ) -> Result<(), Refusal>
-    ensures tells { (bound : Bounds) (w : seen.World) (rest : List seen.Frame) → w.blocks ≡ blocks_model heap.old.blocks.items →
+    ensures tells { (bound : QueueBounds) (w : seen.World) (rest : List seen.Frame) → w.blocks ≡ blocks_model heap.old.blocks.items →
         Tells result (event_of (model_of program.now) bound w turn.process (frame_model frame.old) rest
         (New making.now.target making.now.arguments.now turn.next) 0)
         (on_top w.processes turn.process rest (frame_model frame.new) (blocks_model heap.new.blocks.items)) }
@@ -76,11 +76,11 @@ fn new_alone(
     alloc: Global,
     program: &Program,
     frame: &mut Frame,
-    heap: &mut Heap,
+    heap: &mut BlockHeap,
     turn: Turn,
     target: Mention,
 ) -> Result<(), Refusal>
-    ensures tells { (bound : Bounds) (w : seen.World) (rest : List seen.Frame) → w.blocks ≡ blocks_model heap.old.blocks.items →
+    ensures tells { (bound : QueueBounds) (w : seen.World) (rest : List seen.Frame) → w.blocks ≡ blocks_model heap.old.blocks.items →
         Tells result (event_of (model_of program.now) bound w turn.process (frame_model frame.old) rest (New target [] turn.next) 0)
         (on_top w.processes turn.process rest (frame_model frame.new) (blocks_model heap.new.blocks.items)) }
     ensures same { OnErr result (frame_model frame.new ≡ frame_model frame.old) }
@@ -102,12 +102,12 @@ fn new_alone(
 pub(crate) fn delete(
     alloc: Global,
     frame: &mut Frame,
-    heap: &mut Heap,
+    heap: &mut BlockHeap,
     process: usize,
     at: Mention,
     next: usize,
 ) -> Result<(), Refusal>
-    ensures tells { (p : ProgramModel) (bound : Bounds) (w : seen.World) (rest : List seen.Frame) →
+    ensures tells { (p : ProgramModel) (bound : QueueBounds) (w : seen.World) (rest : List seen.Frame) →
         w.blocks ≡ blocks_model heap.old.blocks.items →
         Tells result (event_of p bound w process (frame_model frame.old) rest (Delete at next) 0)
         (on_top w.processes process rest (frame_model frame.new) (blocks_model heap.new.blocks.items)) }
@@ -164,7 +164,7 @@ fn end_type(channel: Channel, side: Side) -> HeapType
 /// Two new ends in a state, the importing one first.
 fn open(
     alloc: Global,
-    heap: &mut Heap,
+    heap: &mut BlockHeap,
     process: usize,
     channel: Channel,
     state: StateId,
@@ -192,11 +192,11 @@ pub(crate) fn new_channel(
     alloc: Global,
     program: &Program,
     frame: &mut Frame,
-    heap: &mut Heap,
+    heap: &mut BlockHeap,
     turn: Turn,
     channel: Channel,
 ) -> Result<(), Refusal>
-    ensures tells { (bound : Bounds) (w : seen.World) (rest : List seen.Frame) → w.blocks ≡ blocks_model heap.old.blocks.items →
+    ensures tells { (bound : QueueBounds) (w : seen.World) (rest : List seen.Frame) → w.blocks ≡ blocks_model heap.old.blocks.items →
         Tells result (event_of (model_of program.now) bound w turn.process (frame_model frame.old) rest (NewChannel channel turn.next) 0)
         (on_top w.processes turn.process rest (frame_model frame.new) (blocks_model heap.new.blocks.items)) }
     ensures same { OnErr result (frame_model frame.new ≡ frame_model frame.old) }

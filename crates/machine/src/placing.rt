@@ -3,7 +3,7 @@
 ghost use Rattle.std.specs.Prelude.{◌≡◌, length, map, option_map, slice_get};
 ghost use Rattle.flow.specs.Graphs.{instruction_model};
 ghost use Rattle.rules.specs.Programs.{model_of};
-ghost use Rattle.machine.specs.Heaps.{IsHeld};
+ghost use Rattle.machine.specs.Heaps.{FieldsHold};
 ghost use Rattle.machine.specs.Places as told;
 ghost use Rattle.machine.specs.Places.{stack_place};
 ghost use Rattle.machine.specs.Views.{blocks_model, frame_model, stack_model, world_model};
@@ -74,7 +74,7 @@ impl World {
     /// Its blocks, by their addresses. Their fields hold just what is inside them, and the owners lead up in finitely many steps.
     pub fn blocks(&self) -> &[Block]
         ensures seen { blocks_model result.now ≡ (world_model self.now).blocks }
-        ensures held { IsHeld (blocks_model result.now) }
+        ensures held { FieldsHold (blocks_model result.now) }
     {
         self.heap.blocks()
     }

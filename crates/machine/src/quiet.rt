@@ -8,7 +8,7 @@ ghost use Rattle.flow.specs.Graphs.{Use, Move, Branch};
 ghost use Rattle.rules.specs.Programs.{model_of};
 ghost use Rattle.machine.specs.Answers.{Tells, on_top};
 ghost use Rattle.machine.specs.Machine.{event_of};
-ghost use Rattle.machine.specs.Outcomes.{Bounds, Moved};
+ghost use Rattle.machine.specs.Outcomes.{QueueBounds, Moved};
 ghost use Rattle.machine.specs.Views.{blocks_model, frame_model};
 ghost use Rattle.machine.specs.World as seen;
 
@@ -28,8 +28,9 @@ pub(crate) fn use_(
     at: Mention,
     next: usize,
 ) -> Result<(), Refusal>
-    ensures tells { (p : ProgramModel) (bound : Bounds) (w : seen.World) (rest : List seen.Frame) → w.blocks ≡ blocks_model blocks.now →
-        Tells result (event_of p bound w process (frame_model frame.old) rest (Use at next) 0)
+    ensures tells { (p : ProgramModel) (bound : QueueBounds) (w : seen.World) (rest : List seen.Frame)
+        → w.blocks ≡ blocks_model blocks.now
+        → Tells result (event_of p bound w process (frame_model frame.old) rest (Use at next) 0)
         (on_top w.processes process rest (frame_model frame.new) (blocks_model blocks.now)) }
     ensures same { OnErr result (frame_model frame.new ≡ frame_model frame.old) }
 {
@@ -49,8 +50,9 @@ pub(crate) fn move_(
     source: Mention,
     next: usize,
 ) -> Result<(), Refusal>
-    ensures tells { (p : ProgramModel) (bound : Bounds) (w : seen.World) (rest : List seen.Frame) → w.blocks ≡ blocks_model blocks.now →
-        Tells result (event_of p bound w process (frame_model frame.old) rest (Move target source next) 0)
+    ensures tells { (p : ProgramModel) (bound : QueueBounds) (w : seen.World) (rest : List seen.Frame)
+        → w.blocks ≡ blocks_model blocks.now
+        → Tells result (event_of p bound w process (frame_model frame.old) rest (Move target source next) 0)
         (on_top w.processes process rest (frame_model frame.new) (blocks_model blocks.now)) }
     ensures same { OnErr result (frame_model frame.new ≡ frame_model frame.old) }
 {
@@ -66,7 +68,7 @@ pub(crate) fn move_(
 
 /// A condition goes the way of the choice.
 pub(crate) fn branch(frame: &mut Frame, branches: Branches, choice: usize)
-    ensures { (p : ProgramModel) (bound : Bounds) (w : seen.World) (rest : List seen.Frame) (process : ℕ) (place : Place) →
+    ensures { (p : ProgramModel) (bound : QueueBounds) (w : seen.World) (rest : List seen.Frame) (process : ℕ) (place : Place) →
         event_of p bound w process (frame_model frame.old) rest (Branch place branches) choice
         ≡ Moved (on_top w.processes process rest (frame_model frame.new) w.blocks) }
 {
@@ -78,7 +80,7 @@ pub(crate) fn branch(frame: &mut Frame, branches: Branches, choice: usize)
 
 /// Variables go out of scope.
 pub(crate) fn forget_(frame: &mut Frame, program: &Program, forget: Forget, next: usize)
-    ensures { (bound : Bounds) (w : seen.World) (rest : List seen.Frame) (process : ℕ) →
+    ensures { (bound : QueueBounds) (w : seen.World) (rest : List seen.Frame) (process : ℕ) →
         event_of (model_of program.now) bound w process (frame_model frame.old) rest (instruction.Forget forget next) 0
         ≡ Moved (on_top w.processes process rest (frame_model frame.new) w.blocks) }
 {

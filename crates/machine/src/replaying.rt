@@ -2,9 +2,9 @@
 
 ghost use Rattle.std.specs.Prelude.{◌≡◌, ◌<◌, IfOk, Some, length};
 ghost use Rattle.rules.specs.Programs.{model_of};
-ghost use Rattle.machine.specs.Outcomes.{Bounds};
+ghost use Rattle.machine.specs.Outcomes.{QueueBounds};
 ghost use Rattle.machine.specs.Runs.{AreBounds};
-ghost use Rattle.machine.specs.Replays.{IsKnown, IsReplay, replay_model};
+ghost use Rattle.machine.specs.Replays.{MayEndReplay, IsReplay, replay_model};
 
 use crate::halts::{Event, Halt};
 use crate::worlds::World;
@@ -25,7 +25,7 @@ pub struct Replayed {
 /// Want of memory is no answer, and every other halt is.
 fn refuse_memory(halt: Halt) -> Result<Halt, Memory>
     ensures same { IfOk result (λ answer. answer ≡ halt) }
-    ensures known { IfOk result (λ answer. IsKnown (Some answer)) }
+    ensures known { IfOk result (λ answer. MayEndReplay (Some answer)) }
 {
     match halt {
         Halt::Memory => Err(Memory),
@@ -43,7 +43,7 @@ pub fn replay(
     events: &[Event],
 ) -> Result<Replayed, Memory>
     requires there { method.0 < length (model_of program.now).methods }
-    ensures { IfOk result (λ replayed. (bound : Bounds) → AreBounds (model_of program.now) bound
+    ensures { IfOk result (λ replayed. (bound : QueueBounds) → AreBounds (model_of program.now) bound
         → IsReplay (model_of program.now) bound method.0 events.now (replay_model replayed)) }
 {
     let mut world = World::start(alloc, program, method)?;

@@ -7,13 +7,13 @@ ghost use Rattle.source.specs.declared.place.Place.{Place};
 ghost use Rattle.flow.specs.Graphs.{Return};
 ghost use Rattle.rules.specs.Programs.{model_of};
 ghost use Rattle.machine.specs.Answers.{Tells, ended, given_back, on_stack, with_stack, with_variables};
-ghost use Rattle.machine.specs.Outcomes.{Bounds, Faulty};
+ghost use Rattle.machine.specs.Outcomes.{QueueBounds, Faulty};
 ghost use Rattle.machine.specs.Views.{blocks_model, frame_model, stack_of, stack_model};
 ghost use Rattle.machine.specs.World as seen;
 ghost use Rattle.machine.specs.declared.halts.Fault.TheVariants.{F3};
 
 use crate::halts::{Fault, Refusal};
-use crate::heaps::Heap;
+use crate::heaps::BlockHeap;
 use crate::reading::own;
 use crate::standing::behind_call;
 use crate::worlds::{Block, Frame, Process};
@@ -22,11 +22,11 @@ use rules::Program;
 
 /// Whether the innermost frame may give what a variable has, if there is one.
 fn can_give(stack: &Process, blocks: &[Block], process: usize, value: Option<Mention>) -> bool
-    ensures may { IsTrue result → (p : ProgramModel) (bound : Bounds) (w : seen.World) (place : Place) (scope : Option VarId) →
+    ensures may { IsTrue result → (p : ProgramModel) (bound : QueueBounds) (w : seen.World) (place : Place) (scope : Option VarId) →
         w.blocks ≡ blocks_model blocks.now →
         on_stack p bound w process (Return place value scope) 0 (stack_model stack.now)
         ≡ ended p bound w process value (stack_model stack.now) }
-    ensures fault { IsFalse result → (p : ProgramModel) (bound : Bounds) (w : seen.World) (place : Place) (scope : Option VarId) →
+    ensures fault { IsFalse result → (p : ProgramModel) (bound : QueueBounds) (w : seen.World) (place : Place) (scope : Option VarId) →
         w.blocks ≡ blocks_model blocks.now →
         on_stack p bound w process (Return place value scope) 0 (stack_model stack.now) ≡ Faulty F3 }
 {
@@ -59,12 +59,12 @@ fn give_back(
 pub(crate) fn end(
     program: &Program,
     stack: &mut Process,
-    heap: &Heap,
+    heap: &BlockHeap,
     process: usize,
     value: Option<Mention>,
 ) -> Result<(), Refusal>
     requires top { IsSome stack.old.top }
-    ensures tells { (bound : Bounds) (w : seen.World) → w.blocks ≡ blocks_model heap.now.blocks.items →
+    ensures tells { (bound : QueueBounds) (w : seen.World) → w.blocks ≡ blocks_model heap.now.blocks.items →
         Tells result (ended (model_of program.now) bound w process value (stack_model stack.old))
         (with_stack w process (stack_model stack.new) (blocks_model heap.now.blocks.items)) }
     ensures same { OnErr result (stack_model stack.new ≡ stack_model stack.old) }
@@ -88,12 +88,12 @@ pub(crate) fn end(
 pub(crate) fn return_(
     program: &Program,
     stack: &mut Process,
-    heap: &Heap,
+    heap: &BlockHeap,
     process: usize,
     value: Option<Mention>,
 ) -> Result<(), Refusal>
     requires top { IsSome stack.old.top }
-    ensures tells { (bound : Bounds) (w : seen.World) (place : Place) (scope : Option VarId) →
+    ensures tells { (bound : QueueBounds) (w : seen.World) (place : Place) (scope : Option VarId) →
         w.blocks ≡ blocks_model heap.now.blocks.items →
         Tells result (on_stack (model_of program.now) bound w process (Return place value scope) 0 (stack_model stack.old))
         (with_stack w process (stack_model stack.new) (blocks_model heap.now.blocks.items)) }

@@ -6,14 +6,14 @@ ghost use Rattle.flow.specs.declared.graph.Instr.{Instr};
 ghost use Rattle.rules.specs.Programs.{model_of};
 ghost use Rattle.machine.specs.Answers.{Tells, on_top};
 ghost use Rattle.machine.specs.Machine.{event_of};
-ghost use Rattle.machine.specs.Outcomes.{Bounds};
+ghost use Rattle.machine.specs.Outcomes.{QueueBounds};
 ghost use Rattle.machine.specs.Runs.{AreBounds};
 ghost use Rattle.machine.specs.Views.{blocks_model, frame_model};
 ghost use Rattle.machine.specs.World as seen;
 
 use crate::edges::way_out;
 use crate::halts::{Fault, Refusal};
-use crate::heaps::Heap;
+use crate::heaps::BlockHeap;
 use crate::payloads::{are_unsent, lets_payloads_go, payload_addresses};
 use crate::reading::own;
 use crate::worlds::Frame;
@@ -26,11 +26,11 @@ pub(crate) fn send(
     alloc: Global,
     program: &Program,
     frame: &mut Frame,
-    heap: &mut Heap,
+    heap: &mut BlockHeap,
     process: usize,
     sending: &Sending,
 ) -> Result<(), Refusal>
-    ensures tells { (bound : Bounds) (w : seen.World) (rest : List seen.Frame) → AreBounds (model_of program.now) bound →
+    ensures tells { (bound : QueueBounds) (w : seen.World) (rest : List seen.Frame) → AreBounds (model_of program.now) bound →
         w.blocks ≡ blocks_model heap.old.blocks.items →
         Tells result (event_of (model_of program.now) bound w process (frame_model frame.old) rest
         (instruction_model (Instr.Send sending.now)) 0)

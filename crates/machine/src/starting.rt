@@ -5,7 +5,7 @@ ghost use Rattle.flow.specs.Graphs.{instruction_model};
 ghost use Rattle.flow.specs.declared.graph.Instr.{Instr};
 ghost use Rattle.rules.specs.Programs.{model_of};
 ghost use Rattle.machine.specs.Answers.{Tells, on_stack, went_on};
-ghost use Rattle.machine.specs.Outcomes.{Bounds};
+ghost use Rattle.machine.specs.Outcomes.{QueueBounds};
 ghost use Rattle.machine.specs.Views.{stack_model, world_model};
 ghost use Rattle.machine.specs.World.{stack_at};
 ghost use Rattle.machine.specs.declared.worlds.Process.{Process};
@@ -40,7 +40,7 @@ pub(crate) fn start(
 ) -> Result<(), Refusal>
     requires there { process < length world.old.processes.items }
     requires top { (d : Process) → IsSome (get_or world.old.processes.items process d).top }
-    ensures tells { (bound : Bounds) →
+    ensures tells { (bound : QueueBounds) →
         Tells result (on_stack (model_of program.now) bound (world_model world.old) process (instruction_model (Instr.Start starting.now)) 0
         (stack_at (world_model world.old).processes process))
         (world_model world.new) }

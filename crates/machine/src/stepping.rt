@@ -4,7 +4,7 @@ ghost use Rattle.std.specs.Prelude.{◌≡◌, ◌<◌, ◌∷◌, [], IfNone, I
 ghost use Rattle.rules.specs.Programs.{model_of};
 ghost use Rattle.machine.specs.Answers as answers;
 ghost use Rattle.machine.specs.Machine.{event_outcome};
-ghost use Rattle.machine.specs.Outcomes.{Bounds, TellsStep};
+ghost use Rattle.machine.specs.Outcomes.{QueueBounds, TellsStep};
 ghost use Rattle.machine.specs.Places.{process_place};
 ghost use Rattle.machine.specs.Runs.{AreBounds, start_of};
 ghost use Rattle.machine.specs.Views.{frame_model, world_model};
@@ -13,7 +13,7 @@ ghost use Rattle.machine.specs.declared.worlds.Process.{Process};
 
 use crate::calling::enter;
 use crate::halts::{Event, Halt, Refusal};
-use crate::heaps::Heap;
+use crate::heaps::BlockHeap;
 use crate::instructing::{Chosen, choices};
 use crate::placing::place_of;
 use crate::standing::instruction_at;
@@ -73,7 +73,7 @@ impl World {
         })?;
         Ok(World {
             processes,
-            heap: Heap::new(alloc),
+            heap: BlockHeap::new(alloc),
         })
     }
 
@@ -82,7 +82,7 @@ impl World {
     /// `NoSuchChoice` where the instruction has no such choice; `Fault` where the process does something wrong; `Waits` where it waits
     /// for a message and none is there; `Memory` where a growth was refused, and with memory the event would have been a step.
     pub fn step(&mut self, alloc: Global, program: &Program, event: Event) -> Result<(), Halt>
-        ensures tells { (bound : Bounds) → AreBounds (model_of program.now) bound →
+        ensures tells { (bound : QueueBounds) → AreBounds (model_of program.now) bound →
             TellsStep result (event_outcome (model_of program.now) bound (world_model self.old) event)
             (process_place (model_of program.now) (world_model self.old) event.process) (world_model self.new) }
         ensures same { OnErr result (world_model self.new ≡ world_model self.old) }

@@ -10,7 +10,7 @@ ghost use Rattle.rules.specs.Programs.{model_of};
 ghost use Rattle.machine.specs.Answers.{IsRefusal, Pass, Tells, on_top};
 ghost use Rattle.machine.specs.Bindings.{AllMayTake};
 ghost use Rattle.machine.specs.Machine.{event_of, receives, receives_at};
-ghost use Rattle.machine.specs.Outcomes.{Bounds, Moved, test};
+ghost use Rattle.machine.specs.Outcomes.{QueueBounds, Moved, test};
 ghost use Rattle.machine.specs.Views.{blocks_model, frame_model};
 ghost use Rattle.machine.specs.World as seen;
 ghost use Rattle.machine.specs.World.{MessageHeld, block_at, is_own_in, owns, read};
@@ -18,7 +18,7 @@ ghost use Rattle.machine.specs.declared.halts.Fault.TheVariants.{F1};
 
 use crate::edges::state_received;
 use crate::halts::{Fault, Refusal};
-use crate::heaps::Heap;
+use crate::heaps::BlockHeap;
 use crate::mentions::{bind, list_bound};
 use crate::reading::{front, is_freed, own, peer_of};
 use crate::worlds::{Block, Frame};
@@ -62,7 +62,7 @@ fn close(
     cases: &Cases,
     listener: Listener,
 ) -> Result<(), Refusal>
-    ensures tells { (p : ProgramModel) (bound : Bounds) (w : seen.World) (process : ℕ) (rest : List seen.Frame) →
+    ensures tells { (p : ProgramModel) (bound : QueueBounds) (w : seen.World) (process : ℕ) (rest : List seen.Frame) →
         w.blocks ≡ blocks_model blocks.now →
         Tells result (receives p bound w process (frame_model frame.old) rest (cases_model cases.now) listener.variable.0 listener.at [])
         (on_top w.processes process rest (frame_model frame.new) (blocks_model blocks.now)) }
@@ -89,7 +89,7 @@ struct Arrival {
 fn receive_at(
     program: &Program,
     frame: &mut Frame,
-    heap: &mut Heap,
+    heap: &mut BlockHeap,
     process: usize,
     case: &Entrance,
     arrival: Arrival,
@@ -97,7 +97,7 @@ fn receive_at(
     requires owned { owns (blocks_model heap.old.blocks.items) process arrival.at ≡ true }
     requires some { 0 < length (block_at (blocks_model heap.old.blocks.items) arrival.at).queue }
     requires takes { AllMayTake frame.old.variables.count frame.old.variables.bindings.items case.now.targets.items }
-    ensures { (bound : Bounds) (w : seen.World) (rest : List seen.Frame) (m : MessageHeld) (ms : List MessageHeld) →
+    ensures { (bound : QueueBounds) (w : seen.World) (rest : List seen.Frame) (m : MessageHeld) (ms : List MessageHeld) →
         w.blocks ≡ blocks_model heap.old.blocks.items →
         (block_at (blocks_model heap.old.blocks.items) arrival.at).queue ≡ m ∷ ms → arrival.message.0 ≡ m.message →
         receives_at (model_of program.now) bound w process (frame_model frame.old) rest (Some (entrance_model case.now)) arrival.at m ms
@@ -113,13 +113,13 @@ fn receive_at(
 fn deliver(
     program: &Program,
     frame: &mut Frame,
-    heap: &mut Heap,
+    heap: &mut BlockHeap,
     process: usize,
     cases: &Cases,
     listener: Listener,
 ) -> Result<(), Refusal>
     requires owned { owns (blocks_model heap.old.blocks.items) process listener.at ≡ true }
-    ensures tells { (bound : Bounds) (w : seen.World) (rest : List seen.Frame) → w.blocks ≡ blocks_model heap.old.blocks.items →
+    ensures tells { (bound : QueueBounds) (w : seen.World) (rest : List seen.Frame) → w.blocks ≡ blocks_model heap.old.blocks.items →
         Tells result (receives (model_of program.now) bound w process (frame_model frame.old) rest (cases_model cases.now)
         listener.variable.0 listener.at (block_at (blocks_model heap.old.blocks.items) listener.at).queue)
         (on_top w.processes process rest (frame_model frame.new) (blocks_model heap.new.blocks.items)) }
@@ -145,13 +145,13 @@ fn deliver(
 pub(crate) fn switch(
     program: &Program,
     frame: &mut Frame,
-    heap: &mut Heap,
+    heap: &mut BlockHeap,
     process: usize,
     cases: &Cases,
     choice: usize,
 ) -> Result<(), Refusal>
     requires there { choice < length (first_mentions [] (cases_model cases.now)) }
-    ensures tells { (bound : Bounds) (w : seen.World) (rest : List seen.Frame) (place : Place) →
+    ensures tells { (bound : QueueBounds) (w : seen.World) (rest : List seen.Frame) (place : Place) →
         w.blocks ≡ blocks_model heap.old.blocks.items →
         Tells result (event_of (model_of program.now) bound w process (frame_model frame.old) rest
         (graphs.Switch place (cases_model cases.now)) choice)

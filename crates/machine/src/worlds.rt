@@ -1,6 +1,6 @@
 //! Worlds as they lie in memory.
 
-use crate::heaps::Heap;
+use crate::heaps::BlockHeap;
 use crate::variables::Variables;
 use program::{HeapType, MessageId, MethodId, StateId};
 use std::collections::VecDeque;
@@ -58,5 +58,5 @@ pub struct Process {
 #[derive(Drop)]
 pub struct World {
     pub(crate) processes: Vec<Process>,
-    pub(crate) heap: Heap,
+    pub(crate) heap: BlockHeap,
 }

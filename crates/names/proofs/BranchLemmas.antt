@@ -11,32 +11,32 @@ use Rattle.tree.specs.StatementTrees.{BlockTree, CaseTree, statement_tree, state
 use Rattle.tree.specs.declared.statement as made
 use Rattle.names.specs.Bodies.{Surroundings, statement_turn, statements_turn, block_turn, others_turn, test_turn, case_turn, cases_turn, head_of, heads_of}
 use Rattle.names.specs.Cases.{Head}
-use Rattle.names.specs.Variables.{Frame, Turn, turn, follow}
-use Rattle.names.specs.declared.variables.Variables.{Variables}
+use Rattle.names.specs.Variables.{NameFrame, CheckedPiece, turn, follow}
+use Rattle.names.specs.declared.variables.ScopeVariables.{ScopeVariables}
 use Rattle.names.proofs.TurnLemmas.{Ongoing}
 
 -- the next statement, and what is left behind it
 pub next_statement : (m : Surroundings) (xs : List made.Statement.Statement) (i : ℕ) (x : made.Statement.Statement) → i < length xs → x ≡ get_or xs i x
     → statements_turn m (statement_sequence (map statement_tree (drop i xs))) ≡ (λ f. follow (statement_turn m (statement_tree x) f) (statements_turn m (statement_sequence (map statement_tree (drop (i + 1) xs)))))
 next_statement m xs i x lt is =
-    let behind : ℕ → Frame → Turn = λ n f. follow (statement_turn m (statement_tree x) f) (statements_turn m (statement_sequence (map statement_tree (drop n xs)))) in
+    let behind : ℕ → NameFrame → CheckedPiece = λ n f. follow (statement_turn m (statement_tree x) f) (statements_turn m (statement_sequence (map statement_tree (drop n xs)))) in
     ap (λ l. statements_turn m (statement_sequence (map statement_tree l))) (drop-cons xs i x lt ∙ ap (λ k. k ∷ drop (suc i) xs) (sym is)) ∙ ap behind (sym (add-one i))
 
 -- behind the last statement nothing is left
-pub no_statement : {text : List ℕ} {old mid : List Mistake} {v : Variables} {whole : Turn} (m : Surroundings) (xs : List made.Statement.Statement) (i : ℕ) → length xs ≤ i
+pub no_statement : {text : List ℕ} {old mid : List Mistake} {v : ScopeVariables} {whole : CheckedPiece} (m : Surroundings) (xs : List made.Statement.Statement) (i : ℕ) → length xs ≤ i
     → Ongoing text old mid v whole (statements_turn m (statement_sequence (map statement_tree (drop i xs)))) → Ongoing text old mid v whole (turn [])
 no_statement {text = text} {old = old} {mid = mid} {v = v} {whole = whole} m xs i past o =
     subst (λ rest. Ongoing text old mid v whole (statements_turn m (statement_sequence (map statement_tree rest)))) (drop_all i xs past) o
 
 -- behind the last test of an `if` its last block is left
-pub last_branch : {text : List ℕ} {old mid : List Mistake} {v : Variables} {whole : Turn} (m : Surroundings) (ts : List made.Test.Test) (i : ℕ) (otherwise : Option made.Block.Block) (block : made.Block.Block) → length ts ≤ i → otherwise ≡ Some block
+pub last_branch : {text : List ℕ} {old mid : List Mistake} {v : ScopeVariables} {whole : CheckedPiece} (m : Surroundings) (ts : List made.Test.Test) (i : ℕ) (otherwise : Option made.Block.Block) (block : made.Block.Block) → length ts ≤ i → otherwise ≡ Some block
     → Ongoing text old mid v whole (others_turn m (other_sequence (map test_tree (drop i ts)) (option_map block_tree otherwise))) → Ongoing text old mid v whole (block_turn m (block_tree block))
 last_branch {text = text} {old = old} {mid = mid} {v = v} {whole = whole} m ts i otherwise block past is o =
     subst (λ last. Ongoing text old mid v whole (others_turn m (other_sequence [] (option_map block_tree last)))) is
     (subst (λ rest. Ongoing text old mid v whole (others_turn m (other_sequence (map test_tree rest) (option_map block_tree otherwise)))) (drop_all i ts past) o)
 
 -- behind the last test of an `if` with no last block nothing is left
-pub no_branch : {text : List ℕ} {old mid : List Mistake} {v : Variables} {whole : Turn} (m : Surroundings) (ts : List made.Test.Test) (i : ℕ) (otherwise : Option made.Block.Block) → length ts ≤ i → otherwise ≡ None
+pub no_branch : {text : List ℕ} {old mid : List Mistake} {v : ScopeVariables} {whole : CheckedPiece} (m : Surroundings) (ts : List made.Test.Test) (i : ℕ) (otherwise : Option made.Block.Block) → length ts ≤ i → otherwise ≡ None
     → Ongoing text old mid v whole (others_turn m (other_sequence (map test_tree (drop i ts)) (option_map block_tree otherwise))) → Ongoing text old mid v whole (turn [])
 no_branch {text = text} {old = old} {mid = mid} {v = v} {whole = whole} m ts i otherwise past is o =
     subst (λ last. Ongoing text old mid v whole (others_turn m (other_sequence [] (option_map block_tree last)))) is
@@ -46,7 +46,7 @@ no_branch {text = text} {old = old} {mid = mid} {v = v} {whole = whole} m ts i o
 pub next_test : (m : Surroundings) (ts : List made.Test.Test) (i : ℕ) (x : made.Test.Test) (last : Option BlockTree) → i < length ts → x ≡ get_or ts i x
     → others_turn m (other_sequence (map test_tree (drop i ts)) last) ≡ (λ f. follow (test_turn m (test_tree x) f) (others_turn m (other_sequence (map test_tree (drop (i + 1) ts)) last)))
 next_test m ts i x last lt is =
-    let behind : ℕ → Frame → Turn = λ n f. follow (test_turn m (test_tree x) f) (others_turn m (other_sequence (map test_tree (drop n ts)) last)) in
+    let behind : ℕ → NameFrame → CheckedPiece = λ n f. follow (test_turn m (test_tree x) f) (others_turn m (other_sequence (map test_tree (drop n ts)) last)) in
     ap (λ l. others_turn m (other_sequence (map test_tree l) last)) (drop-cons ts i x lt ∙ ap (λ k. k ∷ drop (suc i) ts) (sym is)) ∙ ap behind (sym (add-one i))
 
 -- the head of a case
@@ -70,10 +70,10 @@ pub record Next (m : Surroundings) (h : Head) (cases : List CaseTree) (i : ℕ) 
 pub next_case : (m : Surroundings) (h : Head) (cases : List CaseTree) (i : ℕ) (x : CaseTree) → i < length cases → x ≡ get_or cases i x → Next m h cases i x
 next_case m h cases i x lt is =
     let all : List Head = h ∷ heads_of (case_sequence cases) in
-    let go : ℕ → ℕ → Frame → Turn = λ k n f. follow (case_turn m all (take (i + 1) all) x f) (cases_turn m all (take k all) (case_sequence (drop n cases))) in
+    let go : ℕ → ℕ → NameFrame → CheckedPiece = λ k n f. follow (case_turn m all (take (i + 1) all) x f) (cases_turn m all (take k all) (case_sequence (drop n cases))) in
     let left : case_sequence (drop i cases) ≡ trees.MoreCases x (case_sequence (drop (suc i) cases)) = ap case_sequence (drop-cons cases i x lt ∙ ap (λ k. k ∷ drop (suc i) cases) (sym is)) in
     let taken : take (i + 1) all ++ head_of x ∷ [] ≡ take (suc (suc i)) all = ap (λ n. take n all ++ head_of x ∷ []) (add-one i) ∙ heads_taken h cases i x lt is in
-    let behind : List Head → Frame → Turn = λ earlier f. follow (case_turn m all (take (i + 1) all) x f) (cases_turn m all earlier (case_sequence (drop (suc i) cases))) in
+    let behind : List Head → NameFrame → CheckedPiece = λ earlier f. follow (case_turn m all (take (i + 1) all) x f) (cases_turn m all earlier (case_sequence (drop (suc i) cases))) in
     record {
       head = ap (slice_get all) (add-one i) ∙ head_found cases i x lt is;
       rest = ap (cases_turn m all (take (i + 1) all)) left

@@ -13,13 +13,13 @@ use Rattle.tree.specs.declared.expression.Prefix.{Prefix}
 use Rattle.names.specs.Expressions.{InScope, type_of, place_of, signed_type, sign_asked}
 use Rattle.declarations.specs.Mistakes.{Adds}
 use Rattle.declarations.specs.Types.{is_unknown}
-use Rattle.names.specs.Operands.{IsJudged, Judges, IsJoined, IsSigned}
+use Rattle.names.specs.Operands.{IsOperand, Judges, IsJoined, IsSigned}
 use Rattle.names.specs.Shapes.{Shape, Joined, Joint, Signed, joint_of, sign_of, signed, shape, joined, atom_shape}
 use Rattle.declarations.specs.declared.value_type.ValueType.{ValueType}
 use Rattle.declarations.specs.declared.value_type.ValueType.TheVariants as ty
 use Rattle.names.specs.declared.operands.Operand.{Operand}
 use Rattle.declarations.specs.declared.scope.Scope.{Scope}
-use Rattle.names.specs.declared.variables.Variables.{Variables}
+use Rattle.names.specs.declared.variables.ScopeVariables.{ScopeVariables}
 use Rattle.declarations.proofs.AddLemmas.{adds_then}
 
 -- what an expression is judged to be
@@ -37,7 +37,7 @@ joined_shapes s joint l r {more = more} {new = new} {left = left} {right = right
     subst (λ a. IsJoined joint a (judged_as s r) more new o) (is_judged_as s l left left-ty left-place)
     (subst (λ b. IsJoined joint left b more new o) (is_judged_as s r right right-ty right-place) both)
 
-judged_joined : (s : InScope) (joint : Joint) (l r : Shape) {old mid more new : List Mistake} {left right o : Operand} → IsJudged s l old mid left → IsJudged s r mid more right → IsJoined joint left right more new o → IsJudged s (Joined joint l r) old new o
+judged_joined : (s : InScope) (joint : Joint) (l r : Shape) {old mid more new : List Mistake} {left right o : Operand} → IsOperand s l old mid left → IsOperand s r mid more right → IsJoined joint left right more new o → IsOperand s (Joined joint l r) old new o
 judged_joined s joint l r first second both =
     let asked = joined_shapes s joint l r first.ty first.place second.ty second.place both in
     record {
@@ -46,7 +46,7 @@ judged_joined s joint l r first second both =
       found = adds_then first.found (adds_then second.found asked.found);
     }
 
-judged_signed : (s : InScope) (p : Prefix) (e : Shape) {old mid new : List Mistake} {inner o : Operand} → IsJudged s e old mid inner → IsSigned (sign_of p.operator) p.span.place inner mid new o → IsJudged s (Signed (sign_of p.operator) p.span.place e) old new o
+judged_signed : (s : InScope) (p : Prefix) (e : Shape) {old mid new : List Mistake} {inner o : Operand} → IsOperand s e old mid inner → IsSigned (sign_of p.operator) p.span.place inner mid new o → IsOperand s (Signed (sign_of p.operator) p.span.place e) old new o
 judged_signed s p e {mid = mid} {new = new} {inner = inner} first sign =
     let unknown : ValueType → ValueType = λ k. if is_unknown k then ty.Unknown else signed_type (sign_of p.operator) in
     record {
@@ -71,27 +71,27 @@ chain_more l f e xs i x lt is =
     ∙ ap (λ ps. joined e (step_sequence l ps)) (map-append f (take i xs) (x ∷ []))
     ∙ joined_more l e (map f (take i xs)) (f x)
 
-pub judges_more : (l : Operators) {X : Type 0} (f : X → StepOf l) (e : Shape) (xs : List X) (i : ℕ) (x : X) {scope : Scope} {variables : Variables} {old mid more new : List Mistake} {left right o : Operand}
+pub judges_more : (l : Operators) {X : Type 0} (f : X → StepOf l) (e : Shape) (xs : List X) (i : ℕ) (x : X) {scope : Scope} {variables : ScopeVariables} {old mid more new : List Mistake} {left right o : Operand}
     → i < length xs → x ≡ get_or xs i x → Judges scope variables (chain_to l f e xs i) old mid left → Judges scope variables (shape (f x).1) mid more right → IsJoined (joint_of l) left right more new o
     → Judges scope variables (chain_to l f e xs (i + 1)) old new o
 judges_more l f e xs i x {scope = scope} {variables = variables} {old = old} {new = new} {o = o} lt is first second both =
     subst (λ c. Judges scope variables c old new o) (sym (chain_more l f e xs i x lt is))
     (record { all = λ p g is_scope is_frame. judged_joined _ (joint_of l) (chain_to l f e xs i) (shape (f x).1) (first.all p g is_scope is_frame) (second.all p g is_scope is_frame) both })
 
-pub judges_all : (l : Operators) {X : Type 0} (f : X → StepOf l) (first : LevelTree (below l)) (xs ys : List X) (i : ℕ) (tree : LevelTree (levels.Joined l)) {scope : Scope} {variables : Variables} {old new : List Mistake} {o : Operand}
+pub judges_all : (l : Operators) {X : Type 0} (f : X → StepOf l) (first : LevelTree (below l)) (xs ys : List X) (i : ℕ) (tree : LevelTree (levels.Joined l)) {scope : Scope} {variables : ScopeVariables} {old new : List Mistake} {o : Operand}
     → length xs ≤ i → xs ≡ ys → tree ≡ Chain l first (step_sequence l (map f ys)) → Judges scope variables (chain_to l f (shape first) xs i) old new o → Judges scope variables (shape tree) old new o
 judges_all l f first xs ys i tree {scope = scope} {variables = variables} {old = old} {new = new} {o = o} le same seen h =
     subst (λ t. Judges scope variables (shape t) old new o) (sym seen)
     (subst (λ zs. Judges scope variables (joined (shape first) (step_sequence l (map f zs))) old new o) (take_all i xs le ∙ same) h)
 
 -- the part behind an operator
-pub judges_step : (l : Operators) (p q : StepOf l) {scope : Scope} {variables : Variables} {old new : List Mistake} {o : Operand} → p ≡ q → Judges scope variables (shape q.1) old new o → Judges scope variables (shape p.1) old new o
+pub judges_step : (l : Operators) (p q : StepOf l) {scope : Scope} {variables : ScopeVariables} {old new : List Mistake} {o : Operand} → p ≡ q → Judges scope variables (shape q.1) old new o → Judges scope variables (shape p.1) old new o
 judges_step l p q {scope = scope} {variables = variables} {old = old} {new = new} {o = o} seen h = subst (λ (r : StepOf l). Judges scope variables (shape r.1) old new o) (sym seen) h
 
 -- an atom, with signs before it
-pub judges_signed : (ps qs : List Prefix) (a : AtomTree) (tree : LevelTree levels.Single) (r : Result Operand Memory) (new : List Mistake) {scope : Scope} {variables : Variables} {old mid : List Mistake} {inner : Operand}
+pub judges_signed : (ps qs : List Prefix) (a : AtomTree) (tree : LevelTree levels.Single) (r : Result Operand Memory) (new : List Mistake) {scope : Scope} {variables : ScopeVariables} {old mid : List Mistake} {inner : Operand}
     → ps ≡ qs → tree ≡ Unary qs a → Judges scope variables (atom_shape a) old mid inner
-    → IfOk r (λ o. (s : InScope) (e : Shape) (start : List Mistake) → IsJudged s e start mid inner → IsJudged s (signed ps e) start new o)
+    → IfOk r (λ o. (s : InScope) (e : Shape) (start : List Mistake) → IsOperand s e start mid inner → IsOperand s (signed ps e) start new o)
     → IfOk r (Judges scope variables (shape tree) old new)
 judges_signed ps qs a tree (Err e) new same seen first all = tt
 judges_signed ps qs a tree (Ok o) new {scope = scope} {variables = variables} {old = old} same seen first all =
@@ -100,5 +100,5 @@ judges_signed ps qs a tree (Ok o) new {scope = scope} {variables = variables} {o
     (record { all = λ p f is_scope is_frame. all _ (atom_shape a) old (first.all p f is_scope is_frame) }))
 
 -- one more sign, from behind
-pub judged_more : (s : InScope) (e : Shape) (ps : List Prefix) (p : Prefix) {old mid new : List Mistake} {inner o : Operand} → IsJudged s (signed ps e) old mid inner → IsSigned (sign_of p.operator) p.span.place inner mid new o → IsJudged s (signed (p ∷ ps) e) old new o
+pub judged_more : (s : InScope) (e : Shape) (ps : List Prefix) (p : Prefix) {old mid new : List Mistake} {inner o : Operand} → IsOperand s (signed ps e) old mid inner → IsSigned (sign_of p.operator) p.span.place inner mid new o → IsOperand s (signed (p ∷ ps) e) old new o
 judged_more s e ps p = judged_signed s p (signed ps e)

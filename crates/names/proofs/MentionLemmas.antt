@@ -10,8 +10,8 @@ use Rattle.declarations.specs.Named.{field_named}
 use Rattle.declarations.specs.declared.mistake.Mistake.TheVariants.{Unknown}
 use Rattle.declarations.specs.declared.mistake.NameSort.TheVariants as sort
 use Rattle.names.specs.Mentions.{IsGiven, GivesIn}
-use Rattle.declarations.specs.Program.{Program, as_struct, item_at}
-use Rattle.declarations.specs.Scopes.{IsScope, AreFields, IsStruct}
+use Rattle.declarations.specs.Program.{ProgramText, as_struct, item_at}
+use Rattle.declarations.specs.Scopes.{IsScope, AreFieldsOf, IsStruct}
 use Rattle.declarations.specs.declared.value_type.ValueType.{ValueType}
 use Rattle.declarations.specs.declared.value_type.ValueType.TheVariants as ty
 use Rattle.declarations.specs.declared.fields.Fields.{Fields}
@@ -19,7 +19,7 @@ use Rattle.declarations.specs.declared.scope.Scope.{Scope}
 
 -- the field of a struct that was found
 abbrev InStruct : InScope → List ℕ → ℕ → Span → Fields → List Mistake → List Mistake → ValueType → Type 0
-InStruct s text place field f old new k = (x : StructTree) → AreFields text x f → IsGiven (struct_field_type s (field_named text x field)) (if is_some (field_named text x field) then [] else Unknown field (sort.Field place) ∷ []) old new k
+InStruct s text place field f old new k = (x : StructTree) → AreFieldsOf text x f → IsGiven (struct_field_type s (field_named text x field)) (if is_some (field_named text x field) then [] else Unknown field (sort.Field place) ∷ []) old new k
 
 given_in : (s : InScope) (field : Span) (f : Fields) (old new : List Mistake) (k : ValueType) (place : ℕ) (o : Option (ℕ × StructTree)) → item_at as_struct s.program place ≡ o → IsStruct s.program.text o (Some (place, f)) → InStruct s s.program.text place field f old new k
     → IsGiven (field_type s (ty.Pointer place) field) (field_mistakes s (ty.Pointer place) field field) old new k
@@ -27,8 +27,8 @@ given_in s field f old new k place None is h all = absurd h
 given_in s field f old new k place (Some x) is h all = rw is (all x.1 h.1)
 
 pub given_pointed : (scope : Scope) (field : Span) (f : Fields) (old new : List Mistake) (place : ℕ) (r : Result ValueType Memory)
-    → ((p : Program) → IsScope p scope → IsStruct p.text (item_at as_struct p place) (Some (place, f)))
-    → IfOk r (λ k. (s : InScope) (x : StructTree) → IsScope s.program scope → AreFields scope.text.now x f
+    → ((p : ProgramText) → IsScope p scope → IsStruct p.text (item_at as_struct p place) (Some (place, f)))
+    → IfOk r (λ k. (s : InScope) (x : StructTree) → IsScope s.program scope → AreFieldsOf scope.text.now x f
     → IsGiven (struct_field_type s (field_named scope.text.now x field)) (if is_some (field_named scope.text.now x field) then [] else Unknown field (sort.Field place) ∷ []) old new k)
     → IfOk r (GivesIn scope (λ s. field_type s (ty.Pointer place) field) (λ s. field_mistakes s (ty.Pointer place) field field) old new)
 given_pointed scope field f old new place (Err e) struct all = tt

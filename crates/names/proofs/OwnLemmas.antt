@@ -13,7 +13,7 @@ use Rattle.tree.specs.declared.types.Type.TheVariants as type
 use Rattle.declarations.specs.Declarations.{is_declared, names_of_states, states_of}
 use Rattle.declarations.specs.Types.{endpoint_type, is_heap, pointer_type, type_meant}
 use Rattle.declarations.specs.Named.{field_named}
-use Rattle.declarations.specs.Program.{Program, as_struct, contract_named, item_at, struct_named}
+use Rattle.declarations.specs.Program.{ProgramText, as_struct, contract_named, item_at, struct_named}
 use Rattle.declarations.specs.declared.value_type.ValueType.{ValueType}
 use Rattle.declarations.specs.declared.value_type.ValueType.TheVariants as ty
 use Rattle.names.specs.Expressions.{InScope, field_type, is_owning, owns, struct_field_type}
@@ -33,7 +33,7 @@ no_endpoint text None end state n is = cc
 no_endpoint text (Some c) end None n is = cc
 no_endpoint text (Some c) end (Some state) n is = no_state (is_declared text (names_of_states (states_of c.1)) state) end c.0 n is
 
-scalar_type : (p : Program) (t : type_nodes.Type.Type) (n : Scalar) → type_meant p t ≡ ty.Scalar n → is_heap t ≡ false
+scalar_type : (p : ProgramText) (t : type_nodes.Type.Type) (n : Scalar) → type_meant p t ≡ ty.Scalar n → is_heap t ≡ false
 scalar_type p (type.Scalar s) n is = refl
 scalar_type p (type.Heap (heap.Pointer name bang)) n is = absurd (no_pointer (struct_named p name) n is)
 scalar_type p (type.Heap (heap.Array element bang)) n is = cc

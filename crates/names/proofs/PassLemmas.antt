@@ -9,7 +9,7 @@ use Rattle.declarations.specs.Mistakes.{Adds}
 use Rattle.declarations.specs.Owning.{owning_fields}
 use Rattle.declarations.specs.Scopes.{AreMethods, IsClass}
 use Rattle.declarations.specs.declared.members.ClassMethods.{ClassMethods}
-use Rattle.names.specs.Values.{class_meant, Role, send_mistakes, argument_mistakes}
+use Rattle.names.specs.Values.{class_meant, Purpose, send_mistakes, argument_mistakes}
 use Rattle.names.specs.Expressions.{InScope}
 use Rattle.declarations.specs.Types.{is_silent, unless}
 use Rattle.names.specs.Shapes.{Shape}
@@ -30,13 +30,13 @@ class_lacks text None h = refl
 class_lacks text (Some c) h = absurd h
 
 -- a call on what is no endpoint
-pub no_send : (s : InScope) (k : ValueType) (role : Role) (variable word : Span) (arguments : List Shape) → ((end : Side) (n : ℕ) → k ≡ ty.Endpoint end n → ⊥) → send_mistakes s k role variable word arguments ≡ unless (is_silent k) variable.place (Given demand.Endpoint k) ++ argument_mistakes s [] arguments
-no_send s (ty.Scalar t) role variable word arguments other = refl
-no_send s (ty.Pointer n) role variable word arguments other = refl
-no_send s (ty.Array t) role variable word arguments other = refl
-no_send s (ty.Endpoint end n) role variable word arguments other = absurd (other end n refl)
-no_send s ty.Missing role variable word arguments other = refl
-no_send s ty.Unknown role variable word arguments other = refl
+pub no_send : (s : InScope) (k : ValueType) (purpose : Purpose) (variable word : Span) (arguments : List Shape) → ((end : Side) (n : ℕ) → k ≡ ty.Endpoint end n → ⊥) → send_mistakes s k purpose variable word arguments ≡ unless (is_silent k) variable.place (Given demand.Endpoint k) ++ argument_mistakes s [] arguments
+no_send s (ty.Scalar t) purpose variable word arguments other = refl
+no_send s (ty.Pointer n) purpose variable word arguments other = refl
+no_send s (ty.Array t) purpose variable word arguments other = refl
+no_send s (ty.Endpoint end n) purpose variable word arguments other = absurd (other end n refl)
+no_send s ty.Missing purpose variable word arguments other = refl
+no_send s ty.Unknown purpose variable word arguments other = refl
 
 -- a struct that was looked up, with its fields that own
 abbrev owning_of : Option (ℕ × StructTree) → Option (ℕ × List made.Field.Field)

@@ -13,13 +13,13 @@ use Rattle.tree.specs.declared.expression.FactorOperator.TheVariants as operator
 use Rattle.tree.specs.declared.expression.SumOperator.{SumOperator}
 use Rattle.names.specs.Expressions.{InScope, expression_mistakes}
 use Rattle.declarations.specs.Mistakes.{Adds}
-use Rattle.names.specs.Operands.{IsJudged, Judges, IsJoined}
+use Rattle.names.specs.Operands.{IsOperand, Judges, IsJoined}
 use Rattle.names.specs.Shapes.{Shape, Joined, Sum, shape, joined}
 use Rattle.names.specs.Terms.{TermShapes, IsJudgedTerms, JudgesTerms, before_mistakes, behind, first_term, whole, with_factor, with_factors}
 use Rattle.names.specs.declared.operands.Operand.{Operand}
 use Rattle.declarations.specs.declared.scope.Scope.{Scope}
 use Rattle.names.specs.declared.terms.Terms.{Terms}
-use Rattle.names.specs.declared.variables.Variables.{Variables}
+use Rattle.names.specs.declared.variables.ScopeVariables.{ScopeVariables}
 use Rattle.declarations.proofs.AddLemmas.{adds_then}
 use Rattle.names.proofs.ExpressionNames.{joined_shapes}
 
@@ -49,12 +49,12 @@ gathered_whole : (u : LevelTree Single) (fs : List FactorTree) → whole (with_f
 gathered_whole u fs = gathered_from None (λ e. e) u fs ∙ from_none (gathered u fs)
 
 -- the first term
-pub judges_first : (e : Shape) {scope : Scope} {variables : Variables} {old new : List Mistake} {o : Operand} {terms : Terms} → ((s : InScope) (e : Shape) (old new : List Mistake) → IsJudged s e old new o → IsJudgedTerms s (first_term e) old new terms)
+pub judges_first : (e : Shape) {scope : Scope} {variables : ScopeVariables} {old new : List Mistake} {o : Operand} {terms : Terms} → ((s : InScope) (e : Shape) (old new : List Mistake) → IsOperand s e old new o → IsJudgedTerms s (first_term e) old new terms)
     → Judges scope variables e old new o → JudgesTerms scope variables (first_term e) old new terms
 judges_first e made first = record { all = λ p f is_scope is_frame. made _ e _ _ (first.all p f is_scope is_frame) }
 
 -- one more factor of the last term
-judged_times : (s : InScope) (t : TermShapes) (e : Shape) {old mid more new : List Mistake} {terms : Terms} {right o : Operand} → IsJudgedTerms s t old mid terms → IsJudged s e mid more right → IsJoined Sum terms.last right more new o
+judged_times : (s : InScope) (t : TermShapes) (e : Shape) {old mid more new : List Mistake} {terms : Terms} {right o : Operand} → IsJudgedTerms s t old mid terms → IsOperand s e mid more right → IsJoined Sum terms.last right more new o
     → IsJudgedTerms s (record { before = t.before; last = Joined Sum t.last e }) old new (record { before = terms.before; last = o })
 judged_times s t e {old = old} {new = new} first second both =
     let asked = joined_shapes s Sum t.last e first.ty first.place second.ty second.place both in
@@ -65,7 +65,7 @@ judged_times s t e {old = old} {new = new} first second both =
       found = subst (Adds old new) (append_assoc (before_mistakes s t.before) (expression_mistakes s t.last) _) (adds_then first.found (adds_then second.found asked.found));
     }
 
-pub judges_times : (t : TermShapes) (f : FactorTree) (operator : FactorOperator) (tree : LevelTree Single) {scope : Scope} {variables : Variables} {old mid more new : List Mistake} {terms : Terms} {right o : Operand}
+pub judges_times : (t : TermShapes) (f : FactorTree) (operator : FactorOperator) (tree : LevelTree Single) {scope : Scope} {variables : ScopeVariables} {old mid more new : List Mistake} {terms : Terms} {right o : Operand}
     → f ≡ (operator, tree) → operator ≡ operators.Times → Judges scope variables (shape tree) mid more right → IsJoined Sum terms.last right more new o → JudgesTerms scope variables t old mid terms
     → JudgesTerms scope variables (with_factor t f) old new (record { before = terms.before; last = o })
 judges_times t f operator tree {scope = scope} {variables = variables} {old = old} {new = new} {terms = terms} {o = o} seen is second both first =
@@ -73,9 +73,9 @@ judges_times t f operator tree {scope = scope} {variables = variables} {old = ol
     (record { all = λ p g is_scope is_frame. judged_times _ t (shape tree) (first.all p g is_scope is_frame) (second.all p g is_scope is_frame) both })
 
 -- the first factor of one more term
-pub judges_next : (t : TermShapes) (f : FactorTree) (operator : FactorOperator) (sign : SumOperator) (tree : LevelTree Single) {scope : Scope} {variables : Variables} {old mid more new : List Mistake} {terms : Terms} {before last : Operand}
+pub judges_next : (t : TermShapes) (f : FactorTree) (operator : FactorOperator) (sign : SumOperator) (tree : LevelTree Single) {scope : Scope} {variables : ScopeVariables} {old mid more new : List Mistake} {terms : Terms} {before last : Operand}
     → f ≡ (operator, tree) → operator ≡ operators.Sum sign
-    → ((s : InScope) (t : TermShapes) (start : List Mistake) → IsJudgedTerms s t start mid terms → IsJudged s (whole t) start more before) → Judges scope variables (shape tree) more new last → JudgesTerms scope variables t old mid terms
+    → ((s : InScope) (t : TermShapes) (start : List Mistake) → IsJudgedTerms s t start mid terms → IsOperand s (whole t) start more before) → Judges scope variables (shape tree) more new last → JudgesTerms scope variables t old mid terms
     → JudgesTerms scope variables (with_factor t f) old new (record { before = Some before; last = last })
 judges_next t f operator sign tree {scope = scope} {variables = variables} {old = old} {new = new} {before = before} {last = last} seen is joined second first =
     subst (λ (g : FactorTree). JudgesTerms scope variables (with_factor t g) old new (record { before = Some before; last = last })) (sym (seen ∙ ap (λ (k : FactorOperator). (k, tree)) is))
@@ -94,7 +94,7 @@ with_more : (t : TermShapes) (fs : List FactorTree) (f : FactorTree) → with_fa
 with_more t [] f = refl
 with_more t (g ∷ fs) f = with_more (with_factor t g) fs f
 
-pub judges_factor : {X : Type 0} (f : X → FactorTree) (t : TermShapes) (xs : List X) (i : ℕ) (x : X) {scope : Scope} {variables : Variables} {old new : List Mistake} {terms : Terms}
+pub judges_factor : {X : Type 0} (f : X → FactorTree) (t : TermShapes) (xs : List X) (i : ℕ) (x : X) {scope : Scope} {variables : ScopeVariables} {old new : List Mistake} {terms : Terms}
     → i < length xs → x ≡ get_or xs i x → JudgesTerms scope variables (with_factor (factors_to f t xs i) (f x)) old new terms → JudgesTerms scope variables (factors_to f t xs (i + 1)) old new terms
 judges_factor f t xs i x {scope = scope} {variables = variables} {old = old} {new = new} {terms = terms} lt is =
     subst (λ u. JudgesTerms scope variables u old new terms) (sym (
@@ -104,9 +104,9 @@ judges_factor f t xs i x {scope = scope} {variables = variables} {old = old} {ne
 
 -- all terms, joined
 pub judges_factors : {X : Type 0} (f : X → FactorTree) (u : LevelTree Single) (second : FactorTree) (xs ys : List X) (i : ℕ) (tree : LevelTree (levels.Joined Add)) (r : Result Operand Memory) (new : List Mistake)
-    {scope : Scope} {variables : Variables} {old mid : List Mistake} {terms : Terms}
+    {scope : Scope} {variables : ScopeVariables} {old mid : List Mistake} {terms : Terms}
     → length xs ≤ i → xs ≡ ys → tree ≡ gathered u (second ∷ map f ys) → JudgesTerms scope variables (factors_to f (with_factor (first_term (shape u)) second) xs i) old mid terms
-    → IfOk r (λ o. (s : InScope) (t : TermShapes) (start : List Mistake) → IsJudgedTerms s t start mid terms → IsJudged s (whole t) start new o)
+    → IfOk r (λ o. (s : InScope) (t : TermShapes) (start : List Mistake) → IsJudgedTerms s t start mid terms → IsOperand s (whole t) start new o)
     → IfOk r (Judges scope variables (shape tree) old new)
 judges_factors f u second xs ys i tree (Err e) new le same seen h all = tt
 judges_factors f u second xs ys i tree (Ok o) new {scope = scope} {variables = variables} {old = old} le same seen h all =

@@ -12,22 +12,22 @@ use Rattle.declarations.specs.declared.mistake.Demand.TheVariants as demand
 use Rattle.declarations.specs.declared.mistake.Mismatch.TheVariants.{Given, FieldOwns}
 use Rattle.declarations.specs.Named.{field_named}
 use Rattle.declarations.specs.Types.{is_silent, is_unknown, is_number, is_truth, is_block, is_heap, type_meant, unless}
-use Rattle.declarations.specs.Program.{Program, as_struct, item_at}
+use Rattle.declarations.specs.Program.{ProgramText, as_struct, item_at}
 use Rattle.names.specs.Shapes.{Shape, Number, Truth, Mention, Field, Element, Parens, Signed}
-use Rattle.names.specs.Shapes.{Joined, Joint, Logic, Likeness, Sum, Sign, Denial, Minus}
+use Rattle.names.specs.Shapes.{Joined, Joint, Logic, Likeness, Sum, OperandSign, Denial, Minus}
 use Rattle.tree.specs.declared.class as made
-use Rattle.names.specs.Variables.{Variable, variable_named}
+use Rattle.names.specs.Variables.{ScopeVariable, variable_named}
 use Rattle.tables.specs.Words.{word_at, same_word}
 use Rattle.declarations.specs.declared.value_type.ValueType.{ValueType}
 use Rattle.declarations.specs.declared.value_type.ValueType.TheVariants as ty
 
 -- what is in scope: a program, and variables
 pub record InScope : Type 0 where
-  pub program : Program
-  pub variables : List Variable
+  pub program : ProgramText
+  pub variables : List ScopeVariable
 
 -- the variable that a name means
-abbrev pub meant : InScope → Span → Option Variable
+abbrev pub meant : InScope → Span → Option ScopeVariable
 meant s name = variable_named s.program.text s.variables name
 
 abbrev pub is_length : InScope → Span → Bool
@@ -73,7 +73,7 @@ element_type (ty.Array element) lost = if lost then ty.Unknown else ty.Scalar el
 element_type _ lost = if lost then ty.Unknown else ty.Missing
 
 -- the type of what is meant by a name; of a name that nothing declares it is unknown
-abbrev pub held : Option Variable → ValueType
+abbrev pub held : Option ScopeVariable → ValueType
 held None = ty.Unknown
 held (Some v) = v.ty
 
@@ -81,7 +81,7 @@ abbrev pub joined_type : Joint → ValueType
 joined_type Sum = ty.Scalar scalar.Int
 joined_type _ = ty.Scalar scalar.Bool
 
-abbrev pub signed_type : Sign → ValueType
+abbrev pub signed_type : OperandSign → ValueType
 signed_type Denial = ty.Scalar scalar.Bool
 signed_type Minus = ty.Scalar scalar.Int
 
@@ -122,7 +122,7 @@ right_asked Logic left k place = asked_truth k place
 right_asked Likeness left k place = asked_like left k place
 right_asked _ left k place = asked_number k place
 
-abbrev pub sign_asked : Sign → ValueType → Place → List Mistake
+abbrev pub sign_asked : OperandSign → ValueType → Place → List Mistake
 sign_asked Denial k place = asked_truth k place
 sign_asked Minus k place = asked_number k place
 

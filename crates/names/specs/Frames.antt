@@ -7,35 +7,35 @@ use Rattle.declarations.specs.Mistakes.{Adds}
 use Rattle.declarations.specs.Scopes.{IsScope, AreMethods}
 use Rattle.tables.specs.Tables.{IsTable}
 use Rattle.names.specs.Variables as model
-use Rattle.names.specs.Variables.{Frame, Turn}
+use Rattle.names.specs.Variables.{NameFrame, CheckedPiece}
 use Rattle.tables.specs.Words.{words_at}
-use Rattle.declarations.specs.Program.{Program}
+use Rattle.declarations.specs.Program.{ProgramText}
 use Rattle.names.specs.declared.surroundings.NameContext.{NameContext}
 use Rattle.names.specs.declared.surroundings.Surroundings.{Surroundings}
 use Rattle.program.specs.declared.limits.TheConstants.{MOST_VARIABLES}
-use Rattle.names.specs.declared.variables.Variable.{Variable}
-use Rattle.names.specs.declared.variables.Variables.{Variables}
+use Rattle.names.specs.declared.variables.ScopeVariable.{ScopeVariable}
+use Rattle.names.specs.declared.variables.ScopeVariables.{ScopeVariables}
 
 -- a variable without its memory
-abbrev pub variable_model : Variable → model.Variable
+abbrev pub variable_model : ScopeVariable → model.ScopeVariable
 variable_model v = record { name = v.name; ty = v.ty }
 
 -- the names of the variables in scope, as they are written
-abbrev pub words_in : List ℕ → List model.Variable → List (List ℕ)
+abbrev pub words_in : List ℕ → List model.ScopeVariable → List (List ℕ)
 words_in text variables = words_at text (map (λ v. v.name) variables)
 
 -- These are the variables in scope, each findable by its name, and no two of one name. Of the exchange heap they are
 -- counted as far as one past the limit.
-pub record IsFrame (text : List ℕ) (f : Frame) (v : Variables) : Type 0 where
+pub record IsNameFrame (text : List ℕ) (f : NameFrame) (v : ScopeVariables) : Type 0 where
   pub list : map variable_model v.list.items ≡ f.variables
   pub names : IsTable (words_in text f.variables) v.names
   pub apart : IsApart (words_in text f.variables)
   pub heap : v.heap ≡ min f.heap (MOST_VARIABLES + 1)
 
 -- all is added to the findings that a turn adds, and its frame is the one that stands now
-pub record Turned (text : List ℕ) (old new : List Mistake) (variables : Variables) (t : Turn) : Type 0 where
+pub record Turned (text : List ℕ) (old new : List Mistake) (variables : ScopeVariables) (t : CheckedPiece) : Type 0 where
   pub found : Adds old new t.found
-  pub frame : IsFrame text t.frame variables
+  pub frame : IsNameFrame text t.frame variables
 
 -- what stands round a statement
 pub record AreSurroundings (m : bodies.Surroundings) (s : Surroundings) : Type 0 where
@@ -46,6 +46,6 @@ pub record AreSurroundings (m : bodies.Surroundings) (s : Surroundings) : Type 0
   pub continues : s.continues ≡ m.continues
 
 -- this program and the variables of this frame are what names can mean
-pub record IsContext (p : Program) (f : Frame) (c : NameContext) : Type 0 where
+pub record IsContext (p : ProgramText) (f : NameFrame) (c : NameContext) : Type 0 where
   pub scope : IsScope p c.scope.now
-  pub frame : IsFrame p.text f c.variables.now
+  pub frame : IsNameFrame p.text f c.variables.now

@@ -3,14 +3,14 @@ use Rattle.std.specs.Prelude.{◌≡◌, List}
 use Rattle.declarations.specs.declared.mistake.Mistake.{Mistake}
 use Rattle.names.specs.Expressions.{InScope}
 use Rattle.declarations.specs.Mistakes.{Adds}
-use Rattle.names.specs.Frames.{IsFrame}
+use Rattle.names.specs.Frames.{IsNameFrame}
 use Rattle.names.specs.Operands.{in_frame}
-use Rattle.declarations.specs.Program.{Program}
+use Rattle.declarations.specs.Program.{ProgramText}
 use Rattle.declarations.specs.Scopes.{IsScope}
-use Rattle.names.specs.Variables.{Frame}
+use Rattle.names.specs.Variables.{NameFrame}
 use Rattle.declarations.specs.declared.value_type.ValueType.{ValueType}
 use Rattle.declarations.specs.declared.scope.Scope.{Scope}
-use Rattle.names.specs.declared.variables.Variables.{Variables}
+use Rattle.names.specs.declared.variables.ScopeVariables.{ScopeVariables}
 
 -- it is of this type, and these findings were added
 pub record IsGiven (is : ValueType) (more : List Mistake) (old new : List Mistake) (k : ValueType) : Type 0 where
@@ -23,7 +23,7 @@ pub record GivesIn (scope : Scope) (ty : InScope → ValueType) (more : InScope 
   pub all : (s : InScope) → IsScope s.program scope → IsGiven (ty s) (more s) old new k
 
 -- whatever these have in scope
-pub record Gives (scope : Scope) (variables : Variables) (ty : InScope → ValueType) (more : InScope → List Mistake)
+pub record GivesOperand (scope : Scope) (variables : ScopeVariables) (ty : InScope → ValueType) (more : InScope → List Mistake)
     (old new : List Mistake) (k : ValueType) : Type 0 where
-  pub all : (p : Program) (f : Frame) → IsScope p scope → IsFrame p.text f variables
+  pub all : (p : ProgramText) (f : NameFrame) → IsScope p scope → IsNameFrame p.text f variables
       → IsGiven (ty (in_frame p f)) (more (in_frame p f)) old new k

@@ -5,23 +5,23 @@ use Rattle.source.specs.declared.place.Place.{Place}
 use Rattle.names.specs.Expressions.{InScope, type_of, place_of, expression_mistakes, whole_mistakes}
 use Rattle.names.specs.Expressions.{joined_type, left_asked, right_asked, signed_type, sign_asked}
 use Rattle.declarations.specs.Mistakes.{Adds}
-use Rattle.names.specs.Frames.{IsFrame}
+use Rattle.names.specs.Frames.{IsNameFrame}
 use Rattle.declarations.specs.Types.{is_unknown}
-use Rattle.declarations.specs.Program.{Program}
+use Rattle.declarations.specs.Program.{ProgramText}
 use Rattle.declarations.specs.Scopes.{IsScope}
-use Rattle.names.specs.Shapes.{Shape, Joint, Sign}
-use Rattle.names.specs.Variables.{Frame}
+use Rattle.names.specs.Shapes.{Shape, Joint, OperandSign}
+use Rattle.names.specs.Variables.{NameFrame}
 use Rattle.declarations.specs.declared.value_type.ValueType.TheVariants as ty
 use Rattle.names.specs.declared.operands.Operand.{Operand}
 use Rattle.declarations.specs.declared.scope.Scope.{Scope}
-use Rattle.names.specs.declared.variables.Variables.{Variables}
+use Rattle.names.specs.declared.variables.ScopeVariables.{ScopeVariables}
 
 -- what a program and the variables of a frame bring into scope
-abbrev pub in_frame : Program → Frame → InScope
+abbrev pub in_frame : ProgramText → NameFrame → InScope
 in_frame p f = record { program = p; variables = f.variables }
 
 -- an operand is of the type and at the place of this expression, and what is wrong in it was added
-pub record IsJudged (s : InScope) (e : Shape) (old new : List Mistake) (o : Operand) : Type 0 where
+pub record IsOperand (s : InScope) (e : Shape) (old new : List Mistake) (o : Operand) : Type 0 where
   pub ty : o.ty ≡ type_of s e
   pub place : o.place ≡ place_of e
   pub found : Adds old new (expression_mistakes s e)
@@ -33,11 +33,11 @@ pub record IsJudgedWhole (s : InScope) (e : Shape) (old new : List Mistake) (o :
   pub found : Adds old new (whole_mistakes s e)
 
 -- whatever these have in scope
-pub record Judges (scope : Scope) (variables : Variables) (e : Shape) (old new : List Mistake) (o : Operand) : Type 0 where
-  pub all : (p : Program) (f : Frame) → IsScope p scope → IsFrame p.text f variables → IsJudged (in_frame p f) e old new o
+pub record Judges (scope : Scope) (variables : ScopeVariables) (e : Shape) (old new : List Mistake) (o : Operand) : Type 0 where
+  pub all : (p : ProgramText) (f : NameFrame) → IsScope p scope → IsNameFrame p.text f variables → IsOperand (in_frame p f) e old new o
 
-pub record JudgesWhole (scope : Scope) (variables : Variables) (e : Shape) (old new : List Mistake) (o : Operand) : Type 0 where
-  pub all : (p : Program) (f : Frame) → IsScope p scope → IsFrame p.text f variables → IsJudgedWhole (in_frame p f) e old new o
+pub record JudgesWhole (scope : Scope) (variables : ScopeVariables) (e : Shape) (old new : List Mistake) (o : Operand) : Type 0 where
+  pub all : (p : ProgramText) (f : NameFrame) → IsScope p scope → IsNameFrame p.text f variables → IsJudgedWhole (in_frame p f) e old new o
 
 -- two operands, joined
 pub record IsJoined (joint : Joint) (left right : Operand) (old new : List Mistake) (o : Operand) : Type 0 where
@@ -46,7 +46,7 @@ pub record IsJoined (joint : Joint) (left right : Operand) (old new : List Mista
   pub found : Adds old new (left_asked joint left.ty left.place ++ right_asked joint left.ty right.ty right.place)
 
 -- an operand with a sign before it
-pub record IsSigned (sign : Sign) (place : Place) (inner : Operand) (old new : List Mistake) (o : Operand) : Type 0 where
+pub record IsSigned (sign : OperandSign) (place : Place) (inner : Operand) (old new : List Mistake) (o : Operand) : Type 0 where
   pub ty : o.ty ≡ (if is_unknown inner.ty then ty.Unknown else signed_type sign)
   pub at : o.place ≡ place
   pub found : Adds old new (sign_asked sign inner.ty inner.place)

@@ -6,16 +6,16 @@ use Rattle.tree.specs.declared.expression.FactorOperator.{FactorOperator}
 use Rattle.tree.specs.declared.expression.FactorOperator.TheVariants as operators
 use Rattle.names.specs.Expressions.{InScope, type_of, place_of, expression_mistakes}
 use Rattle.declarations.specs.Mistakes.{Adds}
-use Rattle.names.specs.Frames.{IsFrame}
+use Rattle.names.specs.Frames.{IsNameFrame}
 use Rattle.names.specs.Operands.{in_frame}
-use Rattle.declarations.specs.Program.{Program}
+use Rattle.declarations.specs.Program.{ProgramText}
 use Rattle.declarations.specs.Scopes.{IsScope}
 use Rattle.names.specs.Shapes.{Shape, Joined, Sum, shape}
-use Rattle.names.specs.Variables.{Frame}
+use Rattle.names.specs.Variables.{NameFrame}
 use Rattle.names.specs.declared.operands.Operand.{Operand}
 use Rattle.declarations.specs.declared.scope.Scope.{Scope}
 use Rattle.names.specs.declared.terms.Terms.{Terms}
-use Rattle.names.specs.declared.variables.Variables.{Variables}
+use Rattle.names.specs.declared.variables.ScopeVariables.{ScopeVariables}
 
 -- the terms before the last one, joined, if there are some, and the last one
 pub record TermShapes : Type 0 where
@@ -67,5 +67,6 @@ pub record IsJudgedTerms (s : InScope) (t : TermShapes) (old new : List Mistake)
   pub found : Adds old new (before_mistakes s t.before ++ expression_mistakes s t.last)
 
 -- whatever these have in scope
-pub record JudgesTerms (scope : Scope) (variables : Variables) (t : TermShapes) (old new : List Mistake) (terms : Terms) : Type 0 where
-  pub all : (p : Program) (f : Frame) → IsScope p scope → IsFrame p.text f variables → IsJudgedTerms (in_frame p f) t old new terms
+pub record JudgesTerms (scope : Scope) (variables : ScopeVariables) (t : TermShapes) (old new : List Mistake) (terms : Terms) : Type 0 where
+  pub all : (p : ProgramText) (f : NameFrame) → IsScope p scope → IsNameFrame p.text f variables
+      → IsJudgedTerms (in_frame p f) t old new terms

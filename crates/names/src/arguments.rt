@@ -4,16 +4,16 @@ ghost use Rattle.std.specs.Prelude.{◌≡◌, map, take, List, OnOk, IfOk, slic
 ghost use Rattle.tree.specs.ExpressionTrees.{expression_tree};
 ghost use Rattle.tree.specs.declared.types.«Type».{«Type» as TypeModel};
 ghost use Rattle.declarations.specs.Mistakes.{Adds};
-ghost use Rattle.names.specs.Frames.{IsFrame};
+ghost use Rattle.names.specs.Frames.{IsNameFrame};
 ghost use Rattle.declarations.specs.Types.{type_meant};
-ghost use Rattle.declarations.specs.Program.{Program};
+ghost use Rattle.declarations.specs.Program.{ProgramText};
 ghost use Rattle.declarations.specs.Scopes.{IsScope};
 ghost use Rattle.names.specs.Shapes.{shape};
 ghost use Rattle.names.specs.Values.{asked_mistakes, argument_asked, argument_mistakes};
-ghost use Rattle.names.specs.Variables.{Frame};
+ghost use Rattle.names.specs.Variables.{NameFrame};
 
 use crate::expressions::judge_whole;
-use crate::variables::Variables;
+use crate::variables::ScopeVariables;
 use crate::wholes::judge_asked;
 use declarations::{Mistake, Scope, ValueType};
 use source::Memory;
@@ -23,13 +23,13 @@ use tree::{Expression, Field, MessageParameter, Parameter, Type};
 /// Adds what is wrong with an argument for a parameter of this type, if there is one.
 fn judge_argument(
     scope: &Scope<'_>,
-    variables: &Variables<'_>,
+    variables: &ScopeVariables<'_>,
     asked: Option<ValueType>,
     argument: &Expression,
     found: &mut Vec<Mistake>,
 ) -> Result<(), Memory>
-    ensures { (p : Program) (f : Frame) → IsScope p scope.now
-        → IsFrame p.text f variables.now → OnOk result (Adds found.old.items found.new.items
+    ensures { (p : ProgramText) (f : NameFrame) → IsScope p scope.now
+        → IsNameFrame p.text f variables.now → OnOk result (Adds found.old.items found.new.items
         (argument_asked (record { program = p; variables = f.variables }) asked (shape (expression_tree argument.now)))) }
 {
     match asked {
@@ -50,12 +50,12 @@ fn type_at(types: &[ValueType], index: usize) -> Option<ValueType>
 /// Adds what is wrong with arguments for parameters of these types.
 pub(crate) fn judge_arguments(
     scope: &Scope<'_>,
-    variables: &Variables<'_>,
+    variables: &ScopeVariables<'_>,
     asked: &[ValueType],
     arguments: &[Expression],
     found: &mut Vec<Mistake>,
 ) -> Result<(), Memory>
-    ensures { (p : Program) (f : Frame) → IsScope p scope.now → IsFrame p.text f variables.now
+    ensures { (p : ProgramText) (f : NameFrame) → IsScope p scope.now → IsNameFrame p.text f variables.now
         → OnOk result (Adds found.old.items found.new.items (argument_mistakes
         (record { program = p; variables = f.variables }) asked.now (map shape (map expression_tree arguments.now)))) }
 {
@@ -107,7 +107,7 @@ fn types_of<T: Typed>(
     typed: &[T],
     most: usize,
 ) -> Result<Vec<ValueType>, Memory>
-    ensures { IfOk result (λ types. (p : Program) → IsScope p scope.now
+    ensures { IfOk result (λ types. (p : ProgramText) → IsScope p scope.now
         → types.items ≡ map (λ x. type_meant p (T.as_written x)) (take most typed.now)) }
 {
     let mut types = Vec::new(alloc);
@@ -121,12 +121,12 @@ fn types_of<T: Typed>(
 pub(crate) fn judge_typed_arguments<T: Typed>(
     alloc: Global,
     scope: &Scope<'_>,
-    variables: &Variables<'_>,
+    variables: &ScopeVariables<'_>,
     typed: &[T],
     arguments: &[Expression],
     found: &mut Vec<Mistake>,
 ) -> Result<(), Memory>
-    ensures { (p : Program) (f : Frame) → IsScope p scope.now → IsFrame p.text f variables.now
+    ensures { (p : ProgramText) (f : NameFrame) → IsScope p scope.now → IsNameFrame p.text f variables.now
         → OnOk result (Adds found.old.items found.new.items (argument_mistakes (record { program = p; variables = f.variables })
         (map (λ x. type_meant p (T.as_written x)) typed.now) (map shape (map expression_tree arguments.now)))) }
 {

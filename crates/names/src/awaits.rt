@@ -3,9 +3,9 @@
 ghost use Rattle.std.specs.Prelude.{◌≡◌, ◌∷◌, [], List, Some, OnOk, if◌then◌else◌};
 ghost use Rattle.names.specs.Cases.{awaited_span, closed_mistakes, message_case_mistakes, other_head_mistakes};
 ghost use Rattle.declarations.specs.Mistakes.{Adds};
-ghost use Rattle.declarations.specs.Program.{Program};
+ghost use Rattle.declarations.specs.Program.{ProgramText};
 ghost use Rattle.names.specs.Values.{receives};
-ghost use Rattle.names.specs.Variables.{Variable};
+ghost use Rattle.names.specs.Variables.{ScopeVariable};
 ghost use Rattle.tree.specs.Trees.{message_tree};
 
 use crate::operands::{add_wrong_type, ask};
@@ -103,7 +103,7 @@ pub(crate) fn judge_message_case(
     binds: &[Bind],
     found: &mut Vec<Mistake>,
 ) -> Result<(), Memory>
-    ensures { (p : Program) (vs : List Variable) (k : ValueType) → OnOk result (Adds found.old.items found.new.items
+    ensures { (p : ProgramText) (vs : List ScopeVariable) (k : ValueType) → OnOk result (Adds found.old.items found.new.items
         (message_case_mistakes (record { program = p; variables = vs }) k (Some (message_tree message.now)) end word binds.now)) }
 {
     let well = receives(end, message.direction);

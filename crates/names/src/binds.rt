@@ -7,14 +7,14 @@ ghost use Rattle.tree.specs.declared.contract.MessageParameter.{MessageParameter
 ghost use Rattle.names.specs.Cases.{typed_turn, bind_turn, binds_turn, brings_heap};
 ghost use Rattle.declarations.specs.Types.{brought_type};
 ghost use Rattle.declarations.specs.Mistakes.{Adds};
-ghost use Rattle.names.specs.Frames.{IsFrame, Turned};
+ghost use Rattle.names.specs.Frames.{IsNameFrame, Turned};
 ghost use Rattle.declarations.specs.Types.{agree, is_heap, type_meant, type_unknown, unless};
-ghost use Rattle.declarations.specs.Program.{Program};
+ghost use Rattle.declarations.specs.Program.{ProgramText};
 ghost use Rattle.declarations.specs.Scopes.{IsScope};
-ghost use Rattle.names.specs.Variables.{Frame, declared_variable};
+ghost use Rattle.names.specs.Variables.{NameFrame, declared_variable};
 
 use crate::operands::ask;
-use crate::variables::{Variable, Variables};
+use crate::variables::{ScopeVariable, ScopeVariables};
 use declarations::{Demand, Mismatch, Mistake, Scope, ValueType, is_heap, judge_type};
 use source::{Memory, Span};
 use std::alloc::Global;
@@ -22,7 +22,7 @@ use tree::{Bind, MessageParameter, Type};
 
 /// The type of what a message brings for this parameter, if there is one.
 fn brought_type(scope: &Scope<'_>, parameter: Option<&MessageParameter>) -> ValueType
-    ensures { (p : Program) → IsScope p scope.now → result ≡ brought_type p (option_map (λ x. x.now) parameter.entry) }
+    ensures { (p : ProgramText) → IsScope p scope.now → result ≡ brought_type p (option_map (λ x. x.now) parameter.entry) }
 {
     match parameter {
         Some(parameter) => scope.type_meant(parameter.ty),
@@ -48,7 +48,7 @@ fn judge_bound_type(
     name: Span,
     found: &mut Vec<Mistake>,
 ) -> Result<(), Memory>
-    ensures { (p : Program) → IsScope p scope.now → OnOk result
+    ensures { (p : ProgramText) → IsScope p scope.now → OnOk result
         (Adds found.old.items found.new.items (type_unknown p written ++ unless (agree (type_meant p written) brought) name.place
         (Mismatch.Given (Demand.OfType brought) (type_meant p written)))) }
 {
@@ -62,12 +62,12 @@ fn judge_bound_type(
 fn declare_in<'a>(
     alloc: Global,
     scope: &Scope<'a>,
-    variables: &mut Variables<'a>,
-    variable: Variable,
+    variables: &mut ScopeVariables<'a>,
+    variable: ScopeVariable,
     heap: bool,
     found: &mut Vec<Mistake>,
 ) -> Result<(), Memory>
-    ensures { (p : Program) (f : Frame) → IsScope p scope.now → IsFrame p.text f variables.old
+    ensures { (p : ProgramText) (f : NameFrame) → IsScope p scope.now → IsNameFrame p.text f variables.old
         → OnOk result (Turned p.text found.old.items found.new.items variables.new
         (declared_variable p.text variable.name variable.ty heap f)) }
 {
@@ -78,26 +78,26 @@ fn declare_in<'a>(
 fn judge_bind<'a>(
     alloc: Global,
     scope: &Scope<'a>,
-    variables: &mut Variables<'a>,
+    variables: &mut ScopeVariables<'a>,
     parameter: Option<&MessageParameter>,
     bind: Bind,
     found: &mut Vec<Mistake>,
 ) -> Result<(), Memory>
-    ensures { (p : Program) (f : Frame) → IsScope p scope.now → IsFrame p.text f variables.old → OnOk result
+    ensures { (p : ProgramText) (f : NameFrame) → IsScope p scope.now → IsNameFrame p.text f variables.old → OnOk result
         (Turned p.text found.old.items found.new.items variables.new (bind_turn p (option_map (λ x. x.now) parameter.entry) bind f)) }
 {
     let brought = brought_type(scope, parameter);
     match bind.ty {
         Some(written) => {
             judge_bound_type(scope, written, brought, bind.name, found)?;
-            let variable = Variable {
+            let variable = ScopeVariable {
                 name: bind.name,
                 ty: scope.type_meant(written),
             };
             declare_in(alloc, scope, variables, variable, is_heap(written), found)
         }
         None => {
-            let variable = Variable {
+            let variable = ScopeVariable {
                 name: bind.name,
                 ty: brought,
             };
@@ -117,12 +117,12 @@ fn parameter_at(parameters: &[MessageParameter], index: usize) -> Option<&Messag
 pub(crate) fn judge_bound<'a>(
     alloc: Global,
     scope: &Scope<'a>,
-    variables: &mut Variables<'a>,
+    variables: &mut ScopeVariables<'a>,
     parameters: &[MessageParameter],
     binds: &[Bind],
     found: &mut Vec<Mistake>,
 ) -> Result<(), Memory>
-    ensures { (p : Program) (f : Frame) → IsScope p scope.now → IsFrame p.text f variables.old
+    ensures { (p : ProgramText) (f : NameFrame) → IsScope p scope.now → IsNameFrame p.text f variables.old
         → OnOk result (Turned p.text found.old.items found.new.items variables.new (binds_turn p parameters.now binds.now f)) }
 {
     for (place, bind) in binds.iter().enumerate() {

@@ -8,8 +8,8 @@ ghost use Rattle.tree.specs.Values.{call_tree};
 ghost use Rattle.names.specs.Bodies as bodies;
 ghost use Rattle.names.specs.Expressions.{meant, held};
 ghost use Rattle.declarations.specs.Mistakes.{Adds};
-ghost use Rattle.names.specs.Frames.{IsContext, IsFrame, AreSurroundings, variable_model};
-ghost use Rattle.declarations.specs.Program.{Program, class_named};
+ghost use Rattle.names.specs.Frames.{IsContext, IsNameFrame, AreSurroundings, variable_model};
+ghost use Rattle.declarations.specs.Program.{ProgramText, class_named};
 ghost use Rattle.declarations.specs.Scopes.{IsScope, IsCallee};
 ghost use Rattle.names.specs.Operands.{in_frame};
 ghost use Rattle.names.specs.Shapes.{shape};
@@ -17,7 +17,7 @@ ghost use Rattle.names.specs.Values.{argument_mistakes, result_fits, result_type
 ghost use Rattle.declarations.specs.Owning.{can_start};
 ghost use Rattle.names.specs.Values.{sends, is_alone, message_mistakes, contract_message, send_mismatch, send_mistakes};
 ghost use Rattle.names.specs.Values.{class_mistakes, class_meant, member_mistakes, call_mistakes};
-ghost use Rattle.names.specs.Variables.{Frame};
+ghost use Rattle.names.specs.Variables.{NameFrame};
 ghost use Rattle.names.specs.Variables as model;
 ghost use Rattle.source.specs.declared.token.Span.{Span as SpanModel};
 ghost use Rattle.tables.specs.Words.{word_at, same_word};
@@ -26,7 +26,7 @@ use crate::arguments::{judge_arguments, judge_typed_arguments};
 use crate::operands::ask;
 use crate::surroundings::{NameContext, Surroundings};
 use crate::told::judge_count;
-use crate::variables::Variables;
+use crate::variables::ScopeVariables;
 use declarations::{Callee, Demand, Mismatch, Mistake, NameSort, Scope, ValueType, add_unknown};
 use program::{Direction, Side};
 use source::{Memory, Span};
@@ -34,7 +34,7 @@ use tree::{Call, Expression, Message, Type};
 
 /// What is done with what a call gives.
 #[derive(Clone, Copy, PartialEq, Eq)]
-pub(crate) enum Role {
+pub(crate) enum Purpose {
     /// It is a value of which this type is asked.
     Asked(ValueType),
     /// It stands alone.
@@ -46,28 +46,28 @@ pub(crate) enum Role {
 /// What a call is in its method, but for what it names before a dot.
 #[derive(Clone, Copy)]
 pub(crate) struct CallSite<'t> {
-    role: Role,
+    purpose: Purpose,
     /// The method or the message.
     name: Span,
     arguments: &'t [Expression],
 }
 
 /// Whether the type of what a method gives fits what is done with it.
-fn result_fits(scope: &Scope<'_>, given: Option<Type>, role: Role) -> bool
-    ensures { (p : Program) → IsScope p scope.now → result ≡ result_fits p given role }
+fn result_fits(scope: &Scope<'_>, given: Option<Type>, purpose: Purpose) -> bool
+    ensures { (p : ProgramText) → IsScope p scope.now → result ≡ result_fits p given purpose }
 {
-    match (given, role) {
-        (_, Role::Started) => true,
-        (None, Role::Alone) => true,
-        (None, Role::Asked(_)) => false,
-        (Some(written), Role::Alone) => !scope.type_meant(written).is_block(),
-        (Some(written), Role::Asked(asked)) => scope.type_meant(written).agrees(asked),
+    match (given, purpose) {
+        (_, Purpose::Started) => true,
+        (None, Purpose::Alone) => true,
+        (None, Purpose::Asked(_)) => false,
+        (Some(written), Purpose::Alone) => !scope.type_meant(written).is_block(),
+        (Some(written), Purpose::Asked(asked)) => scope.type_meant(written).agrees(asked),
     }
 }
 
 /// The type of what a method gives, if it gives anything.
 fn type_given(scope: &Scope<'_>, given: Option<Type>) -> ValueType
-    ensures { (p : Program) → IsScope p scope.now → result ≡ result_type p given }
+    ensures { (p : ProgramText) → IsScope p scope.now → result ≡ result_type p given }
 {
     match given {
         Some(written) => scope.type_meant(written),
@@ -76,11 +76,11 @@ fn type_given(scope: &Scope<'_>, given: Option<Type>) -> ValueType
 }
 
 /// What is asked of it: a block that a method gives has to be taken.
-fn demand_of(role: Role) -> Demand
-    ensures { result ≡ demand_of role }
+fn demand_of(purpose: Purpose) -> Demand
+    ensures { result ≡ demand_of purpose }
 {
-    match role {
-        Role::Asked(ty) => Demand::OfType(ty),
+    match purpose {
+        Purpose::Asked(ty) => Demand::OfType(ty),
         _ => Demand::NoBlock,
     }
 }
@@ -92,11 +92,11 @@ fn judge_start(
     site: &CallSite<'_>,
     found: &mut Vec<Mistake>,
 ) -> Result<(), Memory>
-    ensures { (p : Program) (m : MethodTree) → IsScope p context.now.scope.now → startable ≡ can_start m
-        → OnOk result (Adds found.old.items found.new.items (start_mistakes m site.now.role site.now.name)) }
+    ensures { (p : ProgramText) (m : MethodTree) → IsScope p context.now.scope.now → startable ≡ can_start m
+        → OnOk result (Adds found.old.items found.new.items (start_mistakes m site.now.purpose site.now.name)) }
 {
-    match site.role {
-        Role::Started if !startable => Ok(found.push(Mistake::NotStarted(site.name))?),
+    match site.purpose {
+        Purpose::Started if !startable => Ok(found.push(Mistake::NotStarted(site.name))?),
         _ => Ok(()),
     }
 }
@@ -108,10 +108,10 @@ fn judge_known_method(
     site: &CallSite<'_>,
     found: &mut Vec<Mistake>,
 ) -> Result<(), Memory>
-    ensures { (p : Program) (f : Frame) (class : Option SpanModel) → IsContext p f context.now
+    ensures { (p : ProgramText) (f : NameFrame) (class : Option SpanModel) → IsContext p f context.now
         → callee.entry.startable ≡ can_start (method_tree callee.entry.method.now)
         → OnOk result (Adds found.old.items found.new.items (method_mistakes (in_frame p f)
-        (Some (method_tree callee.entry.method.now)) class site.now.role site.now.name
+        (Some (method_tree callee.entry.method.now)) class site.now.purpose site.now.name
         (map shape (map expression_tree site.now.arguments.now)))) }
 {
     let NameContext {
@@ -124,12 +124,12 @@ fn judge_known_method(
     judge_count(method.params.len(), arguments.len(), place, found)?;
     judge_typed_arguments(alloc, scope, variables, &method.params, arguments, found)?;
     judge_start(context, callee.startable, site, found)?;
-    let fits = result_fits(scope, method.result, site.role);
+    let fits = result_fits(scope, method.result, site.purpose);
     let given = type_given(scope, method.result);
     ask(
         fits,
         place,
-        Mismatch::Given(demand_of(site.role), given),
+        Mismatch::Given(demand_of(site.purpose), given),
         found,
     )
 }
@@ -142,7 +142,7 @@ pub(crate) fn judge_unknown(
     arguments: &[Expression],
     found: &mut Vec<Mistake>,
 ) -> Result<(), Memory>
-    ensures { (p : Program) (f : Frame) → IsContext p f context.now
+    ensures { (p : ProgramText) (f : NameFrame) → IsContext p f context.now
         → OnOk result (Adds found.old.items found.new.items (Mistake.Unknown name sort
         ∷ argument_mistakes (in_frame p f) [] (map shape (map expression_tree arguments.now)))) }
 {
@@ -163,8 +163,8 @@ fn judge_method(
     site: &CallSite<'_>,
     found: &mut Vec<Mistake>,
 ) -> Result<(), Memory>
-    ensures { (p : Program) (f : Frame) (m : Option MethodTree) → IsContext p f context.now → IsCallee m callee.entry
-        → OnOk result (Adds found.old.items found.new.items (method_mistakes (in_frame p f) m class site.now.role site.now.name
+    ensures { (p : ProgramText) (f : NameFrame) (m : Option MethodTree) → IsContext p f context.now → IsCallee m callee.entry
+        → OnOk result (Adds found.old.items found.new.items (method_mistakes (in_frame p f) m class site.now.purpose site.now.name
         (map shape (map expression_tree site.now.arguments.now)))) }
 {
     match callee {
@@ -189,17 +189,17 @@ fn sends(end: Side, direction: Direction) -> bool
     }
 }
 
-fn is_alone(role: Role) -> bool
-    ensures { result ≡ is_alone role }
+fn is_alone(purpose: Purpose) -> bool
+    ensures { result ≡ is_alone purpose }
 {
-    matches!(role, Role::Alone)
+    matches!(purpose, Purpose::Alone)
 }
 
-/// Whether what stands in this role at this end is a send in this direction.
-fn is_sent(role: Role, end: Side, direction: Direction) -> bool
-    ensures { result ≡ is_alone role && sends end direction }
+/// Whether what is called for this purpose at this end is a send in this direction.
+fn is_sent(purpose: Purpose, end: Side, direction: Direction) -> bool
+    ensures { result ≡ is_alone purpose && sends end direction }
 {
-    is_alone(role) && sends(end, direction)
+    is_alone(purpose) && sends(end, direction)
 }
 
 /// Adds what is wrong with sending this message at this end.
@@ -210,9 +210,9 @@ fn judge_known_message(
     site: &CallSite<'_>,
     found: &mut Vec<Mistake>,
 ) -> Result<(), Memory>
-    ensures { (p : Program) (f : Frame) (n : ℕ) → IsContext p f context.now
+    ensures { (p : ProgramText) (f : NameFrame) (n : ℕ) → IsContext p f context.now
         → OnOk result (Adds found.old.items found.new.items (message_mistakes (in_frame p f) n
-        (Some (message_tree message.now)) end site.now.role site.now.name
+        (Some (message_tree message.now)) end site.now.purpose site.now.name
         (map shape (map expression_tree site.now.arguments.now)))) }
 {
     let NameContext {
@@ -221,20 +221,25 @@ fn judge_known_message(
         variables,
     } = *context;
     let (place, arguments) = (site.name.place, site.arguments);
-    let well = is_sent(site.role, end, message.direction);
-    ask(well, place, send_mismatch(site.role, end, site.name), found)?;
+    let well = is_sent(site.purpose, end, message.direction);
+    ask(
+        well,
+        place,
+        send_mismatch(site.purpose, end, site.name),
+        found,
+    )?;
     judge_count(message.params.len(), arguments.len(), place, found)?;
     judge_typed_arguments(alloc, scope, variables, &message.params, arguments, found)
 }
 
 /// Why this send at this end is wrong.
-fn send_mismatch(role: Role, end: Side, word: Span) -> Mismatch
-    ensures { result ≡ send_mismatch role end word }
+fn send_mismatch(purpose: Purpose, end: Side, word: Span) -> Mismatch
+    ensures { result ≡ send_mismatch purpose end word }
 {
-    match role {
-        Role::Alone => Mismatch::NotSent(end, word),
-        Role::Started => Mismatch::SendStarted,
-        Role::Asked(ty) => Mismatch::Given(Demand::OfType(ty), ValueType::Missing),
+    match purpose {
+        Purpose::Alone => Mismatch::NotSent(end, word),
+        Purpose::Started => Mismatch::SendStarted,
+        Purpose::Asked(ty) => Mismatch::Given(Demand::OfType(ty), ValueType::Missing),
     }
 }
 
@@ -246,9 +251,9 @@ fn judge_end(
     site: &CallSite<'_>,
     found: &mut Vec<Mistake>,
 ) -> Result<(), Memory>
-    ensures { (p : Program) (f : Frame) → IsContext p f context.now
+    ensures { (p : ProgramText) (f : NameFrame) → IsContext p f context.now
         → OnOk result (Adds found.old.items found.new.items (message_mistakes (in_frame p f) index
-        (contract_message (in_frame p f) index site.now.name) end site.now.role site.now.name
+        (contract_message (in_frame p f) index site.now.name) end site.now.purpose site.now.name
         (map shape (map expression_tree site.now.arguments.now)))) }
 {
     match context.scope.sent_message(index, site.name) {
@@ -271,8 +276,8 @@ fn judge_send(
     site: &CallSite<'_>,
     found: &mut Vec<Mistake>,
 ) -> Result<(), Memory>
-    ensures { (p : Program) (f : Frame) → IsContext p f context.now
-        → OnOk result (Adds found.old.items found.new.items (send_mistakes (in_frame p f) ty site.now.role variable site.now.name
+    ensures { (p : ProgramText) (f : NameFrame) → IsContext p f context.now
+        → OnOk result (Adds found.old.items found.new.items (send_mistakes (in_frame p f) ty site.now.purpose variable site.now.name
         (map shape (map expression_tree site.now.arguments.now)))) }
 {
     let NameContext {
@@ -297,9 +302,9 @@ fn judge_class(
     site: &CallSite<'_>,
     found: &mut Vec<Mistake>,
 ) -> Result<(), Memory>
-    ensures { (p : Program) (f : Frame) → IsContext p f context.now
+    ensures { (p : ProgramText) (f : NameFrame) → IsContext p f context.now
         → OnOk result (Adds found.old.items found.new.items (class_mistakes (in_frame p f)
-        (class_meant (class_named p class)) site.now.role class site.now.name
+        (class_meant (class_named p class)) site.now.purpose class site.now.name
         (map shape (map expression_tree site.now.arguments.now)))) }
 {
     match context.scope.class(class) {
@@ -321,9 +326,9 @@ fn judge_member(
     site: &CallSite<'_>,
     found: &mut Vec<Mistake>,
 ) -> Result<(), Memory>
-    ensures { (p : Program) (f : Frame) → IsContext p f context.now
+    ensures { (p : ProgramText) (f : NameFrame) → IsContext p f context.now
         → OnOk result (Adds found.old.items found.new.items (member_mistakes (in_frame p f)
-        (meant (in_frame p f) front) site.now.role front site.now.name
+        (meant (in_frame p f) front) site.now.purpose front site.now.name
         (map shape (map expression_tree site.now.arguments.now)))) }
 {
     match context.variables.find(context.scope.text, front) {
@@ -335,19 +340,19 @@ fn judge_member(
 /// Adds what is wrong with a call.
 pub(crate) fn judge_call<'a>(
     around: &Surroundings<'_, 'a>,
-    variables: &Variables<'a>,
-    role: Role,
+    variables: &ScopeVariables<'a>,
+    purpose: Purpose,
     call: &Call,
     found: &mut Vec<Mistake>,
 ) -> Result<(), Memory>
-    ensures { (m : bodies.Surroundings) (f : Frame) → AreSurroundings m around.now → IsFrame m.program.text f variables.now
-        → OnOk result (Adds found.old.items found.new.items (call_mistakes (bodies.inside_of m f) role (call_tree call.now))) }
+    ensures { (m : bodies.Surroundings) (f : NameFrame) → AreSurroundings m around.now → IsNameFrame m.program.text f variables.now
+        → OnOk result (Adds found.old.items found.new.items (call_mistakes (bodies.inside_of m f) purpose (call_tree call.now))) }
 {
     let context = around.context(variables);
     match call.member {
         None => {
             let site = CallSite {
-                role,
+                purpose,
                 name: call.name,
                 arguments: &call.arguments,
             };
@@ -356,7 +361,7 @@ pub(crate) fn judge_call<'a>(
         }
         Some(name) => {
             let site = CallSite {
-                role,
+                purpose,
                 name,
                 arguments: &call.arguments,
             };

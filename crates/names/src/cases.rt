@@ -7,15 +7,15 @@ ghost use Rattle.names.specs.Cases.{other_head_mistakes, head_mistakes, binds_tu
 ghost use Rattle.declarations.specs.Declarations.{bound_params};
 ghost use Rattle.names.specs.Expressions.{meant, held};
 ghost use Rattle.declarations.specs.Mistakes.{Adds};
-ghost use Rattle.names.specs.Frames.{IsContext, IsFrame, Turned};
+ghost use Rattle.names.specs.Frames.{IsContext, IsNameFrame, Turned};
 ghost use Rattle.names.specs.Operands.{in_frame};
 ghost use Rattle.names.specs.Heads.{IsHeads, case_head};
 ghost use Rattle.declarations.specs.Types.{is_silent};
-ghost use Rattle.declarations.specs.Program.{Program, as_contract, item_at};
+ghost use Rattle.declarations.specs.Program.{ProgramText, as_contract, item_at};
 ghost use Rattle.declarations.specs.Scopes.{IsScope};
 ghost use Rattle.declarations.specs.Named.{message_written};
 ghost use Rattle.tables.specs.Words.{word_at};
-ghost use Rattle.names.specs.Variables.{Frame, Variable};
+ghost use Rattle.names.specs.Variables.{NameFrame, ScopeVariable};
 
 use crate::awaits::{
     judge_case_twice, judge_closed, judge_lacking, judge_message_case, judge_other_head,
@@ -24,7 +24,7 @@ use crate::binds::judge_bound;
 use crate::heads::{Heads, awaiting_at};
 use crate::simple_statements::{held_type, judge_use};
 use crate::surroundings::NameContext;
-use crate::variables::Variables;
+use crate::variables::ScopeVariables;
 use declarations::{Mistake, NameSort, Scope, ValueType, add_unknown};
 use program::Side;
 use source::{Memory, Span};
@@ -47,7 +47,7 @@ pub(crate) fn judge_head<'a>(
     case: &Case,
     found: &mut Vec<Mistake>,
 ) -> Result<(), Memory>
-    ensures { (p : Program) (f : Frame) (all : List Head) → IsContext p f context.now → IsHeads p.text all heads.now
+    ensures { (p : ProgramText) (f : NameFrame) (all : List Head) → IsContext p f context.now → IsHeads p.text all heads.now
         → OnOk result (Adds found.old.items found.new.items
         (head_mistakes (in_frame p f) all (take index all) (case_head case.now))) }
 {
@@ -75,7 +75,7 @@ fn judge_endpoint_head<'a>(
     case: &Case,
     found: &mut Vec<Mistake>,
 ) -> Result<(), Memory>
-    ensures { (p : Program) (f : Frame) (all : List Head) → IsScope p context.now.scope.now → IsHeads p.text all heads.now
+    ensures { (p : ProgramText) (f : NameFrame) (all : List Head) → IsScope p context.now.scope.now → IsHeads p.text all heads.now
         → OnOk result (Adds found.old.items found.new.items (type_head_mistakes (in_frame p f) all
         (take index all) (ValueType.Endpoint end.side end.item) (case_head case.now))) }
 {
@@ -94,7 +94,7 @@ fn judge_awaited(
     case: &Case,
     found: &mut Vec<Mistake>,
 ) -> Result<(), Memory>
-    ensures { (p : Program) (f : Frame) (earlier : List Head) → IsScope p context.now.scope.now
+    ensures { (p : ProgramText) (f : NameFrame) (earlier : List Head) → IsScope p context.now.scope.now
         → twice ≡ awaits_too p.text (case_head case.now) earlier → OnOk result (Adds found.old.items found.new.items
         (endpoint_head_mistakes (in_frame p f) earlier (ValueType.Endpoint end.side end.item) end.side (case_head case.now))) }
 {
@@ -116,7 +116,7 @@ fn judge_message(
     case: &Case,
     found: &mut Vec<Mistake>,
 ) -> Result<(), Memory>
-    ensures { (p : Program) (f : Frame) (earlier : List Head) → IsScope p context.now.scope.now
+    ensures { (p : ProgramText) (f : NameFrame) (earlier : List Head) → IsScope p context.now.scope.now
         → case.now.message ≡ Awaited.Message word → twice ≡ awaits_too p.text (case_head case.now) earlier
         → OnOk result (Adds found.old.items found.new.items (awaited_mistakes (in_frame p f) earlier
         (ValueType.Endpoint end.side end.item) end.side (case_head case.now) (Awaited.Message word))) }
@@ -145,11 +145,11 @@ fn judge_no_endpoint(ty: ValueType, case: &Case, found: &mut Vec<Mistake>) -> Re
 pub(crate) fn judge_binds<'a>(
     alloc: Global,
     scope: &Scope<'a>,
-    variables: &mut Variables<'a>,
+    variables: &mut ScopeVariables<'a>,
     case: &Case,
     found: &mut Vec<Mistake>,
 ) -> Result<(), Memory>
-    ensures { (p : Program) (f : Frame) → IsScope p scope.now → IsFrame p.text f variables.old → OnOk result
+    ensures { (p : ProgramText) (f : NameFrame) → IsScope p scope.now → IsNameFrame p.text f variables.old → OnOk result
         (Turned p.text found.old.items found.new.items variables.new (binds_turn p (bound_params (awaited_message (in_frame p f)
         (held (meant (in_frame p f) case.now.endpoint)) case.now.message)) case.now.binds.items f)) }
 {
@@ -171,7 +171,7 @@ fn awaited_message<'a>(
     end: Side,
     awaited: Awaited,
 ) -> Option<&'a Message>
-    ensures { (p : Program) (vs : List Variable) → IsScope p scope.now → option_map (λ m. message_tree m.now) result
+    ensures { (p : ProgramText) (vs : List ScopeVariable) → IsScope p scope.now → option_map (λ m. message_tree m.now) result
         ≡ awaited_message (record { program = p; variables = vs }) (ValueType.Endpoint end index) awaited }
 {
     match awaited {

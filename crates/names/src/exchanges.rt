@@ -4,16 +4,16 @@ ghost use Rattle.std.specs.Prelude.{◌++◌, ◌||◌, OnOk, IfOk};
 ghost use Rattle.names.specs.Bodies.{exchanged_type, holder_mistakes, exchange_mistakes};
 ghost use Rattle.names.specs.Expressions.{field_type, field_mistakes};
 ghost use Rattle.declarations.specs.Mistakes.{Adds};
-ghost use Rattle.names.specs.Frames.{IsFrame};
+ghost use Rattle.names.specs.Frames.{IsNameFrame};
 ghost use Rattle.declarations.specs.Types.{unless, is_silent, is_block};
 ghost use Rattle.names.specs.Mentions.{GivesIn};
-ghost use Rattle.declarations.specs.Program.{Program};
+ghost use Rattle.declarations.specs.Program.{ProgramText};
 ghost use Rattle.declarations.specs.Scopes.{IsScope};
-ghost use Rattle.names.specs.Variables.{Frame};
+ghost use Rattle.names.specs.Variables.{NameFrame};
 
 use crate::mentions::{judge_field, judge_variable};
 use crate::operands::ask;
-use crate::variables::Variables;
+use crate::variables::ScopeVariables;
 use declarations::{Demand, Mismatch, Mistake, Scope, ValueType};
 use source::{Memory, Span};
 use tree::Exchange;
@@ -21,11 +21,11 @@ use tree::Exchange;
 /// Adds what is wrong with an exchange.
 pub(crate) fn judge_exchange(
     scope: &Scope<'_>,
-    variables: &Variables<'_>,
+    variables: &ScopeVariables<'_>,
     exchange: Exchange,
     found: &mut Vec<Mistake>,
 ) -> Result<(), Memory>
-    ensures { (p : Program) (f : Frame) → IsScope p scope.now → IsFrame p.text f variables.now → OnOk result
+    ensures { (p : ProgramText) (f : NameFrame) → IsScope p scope.now → IsNameFrame p.text f variables.now → OnOk result
         (Adds found.old.items found.new.items (exchange_mistakes (record { program = p; variables = f.variables }) exchange)) }
 {
     let held = judge_variable(scope, variables, exchange.holder, found)?;

@@ -6,18 +6,18 @@ ghost use Rattle.tree.specs.ExpressionTrees.{expression_tree, disjunction_tree, 
 ghost use Rattle.tree.specs.ExpressionTrees.{sum_tree, factors_tree, factor_tree, unary_tree, prefixed_tree, atom_tree, target_tree};
 ghost use Rattle.names.specs.Expressions.{InScope, type_of, expression_mistakes, whole_mistakes};
 ghost use Rattle.declarations.specs.Mistakes.{Adds};
-ghost use Rattle.names.specs.Frames.{IsFrame};
-ghost use Rattle.names.specs.Operands.{IsJudged, Judges};
-ghost use Rattle.declarations.specs.Program.{Program};
+ghost use Rattle.names.specs.Frames.{IsNameFrame};
+ghost use Rattle.names.specs.Operands.{IsOperand, Judges};
+ghost use Rattle.declarations.specs.Program.{ProgramText};
 ghost use Rattle.declarations.specs.Scopes.{IsScope};
 ghost use Rattle.names.specs.Shapes.{Shape, shape, atom_shape, target_shape, signed};
 ghost use Rattle.names.specs.Terms.{JudgesTerms, TermShapes, with_factor};
-ghost use Rattle.names.specs.Variables.{Frame};
+ghost use Rattle.names.specs.Variables.{NameFrame};
 
 use crate::mentions;
 use crate::operands::{Joint, Operand, join, sign};
 use crate::terms::{Terms, joined_terms};
-use crate::variables::Variables;
+use crate::variables::ScopeVariables;
 use crate::wholes::judge_whole_operand;
 use declarations::{Mistake, Scope, ValueType};
 use source::Memory;
@@ -30,7 +30,7 @@ use tree::{
 #[cycle(expressions)]
 pub(crate) fn judge_operand(
     scope: &Scope<'_>,
-    variables: &Variables<'_>,
+    variables: &ScopeVariables<'_>,
     expression: &Expression,
     found: &mut Vec<Mistake>,
 ) -> Result<Operand, Memory>
@@ -46,7 +46,7 @@ pub(crate) fn judge_operand(
 #[cycle(expressions)]
 fn judge_disjunction(
     scope: &Scope<'_>,
-    variables: &Variables<'_>,
+    variables: &ScopeVariables<'_>,
     disjunction: &Disjunction,
     found: &mut Vec<Mistake>,
 ) -> Result<Operand, Memory>
@@ -64,7 +64,7 @@ fn judge_disjunction(
 #[cycle(expressions)]
 fn judge_conjunction(
     scope: &Scope<'_>,
-    variables: &Variables<'_>,
+    variables: &ScopeVariables<'_>,
     conjunction: &Conjunction,
     found: &mut Vec<Mistake>,
 ) -> Result<Operand, Memory>
@@ -82,7 +82,7 @@ fn judge_conjunction(
 #[cycle(expressions)]
 fn judge_equality(
     scope: &Scope<'_>,
-    variables: &Variables<'_>,
+    variables: &ScopeVariables<'_>,
     equality: &Equality,
     found: &mut Vec<Mistake>,
 ) -> Result<Operand, Memory>
@@ -100,7 +100,7 @@ fn judge_equality(
 #[cycle(expressions)]
 fn judge_relation(
     scope: &Scope<'_>,
-    variables: &Variables<'_>,
+    variables: &ScopeVariables<'_>,
     relation: &Relation,
     found: &mut Vec<Mistake>,
 ) -> Result<Operand, Memory>
@@ -118,7 +118,7 @@ fn judge_relation(
 #[cycle(expressions)]
 fn judge_sum(
     scope: &Scope<'_>,
-    variables: &Variables<'_>,
+    variables: &ScopeVariables<'_>,
     sum: &Sum,
     found: &mut Vec<Mistake>,
 ) -> Result<Operand, Memory>
@@ -134,7 +134,7 @@ fn judge_sum(
 #[cycle(expressions)]
 fn judge_factors(
     scope: &Scope<'_>,
-    variables: &Variables<'_>,
+    variables: &ScopeVariables<'_>,
     factors: &Factors,
     found: &mut Vec<Mistake>,
 ) -> Result<Operand, Memory>
@@ -154,7 +154,7 @@ fn judge_factors(
 #[cycle(expressions)]
 fn judge_factor(
     scope: &Scope<'_>,
-    variables: &Variables<'_>,
+    variables: &ScopeVariables<'_>,
     factor: &Factor,
     terms: &mut Terms,
     found: &mut Vec<Mistake>,
@@ -181,7 +181,7 @@ fn judge_factor(
 #[cycle(expressions)]
 fn judge_unary(
     scope: &Scope<'_>,
-    variables: &Variables<'_>,
+    variables: &ScopeVariables<'_>,
     unary: &Unary,
     found: &mut Vec<Mistake>,
 ) -> Result<Operand, Memory>
@@ -197,7 +197,7 @@ fn judge_unary(
 #[cycle(expressions)]
 fn judge_prefixed(
     scope: &Scope<'_>,
-    variables: &Variables<'_>,
+    variables: &ScopeVariables<'_>,
     prefixed: &Prefixed,
     found: &mut Vec<Mistake>,
 ) -> Result<Operand, Memory>
@@ -213,8 +213,8 @@ fn judge_signs(
     inner: Operand,
     found: &mut Vec<Mistake>,
 ) -> Result<Operand, Memory>
-    ensures { IfOk result (λ o. (s : InScope) (e : Shape) (start : List MistakeModel) → IsJudged s e start found.old.items inner
-        → IsJudged s (signed prefixes.now e) start found.new.items o) }
+    ensures { IfOk result (λ o. (s : InScope) (e : Shape) (start : List MistakeModel) → IsOperand s e start found.old.items inner
+        → IsOperand s (signed prefixes.now e) start found.new.items o) }
 {
     let mut operand = inner;
     let mut left = prefixes.len();
@@ -230,7 +230,7 @@ fn judge_signs(
 #[cycle(expressions)]
 fn judge_atom(
     scope: &Scope<'_>,
-    variables: &Variables<'_>,
+    variables: &ScopeVariables<'_>,
     atom: &Atom,
     found: &mut Vec<Mistake>,
 ) -> Result<Operand, Memory>
@@ -255,7 +255,7 @@ fn judge_atom(
 #[cycle(expressions)]
 fn judge_mentioned(
     scope: &Scope<'_>,
-    variables: &Variables<'_>,
+    variables: &ScopeVariables<'_>,
     target: &Target,
     found: &mut Vec<Mistake>,
 ) -> Result<Operand, Memory>
@@ -276,14 +276,14 @@ fn judge_mentioned(
 /// The type of an expression; adds what is wrong in it.
 pub(crate) fn judge_expression(
     scope: &Scope<'_>,
-    variables: &Variables<'_>,
+    variables: &ScopeVariables<'_>,
     expression: &Expression,
     found: &mut Vec<Mistake>,
 ) -> Result<ValueType, Memory>
-    ensures ty { IfOk result (λ ty. (p : Program) (f : Frame) → IsScope p scope.now → IsFrame p.text f variables.now
+    ensures ty { IfOk result (λ ty. (p : ProgramText) (f : NameFrame) → IsScope p scope.now → IsNameFrame p.text f variables.now
         → ty ≡ type_of (record { program = p; variables = f.variables }) (shape (expression_tree expression.now))) }
-    ensures found { (p : Program) (f : Frame) → IsScope p scope.now
-        → IsFrame p.text f variables.now → OnOk result (Adds found.old.items found.new.items
+    ensures found { (p : ProgramText) (f : NameFrame) → IsScope p scope.now
+        → IsNameFrame p.text f variables.now → OnOk result (Adds found.old.items found.new.items
         (expression_mistakes (record { program = p; variables = f.variables }) (shape (expression_tree expression.now)))) }
 {
     let operand = judge_operand(scope, variables, expression, found)?;
@@ -294,14 +294,15 @@ pub(crate) fn judge_expression(
 /// heap may stand there alone.
 pub(crate) fn judge_whole(
     scope: &Scope<'_>,
-    variables: &Variables<'_>,
+    variables: &ScopeVariables<'_>,
     expression: &Expression,
     found: &mut Vec<Mistake>,
 ) -> Result<ValueType, Memory>
-    ensures ty { IfOk result (λ ty. (p : Program) (f : Frame) → IsScope p scope.now → IsFrame p.text f variables.now
+    ensures ty { IfOk result (λ ty. (p : ProgramText) (f : NameFrame) → IsScope p scope.now → IsNameFrame p.text f variables.now
         → ty ≡ type_of (record { program = p; variables = f.variables }) (shape (expression_tree expression.now))) }
-    ensures found { (p : Program) (f : Frame) → IsScope p scope.now → IsFrame p.text f variables.now → OnOk result (Adds found.old.items
-        found.new.items (whole_mistakes (record { program = p; variables = f.variables }) (shape (expression_tree expression.now)))) }
+    ensures found { (p : ProgramText) (f : NameFrame) → IsScope p scope.now → IsNameFrame p.text f variables.now
+        → OnOk result (Adds found.old.items found.new.items
+        (whole_mistakes (record { program = p; variables = f.variables }) (shape (expression_tree expression.now)))) }
 {
     let operand = judge_whole_operand(scope, variables, expression, found)?;
     Ok(operand.ty)

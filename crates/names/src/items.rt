@@ -4,7 +4,7 @@ ghost use Rattle.std.specs.Prelude.{◌≡◌, OnOk};
 ghost use Rattle.std.specs.List.{flat_map};
 ghost use Rattle.tree.specs.Trees.{DefinitionTree};
 ghost use Rattle.declarations.specs.Mistakes.{Adds};
-ghost use Rattle.declarations.specs.Program.{Program};
+ghost use Rattle.declarations.specs.Program.{ProgramText};
 ghost use Rattle.declarations.specs.Scopes.{IsScope, AreMembers};
 ghost use Rattle.names.specs.Findings.{definition_mistakes, program_mistakes};
 
@@ -21,7 +21,7 @@ pub(crate) fn judge_program(
     scope: &Scope<'_>,
     found: &mut Vec<Mistake>,
 ) -> Result<(), Memory>
-    ensures { (p : Program) → IsScope p scope.now → OnOk result (Adds found.old.items found.new.items (program_mistakes p)) }
+    ensures { (p : ProgramText) → IsScope p scope.now → OnOk result (Adds found.old.items found.new.items (program_mistakes p)) }
 {
     judge_items(alloc, scope, found)?;
     judge_counted(alloc, scope, found)?;
@@ -34,7 +34,7 @@ fn judge_definitions(
     scope: &Scope<'_>,
     found: &mut Vec<Mistake>,
 ) -> Result<(), Memory>
-    ensures { (p : Program) → IsScope p scope.now
+    ensures { (p : ProgramText) → IsScope p scope.now
         → OnOk result (Adds found.old.items found.new.items (flat_map (λ i. definition_mistakes p i.definition) p.items)) }
 {
     for members in scope.members() {
@@ -50,7 +50,7 @@ fn judge_definition<'a>(
     members: &Members<'a>,
     found: &mut Vec<Mistake>,
 ) -> Result<(), Memory>
-    ensures { (p : Program) (d : DefinitionTree) → IsScope p scope.now → AreMembers p.text d members.now
+    ensures { (p : ProgramText) (d : DefinitionTree) → IsScope p scope.now → AreMembers p.text d members.now
         → OnOk result (Adds found.old.items found.new.items (definition_mistakes p d)) }
 {
     match members {

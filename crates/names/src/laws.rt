@@ -2,7 +2,7 @@
 
 ghost use Rattle.std.specs.Prelude.{◌≡◌, [], All};
 ghost use Rattle.tree.specs.Trees.{contracts_of};
-ghost use Rattle.declarations.specs.Program.{Program};
+ghost use Rattle.declarations.specs.Program.{ProgramText};
 ghost use Rattle.declarations.specs.Resolution.{resolved_contracts};
 ghost use Rattle.names.specs.Findings.{program_mistakes};
 ghost use Rattle.program.specs.Parts.{IsWhole};
@@ -11,7 +11,7 @@ use declarations::laws::contracts_without_findings_are_whole;
 
 /// The contracts of a program with nothing wrong in it are whole.
 pub fn clean_contracts_are_whole()
-    ensures { (p : Program) → program_mistakes p ≡ [] → All (λ c. IsWhole c.parts) (resolved_contracts p.text (contracts_of p.items)) }
+    ensures { (p : ProgramText) → program_mistakes p ≡ [] → All (λ c. IsWhole c.parts) (resolved_contracts p.text (contracts_of p.items)) }
 {
     contracts_without_findings_are_whole();
 }

@@ -8,15 +8,15 @@ ghost use Rattle.names.specs.Expressions.{InScope, meant, held, variable_mistake
 ghost use Rattle.names.specs.Expressions.{element_type, element_mistakes, struct_field_type, is_owning, owns};
 ghost use Rattle.declarations.specs.Named.{field_named};
 ghost use Rattle.declarations.specs.Mistakes.{Adds};
-ghost use Rattle.names.specs.Mentions.{Gives, GivesIn, IsGiven};
+ghost use Rattle.names.specs.Mentions.{GivesOperand, GivesIn, IsGiven};
 ghost use Rattle.names.specs.Operands.{Judges};
-ghost use Rattle.declarations.specs.Scopes.{IsScope, AreFields};
+ghost use Rattle.declarations.specs.Scopes.{IsScope, AreFieldsOf};
 ghost use Rattle.names.specs.Shapes as shapes;
 ghost use Rattle.names.specs.Shapes.{Shape};
 ghost use Rattle.tables.specs.Words.{word_at, same_word};
 
 use crate::operands::{Operand, ask, ask_number};
-use crate::variables::Variables;
+use crate::variables::ScopeVariables;
 use declarations::{
     Demand, Fields, Mismatch, Mistake, NameSort, Scope, ValueType, add_unknown, is_heap,
 };
@@ -27,12 +27,12 @@ use tree::Field;
 /// What a variable holds; adds the name if nothing declares it.
 pub(crate) fn judge_variable(
     scope: &Scope<'_>,
-    variables: &Variables<'_>,
+    variables: &ScopeVariables<'_>,
     name: Span,
     found: &mut Vec<Mistake>,
 ) -> Result<ValueType, Memory>
     ensures { IfOk result
-        (Gives scope.now variables.now (λ s. held (meant s name)) (λ s. variable_mistakes s name) found.old.items found.new.items) }
+        (GivesOperand scope.now variables.now (λ s. held (meant s name)) (λ s. variable_mistakes s name) found.old.items found.new.items) }
 {
     match variables.find(scope.text, name) {
         Some(variable) => Ok(variable.ty),
@@ -46,7 +46,7 @@ pub(crate) fn judge_variable(
 /// A variable within an expression; adds what is wrong with it.
 pub(crate) fn judge_mention(
     scope: &Scope<'_>,
-    variables: &Variables<'_>,
+    variables: &ScopeVariables<'_>,
     name: Span,
     found: &mut Vec<Mistake>,
 ) -> Result<Operand, Memory>
@@ -64,7 +64,7 @@ pub(crate) fn judge_mention(
 /// A field of a variable within an expression; adds what is wrong with it.
 pub(crate) fn judge_field_of(
     scope: &Scope<'_>,
-    variables: &Variables<'_>,
+    variables: &ScopeVariables<'_>,
     variable: Span,
     field: Span,
     found: &mut Vec<Mistake>,
@@ -85,7 +85,7 @@ pub(crate) fn judge_field_of(
 #[inline(always)]
 pub(crate) fn judge_element_of(
     scope: &Scope<'_>,
-    variables: &Variables<'_>,
+    variables: &ScopeVariables<'_>,
     variable: Span,
     index: Operand,
     found: &mut Vec<Mistake>,
@@ -226,7 +226,7 @@ fn judge_field_in(
     field: Span,
     found: &mut Vec<Mistake>,
 ) -> Result<ValueType, Memory>
-    ensures { IfOk result (λ k. (s : InScope) (x : StructTree) → IsScope s.program scope.now → AreFields scope.now.text.now x fields.now
+    ensures { IfOk result (λ k. (s : InScope) (x : StructTree) → IsScope s.program scope.now → AreFieldsOf scope.now.text.now x fields.now
         → IsGiven (struct_field_type s (field_named scope.now.text.now x field))
         (if is_some (field_named scope.now.text.now x field) then [] else Mistake.Unknown field (NameSort.Field index) ∷ [])
         found.old.items found.new.items k) }

@@ -4,15 +4,15 @@ ghost use Rattle.std.specs.Prelude.{OnOk};
 ghost use Rattle.std.specs.List.{flat_map};
 ghost use Rattle.tree.specs.Trees.{ClassTree, method_tree};
 ghost use Rattle.declarations.specs.Mistakes.{Adds};
-ghost use Rattle.names.specs.Frames.{IsFrame, Turned};
+ghost use Rattle.names.specs.Frames.{IsNameFrame, Turned};
 ghost use Rattle.names.specs.Methods.{result_unknown, parameter_turn, parameters_turn, method_turn, class_mistakes};
-ghost use Rattle.declarations.specs.Program.{Program};
+ghost use Rattle.declarations.specs.Program.{ProgramText};
 ghost use Rattle.declarations.specs.Scopes.{IsScope, AreMethods};
-ghost use Rattle.names.specs.Variables.{Frame};
+ghost use Rattle.names.specs.Variables.{NameFrame};
 
 use crate::statements::judge_block;
 use crate::surroundings::Surroundings;
-use crate::variables::{Variable, Variables};
+use crate::variables::{ScopeVariable, ScopeVariables};
 use declarations::{ClassMethods, Mistake, Scope, is_heap, judge_method_names, judge_type};
 use source::Memory;
 use std::alloc::Global;
@@ -25,7 +25,7 @@ pub(crate) fn judge_class<'a>(
     methods: &ClassMethods<'a>,
     found: &mut Vec<Mistake>,
 ) -> Result<(), Memory>
-    ensures { (p : Program) (c : ClassTree) → IsScope p scope.now → AreMethods p.text c methods.now
+    ensures { (p : ProgramText) (c : ClassTree) → IsScope p scope.now → AreMethods p.text c methods.now
         → OnOk result (Adds found.old.items found.new.items (class_mistakes p c)) }
 {
     judge_method_names(alloc, scope, methods, found)?;
@@ -39,7 +39,7 @@ fn judge_methods<'a>(
     methods: &ClassMethods<'a>,
     found: &mut Vec<Mistake>,
 ) -> Result<(), Memory>
-    ensures { (p : Program) (c : ClassTree) → IsScope p scope.now → AreMethods p.text c methods.now
+    ensures { (p : ProgramText) (c : ClassTree) → IsScope p scope.now → AreMethods p.text c methods.now
         → OnOk result (Adds found.old.items found.new.items (flat_map (λ m. (method_turn p c m).found) c.methods)) }
 {
     for method in methods.list() {
@@ -56,11 +56,11 @@ fn judge_method<'a>(
     method: &Method,
     found: &mut Vec<Mistake>,
 ) -> Result<(), Memory>
-    ensures { (p : Program) (c : ClassTree) → IsScope p scope.now → AreMethods p.text c methods.now
+    ensures { (p : ProgramText) (c : ClassTree) → IsScope p scope.now → AreMethods p.text c methods.now
         → OnOk result (Adds found.old.items found.new.items (method_turn p c (method_tree method.now)).found) }
 {
     judge_result(scope, method.result, found)?;
-    let mut variables = Variables::new(alloc);
+    let mut variables = ScopeVariables::new(alloc);
     judge_parameters(alloc, scope, &mut variables, &method.params, found)?;
     let around = Surroundings {
         alloc,
@@ -79,7 +79,7 @@ fn judge_result(
     written: Option<Type>,
     found: &mut Vec<Mistake>,
 ) -> Result<(), Memory>
-    ensures { (p : Program) → IsScope p scope.now → OnOk result (Adds found.old.items found.new.items (result_unknown p written)) }
+    ensures { (p : ProgramText) → IsScope p scope.now → OnOk result (Adds found.old.items found.new.items (result_unknown p written)) }
 {
     match written {
         Some(written) => judge_type(scope, written, found),
@@ -91,11 +91,11 @@ fn judge_result(
 fn judge_parameters<'a>(
     alloc: Global,
     scope: &Scope<'a>,
-    variables: &mut Variables<'a>,
+    variables: &mut ScopeVariables<'a>,
     params: &[Parameter],
     found: &mut Vec<Mistake>,
 ) -> Result<(), Memory>
-    ensures { (p : Program) (f : Frame) → IsScope p scope.now → IsFrame p.text f variables.old
+    ensures { (p : ProgramText) (f : NameFrame) → IsScope p scope.now → IsNameFrame p.text f variables.old
         → OnOk result (Turned p.text found.old.items found.new.items variables.new (parameters_turn p params.now f)) }
 {
     for parameter in params {
@@ -108,17 +108,17 @@ fn judge_parameters<'a>(
 fn judge_parameter<'a>(
     alloc: Global,
     scope: &Scope<'a>,
-    variables: &mut Variables<'a>,
+    variables: &mut ScopeVariables<'a>,
     parameter: Parameter,
     found: &mut Vec<Mistake>,
 ) -> Result<(), Memory>
-    ensures { (p : Program) (f : Frame) → IsScope p scope.now → IsFrame p.text f variables.old
+    ensures { (p : ProgramText) (f : NameFrame) → IsScope p scope.now → IsNameFrame p.text f variables.old
         → OnOk result (Turned p.text found.old.items found.new.items variables.new (parameter_turn p parameter f)) }
 {
     judge_type(scope, parameter.ty, found)?;
     let ty = scope.type_meant(parameter.ty);
     let heap = is_heap(parameter.ty);
-    let variable = Variable {
+    let variable = ScopeVariable {
         name: parameter.name,
         ty,
     };

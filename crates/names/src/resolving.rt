@@ -3,10 +3,10 @@
 ghost use Rattle.std.specs.Prelude.{◌≡◌, ◌^◌, ◌<◌, length, IfErr, IfOk};
 ghost use Rattle.tree.specs.Trees.{program_tree};
 ghost use Rattle.tree.specs.Programs.{program};
-ghost use Rattle.declarations.specs.Program.{Program, program_of};
+ghost use Rattle.declarations.specs.Program.{ProgramText, program_of};
 ghost use Rattle.declarations.specs.Scopes.{IsScope};
 ghost use Rattle.names.specs.Findings.{program_mistakes};
-ghost use Rattle.names.specs.Resolving.{AreMistakes, Explains, IsResolution};
+ghost use Rattle.names.specs.Resolving.{AreMistakes, TellsMistakes, IsResolution};
 
 use crate::fault::NameFaults;
 use crate::items::judge_program;
@@ -26,7 +26,7 @@ use tree::Tree;
 /// is answered where a growth was refused.
 pub fn resolve(alloc: Global, tree: &Tree, text: &[u8]) -> Result<Resolved, NameFaults>
     requires { length (program (program_tree tree.now)) < 2 ^ 32 }
-    ensures found { IfErr result (Explains (program_of text.now tree.now)) }
+    ensures found { IfErr result (TellsMistakes (program_of text.now tree.now)) }
     ensures resolved { IfOk result (IsResolution (program_of text.now tree.now)) }
 {
     match judge_names(alloc, tree, text)? {
@@ -39,7 +39,7 @@ pub fn resolve(alloc: Global, tree: &Tree, text: &[u8]) -> Result<Resolved, Name
 /// written, so that they can have its memory.
 pub fn resolve_tree(alloc: Global, tree: Tree, text: &[u8]) -> Result<(Resolved, Tree), NameFaults>
     requires { length (program (program_tree tree)) < 2 ^ 32 }
-    ensures found { IfErr result (Explains (program_of text.now tree)) }
+    ensures found { IfErr result (TellsMistakes (program_of text.now tree)) }
     ensures resolved { IfOk result (λ r. IsResolution (program_of text.now tree) r.0) }
     ensures same { IfOk result (λ r. r.1 ≡ tree) }
 {
@@ -86,7 +86,7 @@ pub fn mistakes_of(alloc: Global, tree: &Tree, text: &[u8]) -> Result<Vec<Mistak
 
 /// All that is wrong with the names and types in scope.
 fn mistakes_in(alloc: Global, scope: &Scope<'_>) -> Result<Vec<Mistake>, Memory>
-    ensures { IfOk result (λ mistakes. (p : Program) → IsScope p scope.now → mistakes.items ≡ program_mistakes p) }
+    ensures { IfOk result (λ mistakes. (p : ProgramText) → IsScope p scope.now → mistakes.items ≡ program_mistakes p) }
 {
     let mut found = Vec::new(alloc);
     judge_program(alloc, scope, &mut found)?;

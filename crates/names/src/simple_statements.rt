@@ -9,15 +9,15 @@ ghost use Rattle.names.specs.Bodies.{given_mistakes, declaration_turn, delete_mi
 ghost use Rattle.names.specs.Bodies.{demand_beside, ends_mistakes, new_ends_mistakes, channel_mistakes, return_mistakes};
 ghost use Rattle.names.specs.Expressions.{variable_mistakes, meant, held};
 ghost use Rattle.declarations.specs.Mistakes.{Adds};
-ghost use Rattle.names.specs.Frames.{IsContext, IsFrame, Turned, AreSurroundings};
+ghost use Rattle.names.specs.Frames.{IsContext, IsNameFrame, Turned, AreSurroundings};
 ghost use Rattle.names.specs.Operands.{in_frame};
 ghost use Rattle.declarations.specs.Types.{unless, is_heap};
 ghost use Rattle.program.specs.Types.{same_side};
-ghost use Rattle.declarations.specs.Program.{Program, contract_named};
+ghost use Rattle.declarations.specs.Program.{ProgramText, contract_named};
 ghost use Rattle.declarations.specs.Scopes.{IsScope};
 ghost use Rattle.names.specs.Shapes.{shape};
 ghost use Rattle.names.specs.Values.{target_type, target_mistakes, value_mistakes};
-ghost use Rattle.names.specs.Variables.{Frame};
+ghost use Rattle.names.specs.Variables.{NameFrame};
 
 use crate::expressions::judge_whole;
 use crate::mentions::judge_variable;
@@ -25,7 +25,7 @@ use crate::operands::{add_wrong_type, ask};
 use crate::surroundings::{NameContext, Surroundings};
 use crate::targets::judge_target;
 use crate::values::judge_value;
-use crate::variables::{Variable, Variables};
+use crate::variables::{ScopeVariable, ScopeVariables};
 use crate::wholes::judge_asked;
 use declarations::{
     Demand, Mismatch, Mistake, NameSort, Scope, ValueType, add_unknown, is_heap, judge_type,
@@ -37,12 +37,12 @@ use tree::{Assign, Declare, Expression, NewChannel, Type, Value};
 /// Adds what is wrong with the value of a declaration, if it has one.
 fn judge_given<'a>(
     around: &Surroundings<'_, 'a>,
-    variables: &Variables<'a>,
+    variables: &ScopeVariables<'a>,
     asked: ValueType,
     value: &Option<Value>,
     found: &mut Vec<Mistake>,
 ) -> Result<(), Memory>
-    ensures { (m : bodies.Surroundings) (f : Frame) → AreSurroundings m around.now → IsFrame m.program.text f variables.now → OnOk
+    ensures { (m : bodies.Surroundings) (f : NameFrame) → AreSurroundings m around.now → IsNameFrame m.program.text f variables.now → OnOk
         result (Adds found.old.items found.new.items (given_mistakes (bodies.inside_of m f) asked (option_map value_tree value.now))) }
 {
     match value {
@@ -54,18 +54,18 @@ fn judge_given<'a>(
 /// Adds what is wrong with a declaration, and declares its variable.
 pub(crate) fn judge_declare<'a>(
     around: &Surroundings<'_, 'a>,
-    variables: &mut Variables<'a>,
+    variables: &mut ScopeVariables<'a>,
     declare: &Declare,
     found: &mut Vec<Mistake>,
 ) -> Result<(), Memory>
-    ensures { (m : bodies.Surroundings) (f : Frame) → AreSurroundings m around.now → IsFrame m.program.text f variables.old → OnOk
+    ensures { (m : bodies.Surroundings) (f : NameFrame) → AreSurroundings m around.now → IsNameFrame m.program.text f variables.old → OnOk
         result (Turned m.program.text found.old.items found.new.items variables.new (declaration_turn m (declare_tree declare.now) f)) }
 {
     let (alloc, scope) = (around.alloc, around.scope);
     let ty = scope.type_meant(declare.ty);
     judge_type(scope, declare.ty, found)?;
     judge_given(around, variables, ty, &declare.value, found)?;
-    let variable = Variable {
+    let variable = ScopeVariable {
         name: declare.name,
         ty,
     };
@@ -76,12 +76,12 @@ pub(crate) fn judge_declare<'a>(
 /// Adds what is wrong with an assignment.
 pub(crate) fn judge_assign<'a>(
     around: &Surroundings<'_, 'a>,
-    variables: &Variables<'a>,
+    variables: &ScopeVariables<'a>,
     assign: &Assign,
     found: &mut Vec<Mistake>,
 ) -> Result<(), Memory>
-    ensures { (m : bodies.Surroundings) (f : Frame) → AreSurroundings m around.now
-        → IsFrame m.program.text f variables.now → OnOk result
+    ensures { (m : bodies.Surroundings) (f : NameFrame) → AreSurroundings m around.now
+        → IsNameFrame m.program.text f variables.now → OnOk result
         (Adds found.old.items found.new.items (target_mistakes (bodies.scope_in m f) (assign_tree assign.now).target ++ value_mistakes
         (bodies.inside_of m f) (target_type (bodies.scope_in m f) (assign_tree assign.now).target) (assign_tree assign.now).value)) }
 {
@@ -90,8 +90,8 @@ pub(crate) fn judge_assign<'a>(
 }
 
 /// The type of what this name means.
-pub(crate) fn held_type(scope: &Scope<'_>, variables: &Variables<'_>, name: Span) -> ValueType
-    ensures { (p : Program) (f : Frame) → IsScope p scope.now → IsFrame p.text f variables.now
+pub(crate) fn held_type(scope: &Scope<'_>, variables: &ScopeVariables<'_>, name: Span) -> ValueType
+    ensures { (p : ProgramText) (f : NameFrame) → IsScope p scope.now → IsNameFrame p.text f variables.now
         → result ≡ held (meant (record { program = p; variables = f.variables }) name) }
 {
     match variables.find(scope.text, name) {
@@ -103,11 +103,11 @@ pub(crate) fn held_type(scope: &Scope<'_>, variables: &Variables<'_>, name: Span
 /// Adds that no variable has this name.
 pub(crate) fn judge_use(
     scope: &Scope<'_>,
-    variables: &Variables<'_>,
+    variables: &ScopeVariables<'_>,
     name: Span,
     found: &mut Vec<Mistake>,
 ) -> Result<(), Memory>
-    ensures { (p : Program) (f : Frame) → IsScope p scope.now → IsFrame p.text f variables.now → OnOk result
+    ensures { (p : ProgramText) (f : NameFrame) → IsScope p scope.now → IsNameFrame p.text f variables.now → OnOk result
         (Adds found.old.items found.new.items (variable_mistakes (record { program = p; variables = f.variables }) name)) }
 {
     judge_variable(scope, variables, name, found)?;
@@ -117,11 +117,11 @@ pub(crate) fn judge_use(
 /// Adds what is wrong with deleting what this name means.
 pub(crate) fn judge_delete(
     scope: &Scope<'_>,
-    variables: &Variables<'_>,
+    variables: &ScopeVariables<'_>,
     name: Span,
     found: &mut Vec<Mistake>,
 ) -> Result<(), Memory>
-    ensures { (p : Program) (f : Frame) → IsScope p scope.now → IsFrame p.text f variables.now
+    ensures { (p : ProgramText) (f : NameFrame) → IsScope p scope.now → IsNameFrame p.text f variables.now
         → OnOk result (Adds found.old.items found.new.items (delete_mistakes (record { program = p; variables = f.variables }) name)) }
 {
     judge_use(scope, variables, name, found)?;
@@ -194,11 +194,11 @@ fn judge_ends(
 /// Adds what is wrong with the contract and the types of the ends of a new channel.
 fn judge_new_ends(
     scope: &Scope<'_>,
-    variables: &Variables<'_>,
+    variables: &ScopeVariables<'_>,
     channel: NewChannel,
     found: &mut Vec<Mistake>,
 ) -> Result<(), Memory>
-    ensures { (p : Program) (f : Frame) → IsScope p scope.now → IsFrame p.text f variables.now
+    ensures { (p : ProgramText) (f : NameFrame) → IsScope p scope.now → IsNameFrame p.text f variables.now
         → OnOk result (Adds found.old.items found.new.items (new_ends_mistakes (record { program = p; variables = f.variables })
         (contract_named p channel.contract) channel.contract channel.first channel.second)) }
 {
@@ -213,12 +213,12 @@ fn judge_new_ends(
 /// Adds what is wrong with a new channel.
 pub(crate) fn judge_channel(
     scope: &Scope<'_>,
-    variables: &Variables<'_>,
+    variables: &ScopeVariables<'_>,
     channel: NewChannel,
     found: &mut Vec<Mistake>,
 ) -> Result<(), Memory>
-    ensures { (p : Program) (f : Frame) → IsScope p scope.now
-        → IsFrame p.text f variables.now → OnOk result (Adds found.old.items found.new.items
+    ensures { (p : ProgramText) (f : NameFrame) → IsScope p scope.now
+        → IsNameFrame p.text f variables.now → OnOk result (Adds found.old.items found.new.items
         (channel_mistakes (record { program = p; variables = f.variables }) channel.contract channel.first channel.second)) }
 {
     judge_new_ends(scope, variables, channel, found)?;
@@ -233,7 +233,7 @@ fn judge_needless(
     value: &Option<Box<Expression>>,
     found: &mut Vec<Mistake>,
 ) -> Result<(), Memory>
-    ensures { (p : Program) (f : Frame) → IsContext p f context.now → OnOk result (Adds found.old.items found.new.items
+    ensures { (p : ProgramText) (f : NameFrame) → IsContext p f context.now → OnOk result (Adds found.old.items found.new.items
         (return_mistakes (in_frame p f) None word (option_map (λ e. expression_tree e.value) value.now))) }
 {
     match value {
@@ -253,7 +253,7 @@ fn judge_returned(
     value: &Option<Box<Expression>>,
     found: &mut Vec<Mistake>,
 ) -> Result<(), Memory>
-    ensures { (p : Program) (f : Frame) → IsContext p f context.now → OnOk result (Adds found.old.items found.new.items
+    ensures { (p : ProgramText) (f : NameFrame) → IsContext p f context.now → OnOk result (Adds found.old.items found.new.items
         (return_mistakes (in_frame p f) (Some asked) word (option_map (λ e. expression_tree e.value) value.now))) }
 {
     let NameContext {
@@ -276,7 +276,7 @@ pub(crate) fn judge_return(
     value: &Option<Box<Expression>>,
     found: &mut Vec<Mistake>,
 ) -> Result<(), Memory>
-    ensures { (p : Program) (f : Frame) → IsContext p f context.now → OnOk result (Adds found.old.items found.new.items
+    ensures { (p : ProgramText) (f : NameFrame) → IsContext p f context.now → OnOk result (Adds found.old.items found.new.items
         (return_mistakes (in_frame p f) asked word (option_map (λ e. expression_tree e.value) value.now))) }
 {
     match asked {

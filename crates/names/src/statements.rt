@@ -7,11 +7,11 @@ ghost use Rattle.names.specs.Bodies as bodies;
 ghost use Rattle.names.specs.Bodies.{in_loop, in_switch, statement_turn, statements_turn, block_turn};
 ghost use Rattle.names.specs.Bodies.{test_turn, others_turn, case_turn, cases_turn, head_of};
 ghost use Rattle.names.specs.Cases.{Head};
-ghost use Rattle.names.specs.Frames.{IsFrame, Turned, AreSurroundings};
+ghost use Rattle.names.specs.Frames.{IsNameFrame, Turned, AreSurroundings};
 ghost use Rattle.names.specs.Heads.{IsHeads, switch_heads};
-ghost use Rattle.names.specs.Variables.{Frame, follow};
+ghost use Rattle.names.specs.Variables.{NameFrame, follow};
 
-use crate::calls::{Role, judge_call};
+use crate::calls::{Purpose, judge_call};
 use crate::cases::{judge_binds, judge_head};
 use crate::exchanges::judge_exchange;
 use crate::heads::Heads;
@@ -20,7 +20,7 @@ use crate::simple_statements::{
 };
 use crate::surroundings::Surroundings;
 use crate::told::{judge_break, judge_continue};
-use crate::variables::Variables;
+use crate::variables::ScopeVariables;
 use crate::wholes::judge_truth;
 use declarations::Mistake;
 use source::Memory;
@@ -51,11 +51,11 @@ fn within_switch<'s, 'a>(around: &Surroundings<'s, 'a>) -> Surroundings<'s, 'a>
 #[cycle(bodies)]
 pub(crate) fn judge_block<'a>(
     around: &Surroundings<'_, 'a>,
-    variables: &mut Variables<'a>,
+    variables: &mut ScopeVariables<'a>,
     block: &Block,
     found: &mut Vec<Mistake>,
 ) -> Result<(), Memory>
-    ensures { (m : bodies.Surroundings) (f : Frame) → AreSurroundings m around.now → IsFrame m.program.text f variables.old
+    ensures { (m : bodies.Surroundings) (f : NameFrame) → AreSurroundings m around.now → IsNameFrame m.program.text f variables.old
         → OnOk result (Turned m.program.text found.old.items found.new.items variables.new (block_turn m (block_tree block.now) f)) }
 {
     let outer = variables.len();
@@ -68,11 +68,11 @@ pub(crate) fn judge_block<'a>(
 #[cycle(bodies)]
 fn judge_statements<'a>(
     around: &Surroundings<'_, 'a>,
-    variables: &mut Variables<'a>,
+    variables: &mut ScopeVariables<'a>,
     statements: &[Statement],
     found: &mut Vec<Mistake>,
 ) -> Result<(), Memory>
-    ensures { (m : bodies.Surroundings) (f : Frame) → AreSurroundings m around.now → IsFrame m.program.text f variables.old
+    ensures { (m : bodies.Surroundings) (f : NameFrame) → AreSurroundings m around.now → IsNameFrame m.program.text f variables.old
         → OnOk result (Turned m.program.text found.old.items found.new.items variables.new
         (statements_turn m (statement_sequence (map statement_tree statements.now)) f)) }
 {
@@ -86,12 +86,12 @@ fn judge_statements<'a>(
 #[cycle(bodies)]
 fn judge_statement<'a>(
     around: &Surroundings<'_, 'a>,
-    variables: &mut Variables<'a>,
+    variables: &mut ScopeVariables<'a>,
     statement: &Statement,
     found: &mut Vec<Mistake>,
 ) -> Result<(), Memory>
-    ensures { (m : bodies.Surroundings) (f : Frame) → AreSurroundings m around.now
-        → IsFrame m.program.text f variables.old → OnOk result
+    ensures { (m : bodies.Surroundings) (f : NameFrame) → AreSurroundings m around.now
+        → IsNameFrame m.program.text f variables.old → OnOk result
         (Turned m.program.text found.old.items found.new.items variables.new (statement_turn m (statement_tree statement.now) f)) }
 {
     let scope = around.scope;
@@ -99,9 +99,9 @@ fn judge_statement<'a>(
         Statement::Block(block) => judge_block(around, variables, block, found),
         Statement::Declare(declare) => judge_declare(around, variables, declare, found),
         Statement::Assign(assign) => judge_assign(around, variables, assign, found),
-        Statement::Call(call) => judge_call(around, variables, Role::Alone, call, found),
+        Statement::Call(call) => judge_call(around, variables, Purpose::Alone, call, found),
         Statement::Start { call, .. } => {
-            judge_call(around, variables, Role::Started, call, found)
+            judge_call(around, variables, Purpose::Started, call, found)
         }
         Statement::Delete(name) => judge_delete(scope, variables, *name, found),
         Statement::Exchange(exchange) => judge_exchange(scope, variables, **exchange, found),
@@ -128,11 +128,11 @@ fn judge_statement<'a>(
 #[cycle(bodies)]
 fn judge_test<'a>(
     around: &Surroundings<'_, 'a>,
-    variables: &mut Variables<'a>,
+    variables: &mut ScopeVariables<'a>,
     test: &Test,
     found: &mut Vec<Mistake>,
 ) -> Result<(), Memory>
-    ensures { (m : bodies.Surroundings) (f : Frame) → AreSurroundings m around.now → IsFrame m.program.text f variables.old
+    ensures { (m : bodies.Surroundings) (f : NameFrame) → AreSurroundings m around.now → IsNameFrame m.program.text f variables.old
         → OnOk result (Turned m.program.text found.old.items found.new.items variables.new (test_turn m (test_tree test.now) f)) }
 {
     judge_truth(around.scope, variables, &test.test, found)?;
@@ -143,11 +143,11 @@ fn judge_test<'a>(
 #[cycle(bodies)]
 fn judge_if<'a>(
     around: &Surroundings<'_, 'a>,
-    variables: &mut Variables<'a>,
+    variables: &mut ScopeVariables<'a>,
     branches: &If,
     found: &mut Vec<Mistake>,
 ) -> Result<(), Memory>
-    ensures { (m : bodies.Surroundings) (f : Frame) → AreSurroundings m around.now → IsFrame m.program.text f variables.old
+    ensures { (m : bodies.Surroundings) (f : NameFrame) → AreSurroundings m around.now → IsNameFrame m.program.text f variables.old
         → OnOk result (Turned m.program.text found.old.items found.new.items variables.new
         (follow (test_turn m (if_tree branches.now).first f) (others_turn m (if_tree branches.now).others))) }
 {
@@ -165,11 +165,11 @@ fn judge_if<'a>(
 #[cycle(bodies)]
 fn judge_switch<'a>(
     around: &Surroundings<'_, 'a>,
-    variables: &mut Variables<'a>,
+    variables: &mut ScopeVariables<'a>,
     switch: &Switch,
     found: &mut Vec<Mistake>,
 ) -> Result<(), Memory>
-    ensures { (m : bodies.Surroundings) (f : Frame) → AreSurroundings m around.now → IsFrame m.program.text f variables.old
+    ensures { (m : bodies.Surroundings) (f : NameFrame) → AreSurroundings m around.now → IsNameFrame m.program.text f variables.old
         → OnOk result (Turned m.program.text found.old.items found.new.items variables.new
         (follow (case_turn m (switch_heads (switch_tree switch.now)) [] (switch_tree switch.now).first f) (cases_turn m (switch_heads
         (switch_tree switch.now)) (head_of (switch_tree switch.now).first ∷ []) (case_sequence (switch_tree switch.now).others)))) }
@@ -186,14 +186,14 @@ fn judge_switch<'a>(
 #[cycle(bodies)]
 fn judge_case<'a>(
     around: &Surroundings<'_, 'a>,
-    variables: &mut Variables<'a>,
+    variables: &mut ScopeVariables<'a>,
     heads: &Heads<'a>,
     index: usize,
     case: &Case,
     found: &mut Vec<Mistake>,
 ) -> Result<(), Memory>
-    ensures { (m : bodies.Surroundings) (f : Frame) (all : List Head) → AreSurroundings m around.now
-        → IsFrame m.program.text f variables.old → IsHeads m.program.text all heads.now
+    ensures { (m : bodies.Surroundings) (f : NameFrame) (all : List Head) → AreSurroundings m around.now
+        → IsNameFrame m.program.text f variables.old → IsHeads m.program.text all heads.now
         → slice_get all index ≡ Some (head_of (case_tree case.now))
         → OnOk result (Turned m.program.text found.old.items found.new.items variables.new
         (case_turn m all (take index all) (case_tree case.now) f)) }

@@ -1,6 +1,6 @@
 //! What stands round a statement, and what is in scope there.
 
-use crate::variables::Variables;
+use crate::variables::ScopeVariables;
 use declarations::{ClassMethods, Scope};
 use std::alloc::Global;
 use tree::Type;
@@ -18,14 +18,14 @@ pub(crate) struct Surroundings<'s, 'a> {
 
 impl<'s, 'a> Surroundings<'s, 'a> {
     ghost use Rattle.names.specs.Bodies as bodies;
-    ghost use Rattle.names.specs.Frames.{AreSurroundings, IsContext, IsFrame};
-    ghost use Rattle.names.specs.Variables.{Frame};
+    ghost use Rattle.names.specs.Frames.{AreSurroundings, IsContext, IsNameFrame};
+    ghost use Rattle.names.specs.Variables.{NameFrame};
 
     /// What a name can mean here, where these variables are in scope.
-    pub(crate) fn context<'t>(&self, variables: &'t Variables<'a>) -> NameContext<'t, 'a>
+    pub(crate) fn context<'t>(&self, variables: &'t ScopeVariables<'a>) -> NameContext<'t, 'a>
     where
         's: 't,
-        ensures { (m : bodies.Surroundings) (f : Frame) → AreSurroundings m self.now → IsFrame m.program.text f variables.now
+        ensures { (m : bodies.Surroundings) (f : NameFrame) → AreSurroundings m self.now → IsNameFrame m.program.text f variables.now
             → IsContext m.program f result }
     {
         NameContext {
@@ -41,5 +41,5 @@ impl<'s, 'a> Surroundings<'s, 'a> {
 pub(crate) struct NameContext<'s, 'a> {
     pub(crate) alloc: Global,
     pub(crate) scope: &'s Scope<'a>,
-    pub(crate) variables: &'s Variables<'a>,
+    pub(crate) variables: &'s ScopeVariables<'a>,
 }

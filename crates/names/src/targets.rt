@@ -5,14 +5,14 @@ ghost use Rattle.tree.specs.ExpressionTrees.{target_tree};
 ghost use Rattle.names.specs.Expressions.{InScope, meant, held, variable_mistakes, field_type, field_mistakes, owns};
 ghost use Rattle.declarations.specs.Mistakes.{Adds};
 ghost use Rattle.declarations.specs.Types.{unless};
-ghost use Rattle.names.specs.Mentions.{Gives};
+ghost use Rattle.names.specs.Mentions.{GivesOperand};
 ghost use Rattle.declarations.specs.Scopes.{IsScope};
 ghost use Rattle.names.specs.Values.{target_type, target_mistakes, length_mistakes};
 
 use crate::expressions::judge_operand;
 use crate::mentions::{is_length, judge_element_of, judge_field, judge_variable, owns};
 use crate::operands::ask;
-use crate::variables::Variables;
+use crate::variables::ScopeVariables;
 use declarations::{Mismatch, Mistake, Scope, ValueType};
 use source::{Memory, Span};
 use tree::Target;
@@ -20,11 +20,11 @@ use tree::Target;
 /// The type that is asked of a value for this target; adds what is wrong with the target.
 pub(crate) fn judge_target(
     scope: &Scope<'_>,
-    variables: &Variables<'_>,
+    variables: &ScopeVariables<'_>,
     target: &Target,
     found: &mut Vec<Mistake>,
 ) -> Result<ValueType, Memory>
-    ensures { IfOk result (Gives scope.now variables.now (λ s. target_type s (target_tree target.now))
+    ensures { IfOk result (GivesOperand scope.now variables.now (λ s. target_type s (target_tree target.now))
         (λ s. target_mistakes s (target_tree target.now)) found.old.items found.new.items) }
 {
     match target {
@@ -43,12 +43,12 @@ pub(crate) fn judge_target(
 /// A field as a target: the length of an array is read, and not written, and what a field owns is exchanged.
 fn judge_field_target(
     scope: &Scope<'_>,
-    variables: &Variables<'_>,
+    variables: &ScopeVariables<'_>,
     variable: Span,
     field: Span,
     found: &mut Vec<Mistake>,
 ) -> Result<ValueType, Memory>
-    ensures { IfOk result (Gives scope.now variables.now (λ s. field_type s (held (meant s variable)) field)
+    ensures { IfOk result (GivesOperand scope.now variables.now (λ s. field_type s (held (meant s variable)) field)
         (λ s. variable_mistakes s variable ++ (field_mistakes s (held (meant s variable)) variable field
         ++ (length_mistakes s (held (meant s variable)) field ++ unless (not (owns s (held (meant s variable)) field)) field.place
         Mismatch.FieldOwns)))

@@ -3,7 +3,7 @@
 ghost use Rattle.std.specs.Prelude.{IfOk, List};
 ghost use Rattle.declarations.specs.declared.mistake.Mistake.{Mistake as MistakeModel};
 ghost use Rattle.names.specs.Expressions.{InScope};
-ghost use Rattle.names.specs.Operands.{IsJudged};
+ghost use Rattle.names.specs.Operands.{IsOperand};
 ghost use Rattle.names.specs.Shapes.{Shape};
 ghost use Rattle.names.specs.Terms.{IsJudgedTerms, TermShapes, first_term, whole};
 
@@ -21,7 +21,7 @@ pub(crate) struct Terms {
 impl Terms {
     /// The first factor of a sum.
     pub(crate) fn from_first(first: Operand) -> Terms
-        ensures { (s : InScope) (e : Shape) (old new : List MistakeModel) → IsJudged s e old new first
+        ensures { (s : InScope) (e : Shape) (old new : List MistakeModel) → IsOperand s e old new first
             → IsJudgedTerms s (first_term e) old new result }
     {
         Terms {
@@ -35,7 +35,7 @@ impl Terms {
 #[inline(always)]
 pub(crate) fn joined_terms(terms: Terms, found: &mut Vec<Mistake>) -> Result<Operand, Memory>
     ensures { IfOk result (λ o. (s : InScope) (t : TermShapes) (start : List MistakeModel) → IsJudgedTerms s t start found.old.items terms
-        → IsJudged s (whole t) start found.new.items o) }
+        → IsOperand s (whole t) start found.new.items o) }
 {
     match terms.before {
         None => Ok(terms.last),

@@ -5,21 +5,21 @@ ghost use Rattle.tree.specs.ExpressionTrees.{expression_tree};
 ghost use Rattle.tree.specs.Values.{value_tree, new_tree, made_tree};
 ghost use Rattle.names.specs.Bodies as bodies;
 ghost use Rattle.declarations.specs.Mistakes.{Adds};
-ghost use Rattle.names.specs.Frames.{AreSurroundings, IsContext, IsFrame};
+ghost use Rattle.names.specs.Frames.{AreSurroundings, IsContext, IsNameFrame};
 ghost use Rattle.names.specs.Operands.{in_frame};
 ghost use Rattle.declarations.specs.Types.{pointer_type};
-ghost use Rattle.declarations.specs.Program.{Program, struct_named};
+ghost use Rattle.declarations.specs.Program.{ProgramText, struct_named};
 ghost use Rattle.declarations.specs.Scopes.{IsScope};
 ghost use Rattle.names.specs.Shapes.{shape};
 ghost use Rattle.names.specs.Values.{made_type, made_mistakes, struct_made_mistakes, new_mistakes, value_mistakes};
-ghost use Rattle.names.specs.Variables.{Frame};
+ghost use Rattle.names.specs.Variables.{NameFrame};
 
 use crate::arguments::judge_typed_arguments;
-use crate::calls::{Role, judge_call, judge_unknown};
+use crate::calls::{Purpose, judge_call, judge_unknown};
 use crate::operands::ask;
 use crate::surroundings::{NameContext, Surroundings};
 use crate::told::judge_count;
-use crate::variables::Variables;
+use crate::variables::ScopeVariables;
 use crate::wholes::{judge_asked, judge_number};
 use declarations::{Demand, Mismatch, Mistake, NameSort, Scope, ValueType};
 use source::{Memory, Span};
@@ -33,8 +33,8 @@ fn judge_structure(
     arguments: &[Expression],
     found: &mut Vec<Mistake>,
 ) -> Result<ValueType, Memory>
-    ensures ty { IfOk result (λ ty. (p : Program) → IsScope p context.now.scope.now → ty ≡ pointer_type (struct_named p name)) }
-    ensures found { (p : Program) (f : Frame) → IsContext p f context.now
+    ensures ty { IfOk result (λ ty. (p : ProgramText) → IsScope p context.now.scope.now → ty ≡ pointer_type (struct_named p name)) }
+    ensures found { (p : ProgramText) (f : NameFrame) → IsContext p f context.now
         → OnOk result (Adds found.old.items found.new.items (struct_made_mistakes (in_frame p f)
         (struct_named p name) name (map shape (map expression_tree arguments.now)))) }
 {
@@ -62,9 +62,9 @@ fn judge_made(
     made: &Made,
     found: &mut Vec<Mistake>,
 ) -> Result<ValueType, Memory>
-    ensures ty { IfOk result (λ ty. (p : Program) (f : Frame) → IsScope p context.now.scope.now
+    ensures ty { IfOk result (λ ty. (p : ProgramText) (f : NameFrame) → IsScope p context.now.scope.now
         → ty ≡ made_type (in_frame p f) (made_tree made.now)) }
-    ensures found { (p : Program) (f : Frame) → IsContext p f context.now
+    ensures found { (p : ProgramText) (f : NameFrame) → IsContext p f context.now
         → OnOk result (Adds found.old.items found.new.items (made_mistakes (in_frame p f) (made_tree made.now))) }
 {
     match made {
@@ -90,7 +90,7 @@ fn judge_new(
     new: &New,
     found: &mut Vec<Mistake>,
 ) -> Result<(), Memory>
-    ensures { (p : Program) (f : Frame) → IsContext p f context.now
+    ensures { (p : ProgramText) (f : NameFrame) → IsContext p f context.now
         → OnOk result (Adds found.old.items found.new.items (new_mistakes (in_frame p f) asked (new_tree new.now))) }
 {
     let ty = judge_made(context, &new.made, found)?;
@@ -101,17 +101,17 @@ fn judge_new(
 /// Adds what is wrong with a value of which this type is asked.
 pub(crate) fn judge_value<'a>(
     around: &Surroundings<'_, 'a>,
-    variables: &Variables<'a>,
+    variables: &ScopeVariables<'a>,
     asked: ValueType,
     value: &Value,
     found: &mut Vec<Mistake>,
 ) -> Result<(), Memory>
-    ensures { (m : bodies.Surroundings) (f : Frame) → AreSurroundings m around.now → IsFrame m.program.text f variables.now
+    ensures { (m : bodies.Surroundings) (f : NameFrame) → AreSurroundings m around.now → IsNameFrame m.program.text f variables.now
         → OnOk result (Adds found.old.items found.new.items (value_mistakes (bodies.inside_of m f) asked (value_tree value.now))) }
 {
     match value {
         Value::Expression(e) => { judge_asked(around.scope, variables, asked, e, found) }
-        Value::Call(call) => judge_call(around, variables, Role::Asked(asked), call, found),
+        Value::Call(call) => judge_call(around, variables, Purpose::Asked(asked), call, found),
         Value::New(new) => judge_new(&around.context(variables), asked, new, found),
     }
 }

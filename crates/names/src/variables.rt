@@ -2,8 +2,8 @@
 
 ghost use Rattle.std.specs.Prelude.{◌≡◌, ◌+◌, ◌-◌, ℕ, List, [], length, take, OnOk, option_map};
 ghost use Rattle.declarations.specs.Mistakes.{Adds};
-ghost use Rattle.names.specs.Frames.{IsFrame, Turned, variable_model};
-ghost use Rattle.names.specs.Variables.{Frame, variable_named, past_heap, entered_variable, declared_variable};
+ghost use Rattle.names.specs.Frames.{IsNameFrame, Turned, variable_model};
+ghost use Rattle.names.specs.Variables.{NameFrame, variable_named, past_heap, entered_variable, declared_variable};
 
 use declarations::{Limit, Mistake, ValueType, add_twice};
 use program::MOST_VARIABLES;
@@ -13,7 +13,7 @@ use tables::Table;
 
 /// A variable: the name that declares it, and what it holds.
 #[derive(Clone, Copy, PartialEq, Eq)]
-pub(crate) struct Variable {
+pub(crate) struct ScopeVariable {
     pub(crate) name: Span,
     pub(crate) ty: ValueType,
 }
@@ -21,18 +21,18 @@ pub(crate) struct Variable {
 /// The variables in scope, in order of declaration, and how many of the exchange heap the method has declared so far,
 /// counted as far as one past the limit. No two in scope have one name.
 #[derive(Drop)]
-pub(crate) struct Variables<'a> {
+pub(crate) struct ScopeVariables<'a> {
     names: Table<'a>,
-    list: Vec<Variable>,
+    list: Vec<ScopeVariable>,
     heap: usize,
 }
 
-impl<'a> Variables<'a> {
+impl<'a> ScopeVariables<'a> {
     /// None.
-    pub(crate) fn new(alloc: Global) -> Variables<'a>
-        ensures { (text : List ℕ) → IsFrame text (record { variables = []; heap = 0 }) result }
+    pub(crate) fn new(alloc: Global) -> ScopeVariables<'a>
+        ensures { (text : List ℕ) → IsNameFrame text (record { variables = []; heap = 0 }) result }
     {
-        Variables {
+        ScopeVariables {
             names: Table::new(alloc),
             list: Vec::new(alloc),
             heap: 0,
@@ -41,14 +41,14 @@ impl<'a> Variables<'a> {
 
     /// How many are in scope.
     pub(crate) fn len(&self) -> usize
-        ensures { (text : List ℕ) (f : Frame) → IsFrame text f self.now → result ≡ length f.variables }
+        ensures { (text : List ℕ) (f : NameFrame) → IsNameFrame text f self.now → result ≡ length f.variables }
     {
         self.list.len()
     }
 
     /// The variable of this name.
-    pub(crate) fn find(&self, text: &[u8], name: Span) -> Option<Variable>
-        ensures { (f : Frame) → IsFrame text.now f self.now
+    pub(crate) fn find(&self, text: &[u8], name: Span) -> Option<ScopeVariable>
+        ensures { (f : NameFrame) → IsNameFrame text.now f self.now
             → option_map variable_model result ≡ variable_named text.now f.variables name }
     {
         let place = self.names.find(name.slice(text))?;
@@ -60,11 +60,11 @@ impl<'a> Variables<'a> {
         &mut self,
         alloc: Global,
         text: &'a [u8],
-        variable: Variable,
+        variable: ScopeVariable,
         heap: bool,
         found: &mut Vec<Mistake>,
     ) -> Result<(), Memory>
-        ensures { (f : Frame) → IsFrame text.now f self.old → OnOk result (Turned text.now found.old.items
+        ensures { (f : NameFrame) → IsNameFrame text.now f self.old → OnOk result (Turned text.now found.old.items
             found.new.items self.new (declared_variable text.now variable.name variable.ty heap f)) }
     {
         if !heap {
@@ -77,7 +77,7 @@ impl<'a> Variables<'a> {
 
     /// Adds the name of one more of the exchange heap if it is one past the limit.
     fn judge_heap(&self, name: Span, found: &mut Vec<Mistake>) -> Result<(), Memory>
-        ensures { (text : List ℕ) (f : Frame) → IsFrame text f self.now
+        ensures { (text : List ℕ) (f : NameFrame) → IsNameFrame text f self.now
             → OnOk result (Adds found.old.items found.new.items (past_heap name f.heap)) }
     {
         if self.heap != MOST_VARIABLES {
@@ -89,8 +89,8 @@ impl<'a> Variables<'a> {
 
     /// Counts one more of the exchange heap.
     fn count(&mut self)
-        ensures { (text : List ℕ) (f : Frame) → IsFrame text f self.old
-            → IsFrame text (record { variables = f.variables; heap = f.heap + 1 }) self.new }
+        ensures { (text : List ℕ) (f : NameFrame) → IsNameFrame text f self.old
+            → IsNameFrame text (record { variables = f.variables; heap = f.heap + 1 }) self.new }
     {
         if self.heap <= MOST_VARIABLES {
             self.heap += 1;
@@ -102,10 +102,10 @@ impl<'a> Variables<'a> {
         &mut self,
         alloc: Global,
         text: &'a [u8],
-        variable: Variable,
+        variable: ScopeVariable,
         found: &mut Vec<Mistake>,
     ) -> Result<(), Memory>
-        ensures { (f : Frame) → IsFrame text.now f self.old → OnOk result (Turned text.now found.old.items
+        ensures { (f : NameFrame) → IsNameFrame text.now f self.old → OnOk result (Turned text.now found.old.items
             found.new.items self.new (entered_variable text.now variable.name variable.ty f)) }
     {
         match self.find(text, variable.name) {
@@ -120,8 +120,8 @@ impl<'a> Variables<'a> {
 
     /// Leaves a scope: the first so many stay.
     pub(crate) fn leave(&mut self, text: &[u8], outer: usize)
-        ensures { (f : Frame) → IsFrame text.now f self.old
-            → IsFrame text.now (record { variables = take outer f.variables; heap = f.heap }) self.new }
+        ensures { (f : NameFrame) → IsNameFrame text.now f self.old
+            → IsNameFrame text.now (record { variables = take outer f.variables; heap = f.heap }) self.new }
     {
         while self.list.len() > outer {
             self.drop_last(text);
@@ -130,8 +130,8 @@ impl<'a> Variables<'a> {
 
     /// Takes the last variable out of scope.
     fn drop_last(&mut self, text: &[u8])
-        ensures frame { (f : Frame) → IsFrame text.now f self.old
-            → IsFrame text.now (record { variables = take (length f.variables - 1) f.variables; heap = f.heap }) self.new }
+        ensures frame { (f : NameFrame) → IsNameFrame text.now f self.old
+            → IsNameFrame text.now (record { variables = take (length f.variables - 1) f.variables; heap = f.heap }) self.new }
         ensures shorter { length self.new.list.items ≡ length self.old.list.items - 1 }
     {
         match self.list.pop() {

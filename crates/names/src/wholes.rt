@@ -4,18 +4,18 @@ ghost use Rattle.std.specs.Prelude.{IfOk, OnOk};
 ghost use Rattle.tree.specs.ExpressionTrees.{expression_tree};
 ghost use Rattle.names.specs.Expressions.{truth_mistakes, number_mistakes};
 ghost use Rattle.declarations.specs.Mistakes.{Adds};
-ghost use Rattle.names.specs.Frames.{IsFrame};
+ghost use Rattle.names.specs.Frames.{IsNameFrame};
 ghost use Rattle.names.specs.Operands.{JudgesWhole, in_frame};
-ghost use Rattle.declarations.specs.Program.{Program};
+ghost use Rattle.declarations.specs.Program.{ProgramText};
 ghost use Rattle.declarations.specs.Scopes.{IsScope};
 ghost use Rattle.names.specs.Shapes.{shape};
 ghost use Rattle.names.specs.Values.{asked_mistakes};
-ghost use Rattle.names.specs.Variables.{Frame};
+ghost use Rattle.names.specs.Variables.{NameFrame};
 
 use crate::expressions::judge_operand;
 use crate::mentions::judge_variable;
 use crate::operands::{Operand, ask, ask_number, ask_truth};
-use crate::variables::Variables;
+use crate::variables::ScopeVariables;
 use declarations::{Demand, Mismatch, Mistake, Scope, ValueType};
 use source::Memory;
 use tree::{Expression, name_alone};
@@ -23,7 +23,7 @@ use tree::{Expression, name_alone};
 /// The type of an expression that is the whole of something, and where it begins; adds what is wrong in it.
 pub(crate) fn judge_whole_operand(
     scope: &Scope<'_>,
-    variables: &Variables<'_>,
+    variables: &ScopeVariables<'_>,
     expression: &Expression,
     found: &mut Vec<Mistake>,
 ) -> Result<Operand, Memory>
@@ -44,12 +44,12 @@ pub(crate) fn judge_whole_operand(
 /// An expression of which this type is asked.
 pub(crate) fn judge_asked(
     scope: &Scope<'_>,
-    variables: &Variables<'_>,
+    variables: &ScopeVariables<'_>,
     asked: ValueType,
     expression: &Expression,
     found: &mut Vec<Mistake>,
 ) -> Result<(), Memory>
-    ensures { (p : Program) (f : Frame) → IsScope p scope.now → IsFrame p.text f variables.now → OnOk result
+    ensures { (p : ProgramText) (f : NameFrame) → IsScope p scope.now → IsNameFrame p.text f variables.now → OnOk result
         (Adds found.old.items found.new.items (asked_mistakes (in_frame p f) asked (shape (expression_tree expression.now)))) }
 {
     let operand = judge_whole_operand(scope, variables, expression, found)?;
@@ -60,11 +60,11 @@ pub(crate) fn judge_asked(
 /// An expression of which a truth value is asked.
 pub(crate) fn judge_truth(
     scope: &Scope<'_>,
-    variables: &Variables<'_>,
+    variables: &ScopeVariables<'_>,
     expression: &Expression,
     found: &mut Vec<Mistake>,
 ) -> Result<(), Memory>
-    ensures { (p : Program) (f : Frame) → IsScope p scope.now → IsFrame p.text f variables.now
+    ensures { (p : ProgramText) (f : NameFrame) → IsScope p scope.now → IsNameFrame p.text f variables.now
         → OnOk result (Adds found.old.items found.new.items (truth_mistakes (in_frame p f) (shape (expression_tree expression.now)))) }
 {
     let operand = judge_operand(scope, variables, expression, found)?;
@@ -74,11 +74,11 @@ pub(crate) fn judge_truth(
 /// An expression of which a number is asked.
 pub(crate) fn judge_number(
     scope: &Scope<'_>,
-    variables: &Variables<'_>,
+    variables: &ScopeVariables<'_>,
     expression: &Expression,
     found: &mut Vec<Mistake>,
 ) -> Result<(), Memory>
-    ensures { (p : Program) (f : Frame) → IsScope p scope.now → IsFrame p.text f variables.now
+    ensures { (p : ProgramText) (f : NameFrame) → IsScope p scope.now → IsNameFrame p.text f variables.now
         → OnOk result (Adds found.old.items found.new.items (number_mistakes (in_frame p f) (shape (expression_tree expression.now)))) }
 {
     let operand = judge_operand(scope, variables, expression, found)?;

@@ -8,7 +8,7 @@ use Rattle.std.proofs.lemmas.List.Sums.{sum_by_push}
 use Rattle.crossbeam_deque.specs.Handles.{worker_view}
 use Rattle.tasks.specs.declared.task.Task.{Task}
 use Rattle.pool.specs.Rule.{copies}
-use Rattle.pool.specs.Counts.{Owner, Ticket, all_taken, method_of, taken_by, times, times_done}
+use Rattle.pool.specs.Counts.{DequeOwner, Ticket, all_taken, method_of, taken_by, times, times_done}
 use Rattle.pool.specs.Owners.{EachChanges, Thief, Took}
 use Rattle.pool.specs.Rounds.{AreRound, all_by}
 use Rattle.pool.specs.Stints.{AreGathered, IsWork}
@@ -18,18 +18,18 @@ use Rattle.pool.specs.declared.gathering.Gathered.{Gathered}
 use Rattle.pool.proofs.Puts.{times-append}
 
 -- one owner more
-each_push : (change : Owner → Owner → Type 0) (os ps : List Owner) (o p : Owner) → EachChanges change os ps → change o p → EachChanges change (os ++ o ∷ []) (ps ++ p ∷ [])
+each_push : (change : DequeOwner → DequeOwner → Type 0) (os ps : List DequeOwner) (o p : DequeOwner) → EachChanges change os ps → change o p → EachChanges change (os ++ o ∷ []) (ps ++ p ∷ [])
 each_push change os ps o p h k = record {
   lengths = omega (arith, length-append os (o ∷ []), length-append ps (p ∷ []), h.lengths);
   each = λ d x below. ⊎_elim
       (λ (last : d ≡ length os).
       let a : get_or (os ++ o ∷ []) d x ≡ o = get_or_push os o x d (sym last) in
       let b : get_or (ps ++ p ∷ []) d x ≡ p = get_or_push ps p x d (h.lengths ∙ sym last) in
-      subst (λ (y : Owner). change y (get_or (ps ++ p ∷ []) d x)) (sym a) (subst (change o) (sym b) k))
+      subst (λ (y : DequeOwner). change y (get_or (ps ++ p ∷ []) d x)) (sym a) (subst (change o) (sym b) k))
       (λ (less : d < length os).
       let a : get_or (os ++ o ∷ []) d x ≡ get_or os d x = get_or_append_left os (o ∷ []) x d less in
       let b : get_or (ps ++ p ∷ []) d x ≡ get_or ps d x = get_or_append_left ps (p ∷ []) x d (omega (arith, h.lengths, less)) in
-      subst (λ (y : Owner). change y (get_or (ps ++ p ∷ []) d x)) (sym a) (subst (change (get_or os d x)) (sym b) (h.each d x less)))
+      subst (λ (y : DequeOwner). change y (get_or (ps ++ p ∷ []) d x)) (sym a) (subst (change (get_or os d x)) (sym b) (h.each d x less)))
       (eq-or-lt_of_le (omega (arith, below, length-append os (o ∷ []))));
 }
 
@@ -51,7 +51,7 @@ module _ {S X : Type 0} (takes : Task → Type 0) (seats : S → Type 0) (gives 
   }
 
   -- what one worker more has done
-  pub gathered_more : (begun : List Owner) (owner : Owner) (old new : Gathered S X) (s : Owner × Vec Ticket × Bench S X)
+  pub gathered_more : (begun : List DequeOwner) (owner : DequeOwner) (old new : Gathered S X) (s : DequeOwner × Vec Ticket × Bench S X)
       → new.owners.items ≡ old.owners.items ++ s.0 ∷ [] → new.rounds.items ≡ old.rounds.items ++ s.1 ∷ [] → new.seats.items ≡ old.seats.items ++ s.2.seat ∷ []
       → new.done.items ≡ old.done.items ++ s.2.done.items → AreGathered takes seats gives thieves begun old → IsWork takes seats gives thieves owner s
       → AreGathered takes seats gives thieves (begun ++ owner ∷ []) new
@@ -69,7 +69,7 @@ module _ {S X : Type 0} (takes : Task → Type 0) (seats : S → Type 0) (gives 
             let c = ap (all_by n) r in
             let e = all.counted n in
             let f = work.counted n in
-            omega (arith, sum_by_push (λ (x : Owner). copies n (worker_view x).taken) old.owners.items s.0, sum_by_push (λ (ps : Vec Ticket). taken_by n ps.items) old.rounds.items s.1);
+            omega (arith, sum_by_push (λ (x : DequeOwner). copies n (worker_view x).taken) old.owners.items s.0, sum_by_push (λ (ps : Vec Ticket). taken_by n ps.items) old.rounds.items s.1);
         given = subst (All G) (sym d) (All-append G old.done.items s.2.done.items all.given work.given);
         seats_count = (let e = ap length q in omega (arith, length-append begun (owner ∷ []), length-append old.seats.items (s.2.seat ∷ []), all.seats_count));
         each_seat = subst (All seats) (sym q) (All-push seats old.seats.items s.2.seat all.each_seat work.seat);

@@ -6,7 +6,7 @@ use Rattle.std.proofs.Math.Nat.{eq-or-lt_of_le}
 use Rattle.std.proofs.lemmas.List.{get_or_append_left, get_or_push}
 use native.Mathlib.Decide.{ℕ_discrete}
 use Rattle.crossbeam_deque.specs.Handles.{IsPassOf}
-use Rattle.pool.specs.Counts.{Owner, Ticket}
+use Rattle.pool.specs.Counts.{DequeOwner, Ticket}
 use Rattle.pool.specs.Owners.{EachChanges, GotParts, Keeps, LostParts, OneChanges}
 use Rattle.pool.specs.Rounds.{AreCutOff, AreNew, AreOf}
 
@@ -23,53 +23,53 @@ no_items [] e = refl
 no_items (x ∷ xs) e = absurd (omega (arith, e))
 
 -- the sum after a change of one owner
-pub sum_one : (f : Owner → ℕ) (d : ℕ) (change : Owner → Owner → Type 0) (os os' : List Owner) → d < length os → (one : OneChanges d change os os')
+pub sum_one : (f : DequeOwner → ℕ) (d : ℕ) (change : DequeOwner → DequeOwner → Type 0) (os os' : List DequeOwner) → d < length os → (one : OneChanges d change os os')
     → sum_by f os' + f one.old ≡ sum_by f os + f one.new
 sum_one f d change os os' in_place one =
     let e : f (get_or os d one.old) ≡ f one.old = ap f (one.was one.old) in
     let k : sum_by f os' ≡ sum_by f (set os d one.new) = ap (sum_by f) one.now in
     omega (arith, sum_by-set f os d one.new one.old in_place)
 
-pub length_one : (d : ℕ) (change : Owner → Owner → Type 0) (os os' : List Owner) → OneChanges d change os os' → length os' ≡ length os
+pub length_one : (d : ℕ) (change : DequeOwner → DequeOwner → Type 0) (os os' : List DequeOwner) → OneChanges d change os os' → length os' ≡ length os
 length_one d change os os' one = ap length one.now ∙ length-set os d one.new
 
-module _ (d : ℕ) (change : Owner → Owner → Type 0) (start os os' : List Owner) (in_place : d < length os) (one : OneChanges d change os os') where
+module _ (d : ℕ) (change : DequeOwner → DequeOwner → Type 0) (start os os' : List DequeOwner) (in_place : d < length os) (one : OneChanges d change os os') where
   -- the owners below d + 1 have changed so, if those below d had, and this one has
-  pub done_more : (Rel : ℕ → Owner → Owner → Type 0) → ((o : Owner) → get_or os d o ≡ get_or start d o) → Rel d one.old one.new
-      → ((i : ℕ) (o : Owner) → i < d → Rel i (get_or start i o) (get_or os i o))
-      → (i : ℕ) (o : Owner) → i < d + 1 → Rel i (get_or start i o) (get_or os' i o)
+  pub done_more : (Rel : ℕ → DequeOwner → DequeOwner → Type 0) → ((o : DequeOwner) → get_or os d o ≡ get_or start d o) → Rel d one.old one.new
+      → ((i : ℕ) (o : DequeOwner) → i < d → Rel i (get_or start i o) (get_or os i o))
+      → (i : ℕ) (o : DequeOwner) → i < d + 1 → Rel i (get_or start i o) (get_or os' i o)
   done_more Rel same this before i o below = at (ℕ_discrete i d)
     where
       at : Dec (i ≡ d) → Rel i (get_or start i o) (get_or os' i o)
       at (yes e) =
-          let now : get_or os' d o ≡ one.new = ap (λ (l : List Owner). get_or l d o) one.now ∙ get_or-set_same os d one.new o in_place in
+          let now : get_or os' d o ≡ one.new = ap (λ (l : List DequeOwner). get_or l d o) one.now ∙ get_or-set_same os d one.new o in_place in
           let was : get_or start d o ≡ one.old = sym (same o) ∙ one.was o in
           subst (λ (k : ℕ). Rel k (get_or start k o) (get_or os' k o)) (sym e)
-          (subst (λ (x : Owner). Rel d x (get_or os' d o)) (sym was) (subst (λ (x : Owner). Rel d one.old x) (sym now) this))
+          (subst (λ (x : DequeOwner). Rel d x (get_or os' d o)) (sym was) (subst (λ (x : DequeOwner). Rel d one.old x) (sym now) this))
       at (no n) =
-          let now : get_or os' i o ≡ get_or os i o = ap (λ (l : List Owner). get_or l i o) one.now ∙ get_or-set_other os d i one.new o n in
-          subst (λ (x : Owner). Rel i (get_or start i o) x) (sym now) (before i o (omega arith))
+          let now : get_or os' i o ≡ get_or os i o = ap (λ (l : List DequeOwner). get_or l i o) one.now ∙ get_or-set_other os d i one.new o n in
+          subst (λ (x : DequeOwner). Rel i (get_or start i o) x) (sym now) (before i o (omega arith))
 
   -- the owners behind it are as they were
-  pub left_more : ((i : ℕ) (o : Owner) → d ≤ i → get_or os i o ≡ get_or start i o) → (i : ℕ) (o : Owner) → d + 1 ≤ i → get_or os' i o ≡ get_or start i o
+  pub left_more : ((i : ℕ) (o : DequeOwner) → d ≤ i → get_or os i o ≡ get_or start i o) → (i : ℕ) (o : DequeOwner) → d + 1 ≤ i → get_or os' i o ≡ get_or start i o
   left_more same i o above =
-      ap (λ (l : List Owner). get_or l i o) one.now ∙ get_or-set_other os d i one.new o (λ e. omega arith) ∙ same i o (omega arith)
+      ap (λ (l : List DequeOwner). get_or l i o) one.now ∙ get_or-set_other os d i one.new o (λ e. omega arith) ∙ same i o (omega arith)
 
 -- each changed twice
-pub each_twice : (one two both : Owner → Owner → Type 0) → ((a b c : Owner) → one a b → two b c → both a c)
-    → (os ps qs : List Owner) → EachChanges one os ps → EachChanges two ps qs → EachChanges both os qs
+pub each_twice : (one two both : DequeOwner → DequeOwner → Type 0) → ((a b c : DequeOwner) → one a b → two b c → both a c)
+    → (os ps qs : List DequeOwner) → EachChanges one os ps → EachChanges two ps qs → EachChanges both os qs
 each_twice one two both put os ps qs h k = record {
   lengths = k.lengths ∙ h.lengths;
   each = λ d o below. put _ _ _ (h.each d o below) (k.each d o (omega (arith, h.lengths)));
 }
 
 -- what holds of each owner before, and of each change, holds of each owner after
-pub all_after : (change : Owner → Owner → Type 0) (P Q : Owner → Type 0) → ((a b : Owner) → change a b → P a → Q b)
-    → (os ps : List Owner) → EachChanges change os ps → All P os → All Q ps
+pub all_after : (change : DequeOwner → DequeOwner → Type 0) (P Q : DequeOwner → Type 0) → ((a b : DequeOwner) → change a b → P a → Q b)
+    → (os ps : List DequeOwner) → EachChanges change os ps → All P os → All Q ps
 all_after change P Q step os ps h all d o below = step _ _ (h.each d o (omega (arith, h.lengths))) (all d o (omega (arith, h.lengths)))
 
 -- a sum over owners of what no change touches
-pub sum_kept : (f : Owner → ℕ) (os ps : List Owner) → length ps ≡ length os → ((d : ℕ) (o : Owner) → d < length os → f (get_or os d o) ≡ f (get_or ps d o))
+pub sum_kept : (f : DequeOwner → ℕ) (os ps : List DequeOwner) → length ps ≡ length os → ((d : ℕ) (o : DequeOwner) → d < length os → f (get_or os d o) ≡ f (get_or ps d o))
     → sum_by f os ≡ sum_by f ps
 sum_kept f [] [] same each = refl
 sum_kept f [] (p ∷ ps) same each = absurd (omega arith)
@@ -80,7 +80,7 @@ sum_kept f (o ∷ os) (p ∷ ps) same each =
     omega (arith, sum_by-cons f o os, sum_by-cons f p ps)
 
 -- kept twice
-pub keeps_twice : (a b c : Owner) → Keeps a b → Keeps b c → Keeps a c
+pub keeps_twice : (a b c : DequeOwner) → Keeps a b → Keeps b c → Keeps a c
 keeps_twice a b c h k = record {
   deque = k.deque ∙ h.deque;
   flavor = k.flavor ∙ h.flavor;
@@ -88,28 +88,28 @@ keeps_twice a b c h k = record {
 }
 
 -- no pass was taken in yet
-pub got_none : (os : List Owner) → EachChanges (GotParts 0) os os
+pub got_none : (os : List DequeOwner) → EachChanges (GotParts 0) os os
 got_none os = record {
   lengths = refl;
   each = λ d o below. record { keeps = record { deque = refl; flavor = refl; put = refl }; parts = omega arith };
 }
 
 -- one pass more was taken in
-pub got_more : (k : ℕ) (a b c : Owner) → GotParts k a b → GotParts 1 b c → GotParts (k + 1) a c
+pub got_more : (k : ℕ) (a b c : DequeOwner) → GotParts k a b → GotParts 1 b c → GotParts (k + 1) a c
 got_more k a b c h j = record {
   keeps = keeps_twice a b c h.keeps j.keeps;
   parts = let e = h.parts in let f = j.parts in omega arith;
 }
 
 -- no pass was cut off yet
-pub lost_none : (os : List Owner) → EachChanges (LostParts 0) os os
+pub lost_none : (os : List DequeOwner) → EachChanges (LostParts 0) os os
 lost_none os = record {
   lengths = refl;
   each = λ d o below. record { keeps = record { deque = refl; flavor = refl; put = refl }; parts = omega arith; taken = refl };
 }
 
 -- passes of the same deques
-pub of_kept : (k : ℕ) (os os' : List Owner) (ps : List Ticket) → EachChanges (GotParts k) os os' → AreOf os ps → AreOf os' ps
+pub of_kept : (k : ℕ) (os os' : List DequeOwner) (ps : List Ticket) → EachChanges (GotParts k) os os' → AreOf os ps → AreOf os' ps
 of_kept k os os' ps h are = record {
   lengths = are.lengths ∙ sym h.lengths;
   passes = λ d o p below. subst (λ x. IsPassOf x (get_or ps d p)) (sym (h.each d o (omega (arith, h.lengths))).keeps.deque) (are.passes d o p (omega (arith, h.lengths)));
@@ -122,7 +122,7 @@ some_of [] d below = absurd (omega (arith, below))
 some_of (x ∷ xs) d below = x
 
 -- one pass more of each deque was cut off
-pub cut_more : (k : ℕ) (os ps qs : List Owner) (passes : List Ticket) → EachChanges (LostParts k) os ps → AreCutOff ps qs passes → EachChanges (LostParts (k + 1)) os qs
+pub cut_more : (k : ℕ) (os ps qs : List DequeOwner) (passes : List Ticket) → EachChanges (LostParts k) os ps → AreCutOff ps qs passes → EachChanges (LostParts (k + 1)) os qs
 cut_more k os ps qs passes h cut = record {
   lengths = cut.lengths ∙ h.lengths;
   each = λ d o below.
@@ -136,7 +136,7 @@ cut_more k os ps qs passes h cut = record {
 }
 
 -- what was cut off is new
-pub new_more : (k : ℕ) (os ps qs : List Owner) (passes : List Ticket) → EachChanges (LostParts k) os ps → AreCutOff ps qs passes → AreNew os passes
+pub new_more : (k : ℕ) (os ps qs : List DequeOwner) (passes : List Ticket) → EachChanges (LostParts k) os ps → AreCutOff ps qs passes → AreNew os passes
 new_more k os ps qs passes h cut = record {
   lengths = cut.count ∙ h.lengths;
   each = λ d o p below.

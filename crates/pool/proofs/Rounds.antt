@@ -12,7 +12,7 @@ use Rattle.tasks.specs.declared.task.Task.{Task}
 use Rattle.pool.specs.declared.held.HeldTask.{HeldTask}
 use Rattle.pool.specs.declared.held.Hand.{Hand}
 use Rattle.pool.specs.Rule.{hand, copies, IsPart}
-use Rattle.pool.specs.Counts.{Owner, Ticket, taken_by}
+use Rattle.pool.specs.Counts.{DequeOwner, Ticket, taken_by}
 use Rattle.pool.specs.Owners.{AreThieves, Thief}
 use Rattle.pool.specs.Rounds.{AreNew, AreRound, IsFresh}
 use Rattle.pool.proofs.Shares.{taken_one}
@@ -62,8 +62,8 @@ none_taken n (p ∷ ps) none =
     omega (arith, sum_by-cons (λ (q : Ticket). copies n (view q).taken) p ps)
 
 -- new passes of all deques are a round for whoever steals from them, and have taken nothing
-pub fresh_round : (takes : Task → Type 0) (owners : List Owner) (thieves : List Thief) (ps : List Ticket) (o : Owner) → AreThieves owners thieves
-    → All (λ (x : Owner). All (λ (y : HeldTask). takes y.task) (worker_view x).put) owners → AreNew owners ps → IsFresh takes thieves ps
+pub fresh_round : (takes : Task → Type 0) (owners : List DequeOwner) (thieves : List Thief) (ps : List Ticket) (o : DequeOwner) → AreThieves owners thieves
+    → All (λ (x : DequeOwner). All (λ (y : HeldTask). takes y.task) (worker_view x).put) owners → AreNew owners ps → IsFresh takes thieves ps
 fresh_round takes owners thieves ps o are tasks new = record {
   round = record {
     lengths = new.lengths ∙ sym are.lengths;

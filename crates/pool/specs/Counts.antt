@@ -11,8 +11,8 @@ use Rattle.pool.specs.declared.held.Hand.{Hand}
 use Rattle.pool.specs.declared.held.HeldTask.{HeldTask}
 
 -- the owner's side of a deque
-abbrev pub Owner : Type 0
-Owner = Worker HeldTask Global Hand Sharing
+abbrev pub DequeOwner : Type 0
+DequeOwner = Worker HeldTask Global Hand Sharing
 
 -- what a worker needs to steal from a deque
 abbrev pub Ticket : Type 0
@@ -31,12 +31,12 @@ abbrev pub times_done : {X : Type 0} → ℕ → List (Done X) → ℕ
 times_done n done = times n (map method_of done)
 
 -- how often a task of the number was put into these deques
-abbrev pub all_put : ℕ → List Owner → ℕ
-all_put n owners = sum_by (λ (o : Owner). copies n (worker_view o).put) owners
+abbrev pub all_put : ℕ → List DequeOwner → ℕ
+all_put n owners = sum_by (λ (o : DequeOwner). copies n (worker_view o).put) owners
 
 -- how often the owners' own passes have taken a task of the number
-abbrev pub all_taken : ℕ → List Owner → ℕ
-all_taken n owners = sum_by (λ (o : Owner). copies n (worker_view o).taken) owners
+abbrev pub all_taken : ℕ → List DequeOwner → ℕ
+all_taken n owners = sum_by (λ (o : DequeOwner). copies n (worker_view o).taken) owners
 
 -- how often these passes have taken a task of the number
 abbrev pub taken_by : ℕ → List Ticket → ℕ

@@ -3,7 +3,7 @@ use Rattle.std.specs.Prelude.{◌≡◌, ℕ, ◌<◌, List, [], All, length, sl
 use Rattle.std.specs.Global.{Vec}
 use Rattle.crossbeam_deque.specs.Handles.{IsPassOf, stealer_deque, stealer_flavor, view, worker_deque, worker_view}
 use Rattle.tasks.specs.declared.task.Task.{Task}
-use Rattle.pool.specs.Counts.{Owner, Ticket, taken_by}
+use Rattle.pool.specs.Counts.{DequeOwner, Ticket, taken_by}
 use Rattle.pool.specs.Owners.{CutOff, Thief}
 use Rattle.pool.specs.declared.held.HeldTask.{HeldTask}
 
@@ -22,28 +22,28 @@ pub record IsFresh (takes : Task → Type 0) (thieves : List Thief) (ps : List T
   pub none : (n : ℕ) → taken_by n ps ≡ 0
 
 -- a pass of each deque was cut off
-pub record AreCutOff (owners owners' : List Owner) (ps : List Ticket) : Type 0 where
+pub record AreCutOff (owners owners' : List DequeOwner) (ps : List Ticket) : Type 0 where
   pub lengths : length owners' ≡ length owners
   pub count : length ps ≡ length owners
-  pub each : (d : ℕ) (o : Owner) (p : Ticket) → d < length owners
+  pub each : (d : ℕ) (o : DequeOwner) (p : Ticket) → d < length owners
       → CutOff (slice_index_or owners d o) (slice_index_or owners' d o) (slice_index_or ps d p)
 
 -- a pass of this deque that has one part and has taken nothing
-pub record IsNew (o : Owner) (p : Ticket) : Type 0 where
+pub record IsNewPass (o : DequeOwner) (p : Ticket) : Type 0 where
   pub pass : IsPassOf (worker_deque o) p
   pub part : (view p).parts ≡ 1
   pub none : (view p).taken ≡ []
   pub put : (view p).put ≡ (worker_view o).put
 
 -- a new pass of each deque
-pub record AreNew (owners : List Owner) (ps : List Ticket) : Type 0 where
+pub record AreNew (owners : List DequeOwner) (ps : List Ticket) : Type 0 where
   pub lengths : length ps ≡ length owners
-  pub each : (d : ℕ) (o : Owner) (p : Ticket) → d < length owners → IsNew (slice_index_or owners d o) (slice_index_or ps d p)
+  pub each : (d : ℕ) (o : DequeOwner) (p : Ticket) → d < length owners → IsNewPass (slice_index_or owners d o) (slice_index_or ps d p)
 
 -- a pass of each deque, with one part
-pub record AreOf (owners : List Owner) (ps : List Ticket) : Type 0 where
+pub record AreOf (owners : List DequeOwner) (ps : List Ticket) : Type 0 where
   pub lengths : length ps ≡ length owners
-  pub passes : (d : ℕ) (o : Owner) (p : Ticket) → d < length owners
+  pub passes : (d : ℕ) (o : DequeOwner) (p : Ticket) → d < length owners
       → IsPassOf (worker_deque (slice_index_or owners d o)) (slice_index_or ps d p)
   pub parts : All (λ (p : Ticket). (view p).parts ≡ 1) ps
 

@@ -2,16 +2,16 @@
 
 ghost use Rattle.std.specs.Prelude.{◌≡◌, ℕ, ◌+◌, ◌<◌, All, OnOk, length, slice_index_or, vec_len};
 ghost use Rattle.crossbeam_deque.specs.Handles.{IsPassOf, view, worker_deque, worker_flavor};
-ghost use Rattle.pool.specs.Counts.{Owner as OwnerModel, all_put, all_taken, taken_by};
+ghost use Rattle.pool.specs.Counts.{DequeOwner as OwnerModel, all_put, all_taken, taken_by};
 ghost use Rattle.pool.specs.Owners.{EachChanges, GotParts, OneChanges, TookIn, owner_parts};
 ghost use Rattle.pool.specs.Rounds.{AreOf, all_by};
 ghost use Rattle.pool.specs.Rule.{copies};
 
-use crate::deque::{Cut, Owner, Sweeps, Ticket};
+use crate::deque::{Cut, DequeOwner, Sweeps, Ticket};
 use source::Memory;
 
 /// Takes a pass into the owner at an index.
-fn absorb_at(owners: &mut Vec<Owner>, index: usize, pass: Ticket)
+fn absorb_at(owners: &mut Vec<DequeOwner>, index: usize, pass: Ticket)
     requires index { index < length owners.old.items }
     requires part { (o : OwnerModel) → 0 < owner_parts (slice_index_or owners.old.items index o) }
     requires pass { (o : OwnerModel) → IsPassOf (worker_deque (slice_index_or owners.old.items index o)) pass }
@@ -23,23 +23,23 @@ fn absorb_at(owners: &mut Vec<Owner>, index: usize, pass: Ticket)
 }
 
 /// Takes in a pass of each deque.
-fn absorb_round(owners: &mut Vec<Owner>, passes: Vec<Ticket>)
+fn absorb_round(owners: &mut Vec<DequeOwner>, passes: Vec<Ticket>)
     requires parts { All (λ o. 0 < owner_parts o) owners.old.items }
     requires passes { AreOf owners.old.items passes.items }
     ensures owners { EachChanges (GotParts 1) owners.old.items owners.new.items }
     ensures taken { (n : ℕ) → all_taken n owners.new.items ≡ all_taken n owners.old.items + taken_by n passes.items }
 {
     let mut rest = passes.into_iter();
-    let mut place = 0;
+    let mut index = 0;
     while let Some(pass) = rest.next() {
-        absorb_at(owners, place, pass);
-        place += 1;
+        absorb_at(owners, index, pass);
+        index += 1;
     }
     rest.destroy_empty();
 }
 
 /// Takes in the passes of all workers.
-pub(crate) fn absorb_all(owners: &mut Vec<Owner>, rounds: Vec<Vec<Ticket>>)
+pub(crate) fn absorb_all(owners: &mut Vec<DequeOwner>, rounds: Vec<Vec<Ticket>>)
     requires parts { All (λ o. 0 < owner_parts o) owners.old.items }
     requires rounds { All (λ passes. AreOf owners.old.items passes.items) rounds.items }
     ensures owners { EachChanges (GotParts (vec_len rounds)) owners.old.items owners.new.items }
@@ -55,7 +55,7 @@ pub(crate) fn absorb_all(owners: &mut Vec<Owner>, rounds: Vec<Vec<Ticket>>)
 /// Whether all that was put was taken, which the deques of whose passes none is out tell by being empty.
 ///
 /// `Memory` is answered where one is not. It never is, since each worker took tasks until it found each deque empty.
-pub(crate) fn sweep(owners: Vec<Owner>) -> Result<(), Memory>
+pub(crate) fn sweep(owners: Vec<DequeOwner>) -> Result<(), Memory>
     requires fifo { All (λ o. worker_flavor o ≡ 0) owners.items }
     requires parts { All (λ o. owner_parts o ≡ 1024) owners.items }
     ensures { OnOk result ((n : ℕ) → all_put n owners.items ≡ all_taken n owners.items) }

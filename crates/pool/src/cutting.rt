@@ -1,16 +1,16 @@
 //! Passes cut off for the workers, one of each deque for each of them.
 
 ghost use Rattle.std.specs.Prelude.{◌≡◌, ◌<◌, ◌+◌, All, IfOk, OnOk, length, slice_index_or, vec_len};
-ghost use Rattle.pool.specs.Counts.{Owner as OwnerModel};
-ghost use Rattle.pool.specs.Owners.{CutOff, EachChanges, IsWhole, LostParts, OneChanges, owner_parts};
+ghost use Rattle.pool.specs.Counts.{DequeOwner as OwnerModel};
+ghost use Rattle.pool.specs.Owners.{CutOff, EachChanges, IsWholeOwner, LostParts, OneChanges, owner_parts};
 ghost use Rattle.pool.specs.Rounds.{AreCutOff, AreNew};
 
-use crate::deque::{Cut, Owner, Ticket};
+use crate::deque::{Cut, DequeOwner, Ticket};
 use source::Memory;
 use std::alloc::Global;
 
 /// A pass of the deque at an index.
-fn cut_at(owners: &mut Vec<Owner>, index: usize) -> Ticket
+fn cut_at(owners: &mut Vec<DequeOwner>, index: usize) -> Ticket
     requires index { index < length owners.old.items }
     requires part { (o : OwnerModel) → 1 < owner_parts (slice_index_or owners.old.items index o) }
     ensures { OneChanges index (λ old new. CutOff old new result) owners.old.items owners.new.items }
@@ -22,13 +22,13 @@ fn cut_at(owners: &mut Vec<Owner>, index: usize) -> Ticket
 /// A pass of each deque.
 ///
 /// `Memory` is answered where a growth was refused.
-fn cut_round(alloc: Global, owners: &mut Vec<Owner>) -> Result<Vec<Ticket>, Memory>
+fn cut_round(alloc: Global, owners: &mut Vec<DequeOwner>) -> Result<Vec<Ticket>, Memory>
     requires parts { All (λ o. 1 < owner_parts o) owners.old.items }
     ensures { IfOk result (λ passes. AreCutOff owners.old.items owners.new.items passes.items) }
 {
     let mut passes = Vec::new(alloc);
-    for place in 0..owners.len() {
-        passes.push(cut_at(owners, place))?;
+    for index in 0..owners.len() {
+        passes.push(cut_at(owners, index))?;
     }
     Ok(passes)
 }
@@ -38,10 +38,10 @@ fn cut_round(alloc: Global, owners: &mut Vec<Owner>) -> Result<Vec<Ticket>, Memo
 /// `Memory` is answered where a growth was refused.
 pub(crate) fn cut_all(
     alloc: Global,
-    owners: &mut Vec<Owner>,
+    owners: &mut Vec<DequeOwner>,
     count: usize,
 ) -> Result<Vec<Vec<Ticket>>, Memory>
-    requires whole { All IsWhole owners.old.items }
+    requires whole { All IsWholeOwner owners.old.items }
     requires few { count < 1000 }
     ensures owners { OnOk result (EachChanges (LostParts count) owners.old.items owners.new.items) }
     ensures count { IfOk result (λ v. vec_len v ≡ count) }

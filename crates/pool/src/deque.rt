@@ -27,9 +27,9 @@ impl Outcome<HeldTask, Hand> for Puts {
 }
 
 /// A task is taken: it is one of those that were put.
-pub struct Takes;
+pub struct TakesTask;
 
-impl Outcome<HeldTask, Hand> for Takes {
+impl Outcome<HeldTask, Hand> for TakesTask {
     ghost then = { λ v xs w. (w ≡ hand v.parts v.put (v.taken ++ xs)) × IsPart v.put xs };
 }
 
@@ -58,7 +58,7 @@ impl Join<Hand> for Cut {
 }
 
 /// The owner's side of a deque: it puts tasks, and takes them in their order.
-pub(crate) type Owner = Worker<HeldTask, Global, Hand, Sharing>;
+pub(crate) type DequeOwner = Worker<HeldTask, Global, Hand, Sharing>;
 
 /// What other threads steal by.
 pub(crate) type Thief = Stealer<HeldTask, Global, Hand, Sharing>;

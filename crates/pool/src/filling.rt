@@ -6,7 +6,7 @@ ghost use Rattle.tasks.specs.Tasks.{number_of};
 ghost use Rattle.pool.specs.Counts.{all_put, times};
 ghost use Rattle.pool.specs.Owners.{AreFilled, AreThieves};
 
-use crate::deque::{Owner, Puts, Thief};
+use crate::deque::{DequeOwner, Puts, Thief};
 use crate::held::HeldTask;
 use crate::job::Job;
 use source::Memory;
@@ -21,7 +21,7 @@ fn empty_deques<J: Job>(
     job: &J,
     count: usize,
     room: usize,
-) -> Result<Vec<Owner>, Memory>
+) -> Result<Vec<DequeOwner>, Memory>
     ensures count { IfOk result (λ v. vec_len v ≡ count) }
     ensures filled { IfOk result (λ v. AreFilled (J.takes job.now) v.items) }
     ensures empty { IfOk result (λ v. (n : ℕ) → all_put n v.items ≡ 0) }
@@ -29,7 +29,7 @@ fn empty_deques<J: Job>(
     let _ = job;
     let mut owners = Vec::new(alloc);
     for _ in 0..count {
-        owners.push(Owner::fifo_as(alloc, room)?)?;
+        owners.push(DequeOwner::fifo_as(alloc, room)?)?;
     }
     Ok(owners)
 }
@@ -37,7 +37,12 @@ fn empty_deques<J: Job>(
 /// Puts a task into the deque at an index.
 ///
 /// `Memory` is answered where a growth was refused, and the task is given up.
-fn put_at<J: Job>(job: &J, owners: &mut Vec<Owner>, index: usize, task: Task) -> Result<(), Memory>
+fn put_at<J: Job>(
+    job: &J,
+    owners: &mut Vec<DequeOwner>,
+    index: usize,
+    task: Task,
+) -> Result<(), Memory>
     requires index { index < length owners.old.items }
     requires task { J.takes job.now task }
     requires filled { AreFilled (J.takes job.now) owners.old.items }
@@ -56,7 +61,11 @@ fn put_at<J: Job>(job: &J, owners: &mut Vec<Owner>, index: usize, task: Task) ->
 /// Puts the tasks into the deques in turn: task k into the deque of worker k modulo the number of workers.
 ///
 /// `Memory` is answered where a growth was refused, and all tasks are given up.
-fn put_all<J: Job>(job: &J, mut owners: Vec<Owner>, tasks: Vec<Task>) -> Result<Vec<Owner>, Memory>
+fn put_all<J: Job>(
+    job: &J,
+    mut owners: Vec<DequeOwner>,
+    tasks: Vec<Task>,
+) -> Result<Vec<DequeOwner>, Memory>
     requires some { 0 < vec_len owners }
     requires filled { AreFilled (J.takes job.now) owners.items }
     requires empty { (n : ℕ) → all_put n owners.items ≡ 0 }
@@ -67,13 +76,13 @@ fn put_all<J: Job>(job: &J, mut owners: Vec<Owner>, tasks: Vec<Task>) -> Result<
 {
     let count = owners.len();
     let mut rest = tasks.into_iter();
-    let mut place = 0;
+    let mut index = 0;
     while let Some(task) = rest.next() {
-        if let Err(memory) = put_at(job, &mut owners, place, task) {
+        if let Err(memory) = put_at(job, &mut owners, index, task) {
             give_up_all(rest);
             return Err(memory);
         }
-        place = (place + 1) % count;
+        index = (index + 1) % count;
     }
     rest.destroy_empty();
     Ok(owners)
@@ -87,7 +96,7 @@ pub(crate) fn fill_deques<J: Job>(
     job: &J,
     count: usize,
     tasks: Vec<Task>,
-) -> Result<Vec<Owner>, Memory>
+) -> Result<Vec<DequeOwner>, Memory>
     requires some { 0 < count }
     requires tasks { All (J.takes job.now) tasks.items }
     ensures count { IfOk result (λ v. vec_len v ≡ count) }
@@ -107,7 +116,7 @@ pub(crate) fn fill_deques<J: Job>(
 /// A stealer of each deque, in order.
 ///
 /// `Memory` is answered where a growth was refused.
-pub(crate) fn stealers(alloc: Global, owners: &[Owner]) -> Result<Vec<Thief>, Memory>
+pub(crate) fn stealers(alloc: Global, owners: &[DequeOwner]) -> Result<Vec<Thief>, Memory>
     requires fifo { All (λ o. worker_flavor o ≡ 0) owners.now }
     ensures { IfOk result (λ v. AreThieves owners.now v.items) }
 {

@@ -1,11 +1,11 @@
 //! What all workers have done, put together.
 
 ghost use Rattle.std.specs.Prelude.{◌++◌, [], ◌∷◌, List, IfOk};
-ghost use Rattle.pool.specs.Counts.{Owner as OwnerModel};
+ghost use Rattle.pool.specs.Counts.{DequeOwner as OwnerModel};
 ghost use Rattle.pool.specs.Stints.{AreGathered, AreWork, IsWork};
 
 use crate::bench::Bench;
-use crate::deque::{Owner, Ticket};
+use crate::deque::{DequeOwner, Ticket};
 use crate::done::Done;
 use crate::job::Job;
 use crate::stints::{Common, Shift};
@@ -15,7 +15,7 @@ use std::alloc::Global;
 /// What all workers so far have done.
 #[derive(Drop)]
 pub struct Gathered<S, X> {
-    pub(crate) owners: Vec<Owner>,
+    pub(crate) owners: Vec<DequeOwner>,
     pub(crate) rounds: Vec<Vec<Ticket>>,
     pub(crate) seats: Vec<S>,
     pub(crate) done: Vec<Done<X>>,

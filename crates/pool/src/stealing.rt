@@ -7,7 +7,7 @@ ghost use Rattle.pool.specs.Rounds.{AreRound};
 ghost use Rattle.pool.specs.Rule.{copies};
 
 use crate::bench::Bench;
-use crate::deque::{Takes, Ticket};
+use crate::deque::{TakesTask, Ticket};
 use crate::gate::Gate;
 use crate::held::HeldTask;
 use crate::job::Job;
@@ -33,7 +33,7 @@ fn steal_at<J: Job, G: Gate>(
         (λ x. (n : ℕ) → taken_by n passes.new.items ≡ taken_by n passes.old.items + copies n (x ∷ [])) }
 {
     let pass = &mut passes[index];
-    common.thieves[index].steal_as::<Takes>(pass)
+    common.thieves[index].steal_as::<TakesTask>(pass)
 }
 
 /// Steals tasks from the deque at an index, until it is found empty.

@@ -6,7 +6,7 @@ ghost use Rattle.pool.specs.Rounds.{IsFresh};
 ghost use Rattle.pool.specs.Stints.{IsStint, owner_of};
 
 use crate::bench::Bench;
-use crate::deque::{Owner, Thief, Ticket};
+use crate::deque::{DequeOwner, Thief, Ticket};
 use crate::job::Job;
 use source::Memory;
 use std::alloc::Global;
@@ -21,10 +21,10 @@ pub(crate) struct Common<'a, J, G> {
 
 /// What a worker begins with: its number, its own deque, a pass of each deque, and its seat. It is a tuple, since a struct with a
 /// pass in it is not known to go to another thread.
-pub(crate) type Stint<S> = (usize, Owner, Vec<Ticket>, S);
+pub(crate) type Stint<S> = (usize, DequeOwner, Vec<Ticket>, S);
 
 /// What a worker ends with, in the same way: its own deque, its passes, and what it has done.
-pub(crate) type Shift<S, X> = Result<(Owner, Vec<Ticket>, Bench<S, X>), Memory>;
+pub(crate) type Shift<S, X> = Result<(DequeOwner, Vec<Ticket>, Bench<S, X>), Memory>;
 
 /// What each worker begins with.
 ///
@@ -32,7 +32,7 @@ pub(crate) type Shift<S, X> = Result<(Owner, Vec<Ticket>, Bench<S, X>), Memory>;
 pub(crate) fn stints<J: Job, G>(
     alloc: Global,
     common: &Common<'_, J, G>,
-    owners: Vec<Owner>,
+    owners: Vec<DequeOwner>,
     rounds: Vec<Vec<Ticket>>,
     seats: Vec<J::Seat>,
 ) -> Result<Vec<Stint<J::Seat>>, Memory>

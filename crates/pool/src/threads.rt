@@ -4,7 +4,7 @@ ghost use Rattle.std.specs.Prelude.{◌≡◌, ℕ, ◌<◌, All, IfOk, length, 
 ghost use denote.Param.Send.{IsSync};
 ghost use Rattle.pool.specs.Stints.{IsStint, IsWork, owner_of};
 
-use crate::deque::Owner;
+use crate::deque::DequeOwner;
 use crate::gate::Gate;
 use crate::job::Job;
 use crate::stints::{Common, Shift, Stint};
@@ -19,7 +19,7 @@ use std::thread::{Promise, PromisedHandle, Scope, Threads};
 #[derive(Drop)]
 pub(crate) struct Kept<'a, J, G> {
     common: &'a Common<'a, J, G>,
-    begun: Snapshot<Owner>,
+    begun: Snapshot<DequeOwner>,
 }
 
 impl<'a, J: Job, G> Promise<Shift<J::Seat, J::Out>> for Kept<'a, J, G> {

@@ -8,7 +8,7 @@ ghost use Rattle.pool.specs.Rule.{copies};
 ghost use Rattle.pool.specs.Stints.{IsStint, IsWork, owner_of};
 
 use crate::bench::Bench;
-use crate::deque::{Owner, Takes};
+use crate::deque::{DequeOwner, TakesTask};
 use crate::done::Done;
 use crate::gate::Gate;
 use crate::held::HeldTask;
@@ -53,7 +53,7 @@ pub(crate) fn run_one<J: Job, G: Gate>(
 fn run_own<J: Job, G: Gate, R: Wait>(
     rt: &R,
     common: &Common<'_, J, G>,
-    owner: &mut Owner,
+    owner: &mut DequeOwner,
     bench: &mut Bench<J::Seat, J::Out>,
 ) -> Result<(), Memory>
     requires own { IsOwn (J.takes common.now.job.now) owner.old }
@@ -64,7 +64,7 @@ fn run_own<J: Job, G: Gate, R: Wait>(
         (λ n. copies n (worker_view owner.new).taken) bench.old bench.new) }
 {
     for _ in rt.forever() {
-        match owner.pop_as::<Takes>() {
+        match owner.pop_as::<TakesTask>() {
             Some(held) => run_one(common, held, bench)?,
             None => return Ok(()),
         }

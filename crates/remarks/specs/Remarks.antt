@@ -5,7 +5,7 @@ use Rattle.program.specs.declared.types.Side.{Side}
 use Rattle.program.specs.declared.types.Side.TheVariants.{Imp, Exp}
 use Rattle.source.specs.declared.place.Place.{Place}
 use Rattle.declarations.specs.Mistakes.{most_of}
-use Rattle.declarations.specs.Program.{Program}
+use Rattle.declarations.specs.Program.{ProgramText}
 use Rattle.declarations.specs.Resolution.{printed}
 use Rattle.declarations.specs.declared.mistake.Limit.{Limit}
 use Rattle.declarations.specs.declared.mistake.Limit.TheVariants as limit
@@ -39,7 +39,7 @@ side_words Imp = codes "the importer"
 side_words Exp = codes "the exporter"
 
 -- why a type is wrong
-abbrev pub mismatch_words : Program → Mismatch → List ℕ
+abbrev pub mismatch_words : ProgramText → Mismatch → List ℕ
 mismatch_words p (mismatch.Given asked given) = codes "asked for " ++ (demand_words p asked ++ (codes ", given " ++ type_words p given))
 mismatch_words p (mismatch.NoValue k) = codes "a value is asked after return: " ++ type_words p k
 mismatch_words p mismatch.ValueReturned = codes "no value is asked after return"
@@ -65,7 +65,7 @@ limit_back limit.Methods = codes " methods"
 limit_back limit.Variables = codes " variables of the exchange heap"
 
 -- the word that is compared with the names of a sort, and what stands before such a name
-abbrev pub word_sought : Program → Span → NameSort → List ℕ
+abbrev pub word_sought : ProgramText → Span → NameSort → List ℕ
 word_sought p name (sort.Sent n) = drop 4 (word_at p.text name)
 word_sought p name _ = word_at p.text name
 
@@ -74,18 +74,18 @@ front_words (sort.Sent n) = codes "Send"
 front_words _ = []
 
 -- the nearest of the names that could be meant, if one is near
-abbrev pub near_remark : Program → Span → NameSort → Option RemarkModel
+abbrev pub near_remark : ProgramText → Span → NameSort → Option RemarkModel
 near_remark p name s = option_and_then
     (λ near. at near.place (codes "the nearest name is " ++ (front_words s ++ cut_name (word_at p.text near))))
     (nearest_name p.text (word_sought p name s) (candidates p name.place s))
 
 -- what more is said of a name of a sort that nothing declares
-abbrev pub unknown_remark : Program → Span → NameSort → Option RemarkModel
+abbrev pub unknown_remark : ProgramText → Span → NameSort → Option RemarkModel
 unknown_remark p name sort.Length = at name.place (codes "an array has only its Length")
 unknown_remark p name s = near_remark p name s
 
 -- what more is said of a mistake
-abbrev pub remark_of : Program → Mistake → Option RemarkModel
+abbrev pub remark_of : ProgramText → Mistake → Option RemarkModel
 remark_of p (mistake.DeclaredTwice name first) = at first (codes "declared here first")
 remark_of p (mistake.Unknown name sort) = unknown_remark p name sort
 remark_of p (mistake.WrongType place why) = at place (mismatch_words p why)

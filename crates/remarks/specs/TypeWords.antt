@@ -5,7 +5,7 @@ use Rattle.std.specs.Str.Lossy.{utf8_lossy}
 use Rattle.program.specs.declared.types.Scalar.{Scalar}
 use Rattle.program.specs.declared.types.Scalar.TheVariants.{Int, Byte, Bool}
 use Rattle.program.specs.declared.types.Side.TheVariants.{Imp, Exp}
-use Rattle.declarations.specs.Program.{Program}
+use Rattle.declarations.specs.Program.{ProgramText}
 use Rattle.tree.specs.Trees.{defined_name}
 use Rattle.declarations.specs.declared.value_type.ValueType.{ValueType}
 use Rattle.declarations.specs.declared.value_type.ValueType.TheVariants as ty
@@ -19,7 +19,7 @@ abbrev pub cut_name : List ℕ → List ℕ
 cut_name word = if nat_lt MAX_NAME (length word) then utf8_lossy (take MAX_NAME word) ++ codes ".." else utf8_lossy word
 
 -- the name of the item before which so many stand
-abbrev pub item_name : Program → ℕ → List ℕ
+abbrev pub item_name : ProgramText → ℕ → List ℕ
 item_name p n = option_map_or (λ i. cut_name (word_at p.text (defined_name i.definition))) (slice_get p.items n) []
 
 abbrev pub scalar_words : Scalar → List ℕ
@@ -28,7 +28,7 @@ scalar_words Byte = codes "byte"
 scalar_words Bool = codes "bool"
 
 -- what is of this type
-abbrev pub type_words : Program → ValueType → List ℕ
+abbrev pub type_words : ProgramText → ValueType → List ℕ
 type_words p (ty.Scalar s) = scalar_words s
 type_words p (ty.Pointer n) = codes "a block of " ++ item_name p n
 type_words p (ty.Array s) = codes "an array of " ++ scalar_words s
@@ -38,7 +38,7 @@ type_words p ty.Missing = codes "nothing"
 type_words p ty.Unknown = codes "something unknown"
 
 -- what is asked
-abbrev pub demand_words : Program → Demand → List ℕ
+abbrev pub demand_words : ProgramText → Demand → List ℕ
 demand_words p (demand.OfType k) = type_words p k
 demand_words p demand.Number = codes "a number"
 demand_words p demand.Truth = codes "bool"

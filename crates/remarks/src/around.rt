@@ -11,12 +11,12 @@ ghost use Rattle.remarks.specs.Listings.{program_model};
 ghost use Rattle.tree.specs.Trees.{class_tree, contract_tree, definition_tree, item_tree};
 ghost use Rattle.tree.specs.Trees.{method_tree, struct_tree};
 
-use crate::listing::Listing;
+use crate::listing::ItemListing;
 use nearest::is_before;
 use source::{Place, Span};
 use tree::{Class, Contract, Definition, Item, Method, Struct};
 
-impl<'a> Listing<'a> {
+impl<'a> ItemListing<'a> {
     /// The contract before which so many items stand, and without a number the one around a place.
     pub(crate) fn contract_meant(&self, place: Place, number: Option<usize>) -> Option<&'a Contract>
         ensures { option_map (λ c. contract_tree c.now) result

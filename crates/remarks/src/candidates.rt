@@ -11,7 +11,7 @@ ghost use Rattle.remarks.specs.Listings.{name_of_sort, program_model};
 ghost use Rattle.tree.specs.Trees.{class_tree, contract_tree, definition_tree, member_tree};
 ghost use Rattle.tree.specs.Trees.{struct_tree};
 
-use crate::listing::Listing;
+use crate::listing::ItemListing;
 use declarations::NameSort;
 use nearest::names_before;
 use source::{Memory, Place, Span};
@@ -26,7 +26,7 @@ pub(crate) enum ItemSort {
     Class,
 }
 
-impl Listing<'_> {
+impl ItemListing<'_> {
     /// The names of a sort that are declared for a place. Returns `Memory` if a growth is refused.
     pub(crate) fn candidates(
         &self,

@@ -14,12 +14,12 @@ pub const MAX_NAME: usize = 60;
 
 /// A text, and the items of its tree in order.
 #[derive(Clone, Copy)]
-pub(crate) struct Listing<'a> {
+pub(crate) struct ItemListing<'a> {
     pub(crate) text: &'a [u8],
     pub(crate) items: &'a [Item],
 }
 
-impl Listing<'_> {
+impl ItemListing<'_> {
     /// Adds a name of the text. Bytes that are no UTF-8 are printed as U+FFFD. Returns `Memory` if a growth is refused.
     pub(crate) fn add_name(
         &self,

@@ -9,7 +9,7 @@ ghost use Rattle.remarks.specs.Remarks.{mismatch_words, side_words};
 ghost use Rattle.tables.specs.Words.{word_at};
 
 use crate::line::add;
-use crate::listing::Listing;
+use crate::listing::ItemListing;
 use crate::types::{add_demand, add_type};
 use crate::words::side_words;
 use declarations::{Demand, Mismatch, ValueType};
@@ -24,7 +24,7 @@ const SEND_LEN: usize = 4;
 pub(crate) fn add_mismatch(
     alloc: Global,
     text: &mut String,
-    listing: &Listing<'_>,
+    listing: &ItemListing<'_>,
     mismatch: Mismatch,
 ) -> Result<(), Memory>
     ensures { OnOk result (string_bytes text.new
@@ -49,7 +49,7 @@ pub(crate) fn add_mismatch(
 fn add_given(
     alloc: Global,
     text: &mut String,
-    listing: &Listing<'_>,
+    listing: &ItemListing<'_>,
     asked: Demand,
     given: ValueType,
 ) -> Result<(), Memory>
@@ -67,7 +67,7 @@ fn add_given(
 fn add_not_sent(
     alloc: Global,
     text: &mut String,
-    listing: &Listing<'_>,
+    listing: &ItemListing<'_>,
     side: Side,
     word: Span,
 ) -> Result<(), Memory>
@@ -90,7 +90,7 @@ pub(crate) fn after_send(word: &[u8]) -> &[u8]
 fn add_not_received(
     alloc: Global,
     text: &mut String,
-    listing: &Listing<'_>,
+    listing: &ItemListing<'_>,
     side: Side,
     word: Span,
 ) -> Result<(), Memory>

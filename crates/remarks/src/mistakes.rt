@@ -9,7 +9,7 @@ ghost use Rattle.remarks.specs.Remarks.{limit_back, limit_front, mismatch_words,
 ghost use Rattle.tree.specs.Trees.{item_tree};
 
 use crate::line::{Remark, add, add_number, plain, remark_at};
-use crate::listing::Listing;
+use crate::listing::ItemListing;
 use crate::mismatches::add_mismatch;
 use crate::unknown::unknown_remark;
 use crate::words::{limit_back, limit_front};
@@ -30,7 +30,7 @@ pub fn remark(
     ensures { IfOk result (λ said. option_map remark_model said
         ≡ remark_of (record { text = text.now; items = map item_tree items.now }) mistake) }
 {
-    let listing = Listing { text, items };
+    let listing = ItemListing { text, items };
     match mistake {
         Mistake::DeclaredTwice(_, first) => plain(alloc, first, "declared here first"),
         Mistake::Unknown(name, sort) => unknown_remark(alloc, &listing, name, sort),
@@ -60,7 +60,7 @@ pub fn remark(
 }
 
 /// Why a type is wrong. Returns `Memory` if an allocation is refused.
-fn mismatch_text(alloc: Global, listing: &Listing<'_>, why: Mismatch) -> Result<String, Memory>
+fn mismatch_text(alloc: Global, listing: &ItemListing<'_>, why: Mismatch) -> Result<String, Memory>
     ensures { IfOk result (λ text. string_bytes text ≡ mismatch_words (program_model listing.now) why) }
 {
     let mut text = String::new(alloc);
@@ -92,7 +92,7 @@ fn limit_text(alloc: Global, limit: Limit) -> Result<String, Memory>
 }
 
 /// Which case an endpoint lacks. Returns `Memory` if an allocation is refused.
-fn closed_text(alloc: Global, listing: &Listing<'_>, name: Span) -> Result<String, Memory>
+fn closed_text(alloc: Global, listing: &ItemListing<'_>, name: Span) -> Result<String, Memory>
     ensures { IfOk result (λ text. string_bytes text
         ≡ codes "asked for case " ++ (printed listing.now.text.now name ++ codes ".ChannelClosed()")) }
 {

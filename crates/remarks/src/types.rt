@@ -5,7 +5,7 @@ ghost use Rattle.remarks.specs.TypeWords.{demand_words, type_words};
 ghost use Rattle.remarks.specs.Listings.{program_model};
 
 use crate::line::add;
-use crate::listing::Listing;
+use crate::listing::ItemListing;
 use crate::words::scalar_words;
 use declarations::{Demand, ValueType};
 use program::Side;
@@ -16,7 +16,7 @@ use std::alloc::Global;
 pub(crate) fn add_type(
     alloc: Global,
     text: &mut String,
-    listing: &Listing<'_>,
+    listing: &ItemListing<'_>,
     ty: ValueType,
 ) -> Result<(), Memory>
     ensures { OnOk result (string_bytes text.new
@@ -49,7 +49,7 @@ pub(crate) fn add_type(
 pub(crate) fn add_demand(
     alloc: Global,
     text: &mut String,
-    listing: &Listing<'_>,
+    listing: &ItemListing<'_>,
     demand: Demand,
 ) -> Result<(), Memory>
     ensures { OnOk result (string_bytes text.new

@@ -8,7 +8,7 @@ ghost use Rattle.remarks.specs.Remarks.{word_sought};
 ghost use Rattle.tables.specs.Words.{word_at};
 
 use crate::line::{Remark, add, plain, remark_at};
-use crate::listing::{Listing, add_cut};
+use crate::listing::{ItemListing, add_cut};
 use crate::mismatches::after_send;
 use crate::words::front_words;
 use declarations::NameSort;
@@ -20,7 +20,7 @@ use std::alloc::Global;
 /// where that is declared. Returns `Memory` if an allocation is refused.
 pub(crate) fn unknown_remark(
     alloc: Global,
-    listing: &Listing<'_>,
+    listing: &ItemListing<'_>,
     name: Span,
     sort: NameSort,
 ) -> Result<Option<Remark>, Memory>
@@ -37,7 +37,7 @@ pub(crate) fn unknown_remark(
 /// is refused.
 fn near_remark(
     alloc: Global,
-    listing: &Listing<'_>,
+    listing: &ItemListing<'_>,
     name: Span,
     sort: NameSort,
 ) -> Result<Option<Remark>, Memory>
@@ -52,7 +52,7 @@ fn near_remark(
 }
 
 /// The word that is compared with the names of a sort.
-fn word_sought<'a>(listing: &Listing<'a>, name: Span, sort: NameSort) -> &'a [u8]
+fn word_sought<'a>(listing: &ItemListing<'a>, name: Span, sort: NameSort) -> &'a [u8]
     ensures { result.now ≡ word_sought (program_model listing.now) name sort }
 {
     let word = name.slice(listing.text);
@@ -65,7 +65,7 @@ fn word_sought<'a>(listing: &Listing<'a>, name: Span, sort: NameSort) -> &'a [u8
 /// Which name of a sort is the nearest. Returns `Memory` if an allocation is refused.
 fn near_text(
     alloc: Global,
-    listing: &Listing<'_>,
+    listing: &ItemListing<'_>,
     near: Span,
     sort: NameSort,
 ) -> Result<String, Memory>

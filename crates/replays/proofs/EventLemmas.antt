@@ -6,7 +6,7 @@ use Rattle.std.proofs.Math.Seq.{drop-append_seam}
 use Rattle.std.specs.Char.{is_ascii_digit}
 use Rattle.std.specs.List.{prefix_len}
 use Rattle.machine.specs.declared.halts.Event.{Event}
-use Rattle.replays.specs.Fronts.{BeginsWith, Stops, is_space}
+use Rattle.replays.specs.Fronts.{BeginsWith, StopsAt, is_space}
 use Rattle.replays.specs.Schedules.{IsEventLine}
 use Rattle.replays.proofs.FrontLemmas.{begins_once, number_no_space, spaces_are, spaces_end}
 
@@ -14,7 +14,7 @@ use Rattle.replays.proofs.FrontLemmas.{begins_once, number_no_space, spaces_are,
 abbrev pub behind_first : (line : List ℕ) (e : Event) → IsEventLine line e → List ℕ
 behind_first line e l = replicate l.spaces 32 ++ l.second
 
-spaces_stop : (n : ℕ) (rest : List ℕ) → 0 < n → Stops is_ascii_digit (replicate n 32 ++ rest)
+spaces_stop : (n : ℕ) (rest : List ℕ) → 0 < n → StopsAt is_ascii_digit (replicate n 32 ++ rest)
 spaces_stop zero rest h = absurd (omega arith)
 spaces_stop (suc n) rest h = refl
 
@@ -22,8 +22,8 @@ spaces_stop (suc n) rest h = refl
 pub line_begins : (line : List ℕ) (e : Event) (l : IsEventLine line e) → BeginsWith line e.process (behind_first line e l)
 line_begins line e l = record { digits = l.first; number = l.process; are = l.spelled; stops = spaces_stop l.spaces l.second l.some }
 
-second_stops : (line : List ℕ) (e : Event) (l : IsEventLine line e) → Stops is_space l.second
-second_stops line e l = subst (Stops is_space) (append-nil l.second) (number_no_space l.second [] e.choice l.choice)
+second_stops : (line : List ℕ) (e : Event) (l : IsEventLine line e) → StopsAt is_space l.second
+second_stops line e l = subst (StopsAt is_space) (append-nil l.second) (number_no_space l.second [] e.choice l.choice)
 
 -- and behind that stand its spaces, and the choice
 pub behind_spaces : (line : List ℕ) (e : Event) (l : IsEventLine line e) → prefix_len is_space (behind_first line e l) ≡ l.spaces

@@ -10,7 +10,7 @@ use Rattle.std.proofs.lemmas.List.Splits.{slice_split_first, slice_split_none}
 use Rattle.std.proofs.lemmas.List.Sums.{fails_before_first}
 use Rattle.std.specs.List.{after_first, before_first, position_or_len, prefix_len, slice_split}
 use Rattle.std.specs.Str.Parse.{AllDigits, digits_value}
-use Rattle.replays.specs.Fronts.{BeginsWith, Stops, is_space}
+use Rattle.replays.specs.Fronts.{BeginsWith, StopsAt, is_space}
 use Rattle.replays.specs.Schedules.{IsNumber}
 use Rattle.replays.specs.declared.limits.TheConstants.{MOST_NUMBER}
 
@@ -36,22 +36,22 @@ digits_pass (c ∷ cs) = by (is_ascii_digit c) refl (digits_pass cs)
     by false e more = tt
 
 -- behind what passes at the front stands something else
-pub front_stops : (p : ℕ → Bool) (bytes : List ℕ) → Stops p (drop (prefix_len p bytes) bytes)
+pub front_stops : (p : ℕ → Bool) (bytes : List ℕ) → StopsAt p (drop (prefix_len p bytes) bytes)
 front_stops p [] = tt
 front_stops p (c ∷ cs) = by (p c) refl (front_stops p cs)
   where
-    by : (b : Bool) → p c ≡ b → Stops p (drop (prefix_len p cs) cs) → Stops p (drop (cond b (1 + prefix_len p cs) 0) (c ∷ cs))
+    by : (b : Bool) → p c ≡ b → StopsAt p (drop (prefix_len p cs) cs) → StopsAt p (drop (cond b (1 + prefix_len p cs) 0) (c ∷ cs))
     by true e more = rw (one-add (prefix_len p cs)) more
     by false e more = e
 
 -- digits in front of something else are all digits at the front
-pub digits_end : (digits rest : List ℕ) → AllDigits 10 digits → Stops is_ascii_digit rest → prefix_len is_ascii_digit (digits ++ rest) ≡ length digits
+pub digits_end : (digits rest : List ℕ) → AllDigits 10 digits → StopsAt is_ascii_digit rest → prefix_len is_ascii_digit (digits ++ rest) ≡ length digits
 digits_end [] [] d s = refl
 digits_end [] (c ∷ cs) d s = ap (λ b. cond b (1 + prefix_len is_ascii_digit cs) 0) s
 digits_end (c ∷ cs) rest d s = ap (λ b. cond b (1 + prefix_len is_ascii_digit (cs ++ rest)) 0) (digit_test c d.0) ∙ one-add (prefix_len is_ascii_digit (cs ++ rest)) ∙ ap suc (digits_end cs rest d.1 s)
 
 -- likewise spaces
-pub spaces_end : (n : ℕ) (rest : List ℕ) → Stops is_space rest → prefix_len is_space (replicate n 32 ++ rest) ≡ n
+pub spaces_end : (n : ℕ) (rest : List ℕ) → StopsAt is_space rest → prefix_len is_space (replicate n 32 ++ rest) ≡ n
 spaces_end zero [] s = refl
 spaces_end zero (c ∷ cs) s = ap (λ b. cond b (1 + prefix_len is_space cs) 0) s
 spaces_end (suc n) rest s = one-add (prefix_len is_space (replicate n 32 ++ rest)) ∙ ap suc (spaces_end n rest s)
@@ -67,7 +67,7 @@ spaces_are (c ∷ cs) = by (is_space c) refl (spaces_are cs)
     by false e more = refl
 
 -- a number begins with no space
-pub number_no_space : (digits rest : List ℕ) (n : ℕ) → IsNumber digits n → Stops is_space (digits ++ rest)
+pub number_no_space : (digits rest : List ℕ) (n : ℕ) → IsNumber digits n → StopsAt is_space (digits ++ rest)
 number_no_space [] rest n h = absurd (omega (arith, h.numeral.0))
 number_no_space (c ∷ cs) rest n h = digit_no_space c h.numeral.1.0
 
@@ -128,5 +128,5 @@ a_number bytes digits rest value are left is some small = record {
     small = small;
   };
   are = sym (ap₂ (λ a b. a ++ b) are left ∙ take-append-drop (prefix_len is_ascii_digit bytes) bytes);
-  stops = subst (Stops is_ascii_digit) (sym left) (front_stops is_ascii_digit bytes);
+  stops = subst (StopsAt is_ascii_digit) (sym left) (front_stops is_ascii_digit bytes);
 }

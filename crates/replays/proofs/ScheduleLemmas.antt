@@ -6,7 +6,7 @@ use Rattle.std.specs.List.{slice_split}
 use Rattle.std.specs.Str.Lines.{strip_carriage_return}
 use Rattle.machine.specs.declared.halts.Event.{Event}
 use Rattle.replays.specs.Fronts.{AddsTold, IsFaultOf}
-use Rattle.replays.specs.Schedules.{IsFirstMalformed, IsMalformed, IsSchedule, Reads, Tell, ended, lines_of}
+use Rattle.replays.specs.Schedules.{IsFirstMalformed, IsMalformed, IsSchedule, ReadsSchedule, Tell, ended, lines_of}
 use Rattle.std.specs.Prelude.{Err}
 use Rattle.replays.specs.declared.fault.ScheduleFault.{ScheduleFault}
 use Rattle.replays.specs.declared.fault.ScheduleFault.TheVariants.{Malformed, Memory}
@@ -70,7 +70,7 @@ is_first bytes rest line behind number events s e wrong = record {
 
 -- the fault of a line is that of the schedule
 pub refused : (bytes rest line : List ℕ) (behind : List (List ℕ)) (number : ℕ) (events : List Event) (e : ScheduleFault) → IsSoFar (take (min MOST_SCHEDULE (length bytes)) bytes) rest number events → lines_of rest ≡ line ∷ behind
-    → IsFaultOf line number e → Reads bytes (Err e)
+    → IsFaultOf line number e → ReadsSchedule bytes (Err e)
 refused bytes rest line behind number events (Malformed n) s e f = subst (IsFirstMalformed bytes) (sym f.0) (is_first bytes rest line behind number events s e (inl f.1))
 refused bytes rest line behind number events Memory s e f = tt
 

@@ -26,7 +26,7 @@ use Rattle.program.specs.declared.statement.Awaited.TheVariants as awaits
 use Rattle.program.specs.declared.statement.Mention.{Mention}
 use Rattle.program.specs.declared.statement.Ways.TheVariants.{Body}
 use Rattle.machine.specs.Machine.{event_outcome}
-use Rattle.machine.specs.Outcomes.{Bounds, Outcome, Moved, Faulty, Waits, NoProcess, NoChoice}
+use Rattle.machine.specs.Outcomes.{QueueBounds, Outcome, Moved, Faulty, Waits, NoProcess, NoChoice}
 use Rattle.machine.specs.Places.{process_place}
 use Rattle.machine.specs.Runs.{start_of}
 use Rattle.machine.specs.World.{Block, World}
@@ -109,7 +109,7 @@ cases [] = NoCase
 cases (c ∷ cs) = MoreCases c (cases cs)
 
 -- more than any queue of these holds
-abbrev bound : Bounds
+abbrev bound : QueueBounds
 bound c s = 5
 
 abbrev event : ℕ → Event

@@ -11,16 +11,16 @@ abbrev pub is_space : ℕ → Bool
 is_space b = b == 32
 
 -- the first byte, if there is one, does not pass
-abbrev pub Stops : (ℕ → Bool) → List ℕ → Type 0
-Stops p [] = Unit {0}
-Stops p (b ∷ bytes) = p b ≡ false
+abbrev pub StopsAt : (ℕ → Bool) → List ℕ → Type 0
+StopsAt p [] = Unit {0}
+StopsAt p (b ∷ bytes) = p b ≡ false
 
 -- a number stands at the front, and behind it no digit
 pub record BeginsWith (bytes : List ℕ) (n : ℕ) (rest : List ℕ) : Type 0 where
   pub digits : List ℕ
   pub number : IsNumber digits n
   pub are : bytes ≡ digits ++ rest
-  pub stops : Stops is_ascii_digit rest
+  pub stops : StopsAt is_ascii_digit rest
 
 -- a line tells these events, one or none, which are added
 pub record AddsTold (line : List ℕ) (old new : List Event) : Type 0 where

@@ -65,7 +65,7 @@ pub record IsFirstMalformed (bytes : List ℕ) (number : ℕ) : Type 0 where
   pub wrong : IsMalformed line ⊎ ((MOST_SCHEDULE < length bytes) × (behind ≡ []))
 
 -- what a reading answers: the events of a schedule, or its first malformed line; want of memory tells nothing
-abbrev pub Reads : List ℕ → Result (Vec Event) ScheduleFault → Type 0
-Reads bytes (Ok events) = IsSchedule bytes events.items
-Reads bytes (Err (Malformed number)) = IsFirstMalformed bytes number
-Reads bytes (Err Memory) = Unit {0}
+abbrev pub ReadsSchedule : List ℕ → Result (Vec Event) ScheduleFault → Type 0
+ReadsSchedule bytes (Ok events) = IsSchedule bytes events.items
+ReadsSchedule bytes (Err (Malformed number)) = IsFirstMalformed bytes number
+ReadsSchedule bytes (Err Memory) = Unit {0}

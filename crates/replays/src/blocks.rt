@@ -40,8 +40,8 @@ fn add_owner(answer: &mut Vec<u8>, owner: Owner) -> Result<(), Memory>
 fn add_addresses(answer: &mut Vec<u8>, addresses: &[usize]) -> Result<(), Memory>
     ensures { OnOk result (answer.new.items ≡ answer.old.items ++ join_with_byte 44 (map decimal addresses.now)) }
 {
-    for (place, address) in addresses.iter().enumerate() {
-        separate(answer, place, b',')?;
+    for (index, address) in addresses.iter().enumerate() {
+        separate(answer, index, b',')?;
         add_number(answer, *address as u64)?;
     }
     Ok(())
@@ -84,9 +84,9 @@ fn add_messages(
     ensures { OnOk result (answer.new.items ≡ answer.old.items
         ++ join_with_byte 32 (map (message_text (words_of naming.now) contract.0) (map held_model queue.now.items))) }
 {
-    for place in 0..queue.len() {
-        separate(answer, place, b' ')?;
-        add_message(answer, naming, contract, &queue[place])?;
+    for index in 0..queue.len() {
+        separate(answer, index, b' ')?;
+        add_message(answer, naming, contract, &queue[index])?;
     }
     Ok(())
 }

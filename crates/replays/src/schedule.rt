@@ -2,7 +2,7 @@
 
 ghost use Rattle.std.specs.Prelude.{IfErr, OnOk};
 ghost use Rattle.replays.specs.Fronts.{AddsTold, IsFaultOf};
-ghost use Rattle.replays.specs.Schedules.{Reads};
+ghost use Rattle.replays.specs.Schedules.{ReadsSchedule};
 
 use crate::events::event_of;
 use crate::fault::ScheduleFault;
@@ -34,7 +34,7 @@ fn add_event(line: &[u8], number: u32, events: &mut Vec<Event>) -> Result<(), Sc
 /// tells nothing. `Malformed` names the first line that is not so; where the schedule has more than `MOST_SCHEDULE` bytes, the line
 /// that has the first byte past them is malformed. `Memory` is answered where a growth was refused.
 pub fn read_schedule(alloc: Global, bytes: &[u8]) -> Result<Vec<Event>, ScheduleFault>
-    ensures { Reads bytes.now result }
+    ensures { ReadsSchedule bytes.now result }
 {
     let mut rest = &bytes[..MOST_SCHEDULE.min(bytes.len())];
     let mut events = Vec::new(alloc);

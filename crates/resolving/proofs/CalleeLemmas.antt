@@ -21,13 +21,13 @@ use Rattle.tree.specs.declared.class.Parameter.{Parameter}
 use Rattle.tree.specs.declared.expression.Expression.{Expression}
 use Rattle.declarations.specs.Declarations.{first_among}
 use Rattle.declarations.specs.ItemMistakes.{methods_in}
-use Rattle.declarations.specs.Program.{Program, Numbered, as_class, item_at}
+use Rattle.declarations.specs.Program.{ProgramText, Numbered, as_class, item_at}
 use Rattle.program.specs.Statements.{CallModel}
 use Rattle.program.specs.declared.call.Argument.{Argument}
 use Rattle.program.specs.declared.number.MethodId.{MethodId}
 use Rattle.program.specs.declared.statement.Mention.{Mention}
-use Rattle.resolving.specs.Callees.{Callee, methods_before, numbered, method_at}
-use Rattle.resolving.specs.Locals.{Frame}
+use Rattle.resolving.specs.Callees.{NumberedMethod, methods_before, numbered, method_at}
+use Rattle.resolving.specs.Locals.{LocalFrame}
 use Rattle.resolving.specs.Reads.{reads}
 use Rattle.resolving.specs.Steps.{AddsReads}
 use Rattle.resolving.specs.Plain.{argument_reads, arguments, given, lone}
@@ -41,7 +41,7 @@ class_in class item = option_and_then (λ i. option_map (λ c. (class, c)) (as_c
 abbrev index_in : List ℕ → Span → Option (Numbered ClassTree) → Option ℕ
 index_in text name c = option_and_then (λ c. first_among text (map (λ m. m.name) c.1.methods) name) c
 
-abbrev found_in : List ℕ → Span → ℕ → Option (Numbered ClassTree) → Option Callee
+abbrev found_in : List ℕ → Span → ℕ → Option (Numbered ClassTree) → Option NumberedMethod
 found_in text name before c = option_and_then (λ c. option_and_then (numbered before c.1.methods) (first_among text (map (λ m. m.name) c.1.methods) name)) c
 
 in_definition : (text : List ℕ) (class : ℕ) (name : Span) (before place : ℕ) (d : DefinitionTree) → Some place ≡ index_in text name (option_map (λ c. (class, c)) (as_class d))
@@ -51,7 +51,7 @@ in_definition text class name before place (Struct s) h = cc
 in_definition text class name before place (Class c) h = ap (option_and_then (numbered before c.methods)) (sym h)
 
 -- the method at the place that the name has in the class
-pub method_there : (p : Program) (class : ℕ) (name : Span) (place : ℕ) (i : ItemTree) → Some place ≡ option_and_then (λ c. first_among p.text (map (λ m. m.name) c.1.methods) name) (item_at as_class p class) → slice_get p.items class ≡ Some i
+pub method_there : (p : ProgramText) (class : ℕ) (name : Span) (place : ℕ) (i : ItemTree) → Some place ≡ option_and_then (λ c. first_among p.text (map (λ m. m.name) c.1.methods) name) (item_at as_class p class) → slice_get p.items class ≡ Some i
     → method_at p class name ≡ numbered (methods_before p.items class) (methods_in i.definition) place
 method_there p class name place i h at =
     let before = methods_before p.items class in
@@ -59,7 +59,7 @@ method_there p class name place i h at =
     ∙ in_definition p.text class name before place i.definition (h ∙ ap (λ o. index_in p.text name (class_in class o)) at)
 
 -- the callee that the code makes of what it looks up
-pub callee_is : (p : Program) (class : ℕ) (name : Span) (place v : ℕ) (items : List tree.Item.Item) (i : tree.Item.Item) (methods : List made.Method.Method) (m : made.Method.Method) → map item_tree items ≡ p.items
+pub callee_is : (p : ProgramText) (class : ℕ) (name : Span) (place v : ℕ) (items : List tree.Item.Item) (i : tree.Item.Item) (methods : List made.Method.Method) (m : made.Method.Method) → map item_tree items ≡ p.items
     → Some place ≡ option_and_then (λ c. first_among p.text (map (λ m. m.name) c.1.methods) name) (item_at as_class p class) → slice_get items class ≡ Some i
     → map method_tree methods ≡ methods_in (definition_tree i.definition) → slice_get methods place ≡ Some m → v ≡ methods_before (map item_tree items) class
     → Some (record { number = v + place; method = method_tree m }) ≡ method_at p class name
@@ -72,11 +72,11 @@ callee_is p class name place v items i methods m same found at within is before 
     ∙ sym (method_there p class name place (item_tree i) found item)
 
 -- what arguments read, as far as they were walked
-abbrev pub read_to : Program → ℕ → List Expression → ℕ → Frame → List Mention
+abbrev pub read_to : ProgramText → ℕ → List Expression → ℕ → LocalFrame → List Mention
 read_to p own es n f = argument_reads p own f (map expression_tree (take n es))
 
 -- one argument more
-pub read_more : (p : Program) (own : ℕ) (es : List Expression) (n : ℕ) (e : Expression) (locals : Locals) (old now new : List Mention) → n < length es → e ≡ get_or es n e
+pub read_more : (p : ProgramText) (own : ℕ) (es : List Expression) (n : ℕ) (e : Expression) (locals : Locals) (old now new : List Mention) → n < length es → e ≡ get_or es n e
     → AddsReads p.text locals (read_to p own es n) old now → AddsReads p.text locals (λ f. reads p.text f.locals (expression_tree e)) now new → AddsReads p.text locals (read_to p own es (n + 1)) old new
 read_more p own es n e locals old now new lt is before adds = record {
   all = λ f frame.
@@ -89,11 +89,11 @@ read_more p own es n e locals old now new lt is before adds = record {
 }
 
 -- what is given, and what the rest of both lists gives behind it
-abbrev pub given_to_end : Program → ℕ → Frame → List Argument → Zip (Iter Parameter) (Iter Expression) → List Argument
+abbrev pub given_to_end : ProgramText → ℕ → LocalFrame → List Argument → Zip (Iter Parameter) (Iter Expression) → List Argument
 given_to_end p own f list s = list ++ arguments p own f (iter_rest (zip_first s)) (map expression_tree (iter_rest (zip_second s)))
 
 -- before the first parameter
-pub given_first : (p : Program) (own : ℕ) (f : Frame) (list : List Argument) (s : Zip (Iter Parameter) (Iter Expression)) (params : List Parameter) (es : List Expression) → list ≡ [] → iter_rest (zip_first s) ≡ params → iter_rest (zip_second s) ≡ es
+pub given_first : (p : ProgramText) (own : ℕ) (f : LocalFrame) (list : List Argument) (s : Zip (Iter Parameter) (Iter Expression)) (params : List Parameter) (es : List Expression) → list ≡ [] → iter_rest (zip_first s) ≡ params → iter_rest (zip_second s) ≡ es
     → given_to_end p own f list s ≡ arguments p own f params (map expression_tree es)
 given_first p own f list s params es none first second =
     ap (λ l. given_to_end p own f l s) none
@@ -101,7 +101,7 @@ given_first p own f list s params es none first second =
     ∙ ap (λ ys. arguments p own f params (map expression_tree ys)) second
 
 -- one parameter more
-pub given_more : (p : Program) (own : ℕ) (f : Frame) (list : List Argument) (s t : Zip (Iter Parameter) (Iter Expression)) (r : Option (Bor Parameter × Bor Expression)) (q : Bor Parameter × Bor Expression) → r ≡ Some q → zips fronts fronts s r t
+pub given_more : (p : ProgramText) (own : ℕ) (f : LocalFrame) (list : List Argument) (s t : Zip (Iter Parameter) (Iter Expression)) (r : Option (Bor Parameter × Bor Expression)) (q : Bor Parameter × Bor Expression) → r ≡ Some q → zips fronts fronts s r t
     → given_to_end p own f list s ≡ given_to_end p own f (list ++ given q.0.now (lone p own f (expression_tree q.1.now))) t
 given_more p own f list s t r q is step =
     let m = Zip-more s t r q is step in
@@ -110,16 +110,16 @@ given_more p own f list s t r q is step =
     ∙ ap (λ es. list ++ arguments p own f (q.0.now ∷ iter_rest (zip_first t)) (map expression_tree es)) m.1
     ∙ sym (append_assoc list here (arguments p own f (iter_rest (zip_first t)) (map expression_tree (iter_rest (zip_second t)))))
 
-none_given : (p : Program) (own : ℕ) (f : Frame) (params : List Parameter) → arguments p own f params [] ≡ []
+none_given : (p : ProgramText) (own : ℕ) (f : LocalFrame) (params : List Parameter) → arguments p own f params [] ≡ []
 none_given p own f [] = refl
 none_given p own f (x ∷ params) = refl
 
-ended : (p : Program) (own : ℕ) (f : Frame) (list : List Argument) (params : List Parameter) (es : List Expression) → (params ≡ []) ⊎ (es ≡ []) → list ++ arguments p own f params (map expression_tree es) ≡ list
+ended : (p : ProgramText) (own : ℕ) (f : LocalFrame) (list : List Argument) (params : List Parameter) (es : List Expression) → (params ≡ []) ⊎ (es ≡ []) → list ++ arguments p own f params (map expression_tree es) ≡ list
 ended p own f list params es (inl none) = ap (λ xs. list ++ arguments p own f xs (map expression_tree es)) none ∙ append-nil list
 ended p own f list params es (inr none) = ap (λ xs. list ++ arguments p own f params (map expression_tree xs)) none ∙ ap (λ l. list ++ l) (none_given p own f params) ∙ append-nil list
 
 -- behind the last of either list nothing is given
-pub given_all : (p : Program) (own : ℕ) (f : Frame) (list : List Argument) (s t : Zip (Iter Parameter) (Iter Expression)) (r : Option (Bor Parameter × Bor Expression)) → r ≡ None → zips fronts fronts s r t → given_to_end p own f list s ≡ list
+pub given_all : (p : ProgramText) (own : ℕ) (f : LocalFrame) (list : List Argument) (s t : Zip (Iter Parameter) (Iter Expression)) (r : Option (Bor Parameter × Bor Expression)) → r ≡ None → zips fronts fronts s r t → given_to_end p own f list s ≡ list
 given_all p own f list s t r is step = ended p own f list (iter_rest (zip_first s)) (iter_rest (zip_second s)) (either_empty_from_Zip s t r is step)
 
 -- the parts of a call

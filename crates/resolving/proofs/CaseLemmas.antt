@@ -9,7 +9,7 @@ use Rattle.source.specs.declared.place.Place.{Place}
 use Rattle.tree.specs.StatementTrees as trees
 use Rattle.tree.specs.StatementTrees.{CaseTree, CaseTrees, SwitchTree, case_tree, case_sequence, statement_tree, statement_sequence, switch_tree}
 use Rattle.tree.specs.declared.statement as stated
-use Rattle.declarations.specs.Program.{Program}
+use Rattle.declarations.specs.Program.{ProgramText}
 use Rattle.program.specs.Statements as seen
 use Rattle.program.specs.Statements.{CaseModel, CasesModel, block_model, case_model}
 use Rattle.program.specs.declared.number.VarId.{VarId}
@@ -18,28 +18,28 @@ use Rattle.program.specs.declared.statement.Block as found_block
 use Rattle.program.specs.declared.statement.Case as found_case
 use Rattle.program.specs.declared.statement.Mention.{Mention}
 use Rattle.resolving.specs.Binds.{binds_told}
-use Rattle.resolving.specs.Frames.{IsFrame}
-use Rattle.resolving.specs.Locals.{Frame}
-use Rattle.resolving.specs.Steps.{IsTold}
-use Rattle.resolving.specs.Told.{Told, Staying, made, ended, behind_case, awaited_as, awaited_message, awaited_params, case_endpoint, case_told, cases_told, statements_told}
+use Rattle.resolving.specs.Frames.{IsLocalFrame}
+use Rattle.resolving.specs.Locals.{LocalFrame}
+use Rattle.resolving.specs.Steps.{IsResolvedPiece}
+use Rattle.resolving.specs.Told.{ResolvedPiece, Staying, made, ended, behind_case, awaited_as, awaited_message, awaited_params, case_endpoint, case_told, cases_told, statements_told}
 use Rattle.resolving.specs.declared.locals.Locals.{Locals}
 use Rattle.resolving.proofs.SeenTwins.{case_made}
 use Rattle.tree.proofs.StatementTwins.{case_is, switch_is}
 
 -- what a case binds, and the frame behind it
-abbrev pub bound_in : Program → stated.Case.Case → Frame → Told (List VarId)
+abbrev pub bound_in : ProgramText → stated.Case.Case → LocalFrame → ResolvedPiece (List VarId)
 bound_in p case f = binds_told p (awaited_params (awaited_message p f case.endpoint case.message)) case.binds.items f
 
 -- a case, part by part
-pub case_ends : (p : Program) (class : ℕ) (stays : Staying) (behind : Place) (f : Frame) (case : stated.Case.Case) (endpoint : Mention) (awaited : Awaited) (bound : Vec VarId Global) (body : found_block.Block) (l : Locals)
+pub case_ends : (p : ProgramText) (class : ℕ) (stays : Staying) (behind : Place) (f : LocalFrame) (case : stated.Case.Case) (endpoint : Mention) (awaited : Awaited) (bound : Vec VarId Global) (body : found_block.Block) (l : Locals)
     → (let m = awaited_message p f case.endpoint case.message in let t = statements_told p class stays (statement_sequence (map statement_tree case.statements.items)) (bound_in p case f).frame in
-    endpoint ≡ case_endpoint p f case.endpoint → awaited ≡ awaited_as case.message m → bound.items ≡ (bound_in p case f).what → IsTold p.text (ended behind f t) (block_model body) l
-    → IsTold p.text (case_told p class stays behind (case_tree case) f) (case_model (found_case.roll-Case (record { endpoint = endpoint; awaited = awaited; targets = bound; body = body }))) l)
+    endpoint ≡ case_endpoint p f case.endpoint → awaited ≡ awaited_as case.message m → bound.items ≡ (bound_in p case f).what → IsResolvedPiece p.text (ended behind f t) (block_model body) l
+    → IsResolvedPiece p.text (case_told p class stays behind (case_tree case) f) (case_model (found_case.roll-Case (record { endpoint = endpoint; awaited = awaited; targets = bound; body = body }))) l)
 case_ends p class stays behind f case endpoint awaited bound body l at waits binds told =
     let m = awaited_message p f case.endpoint case.message in
     let whole = case_model (found_case.roll-Case (record { endpoint = endpoint; awaited = awaited; targets = bound; body = body })) in
     let first = (bound_in p case f).what in
-    subst (λ k. IsTold p.text (case_told p class stays behind k f) whole l) (sym (case_is case)) (record {
+    subst (λ k. IsResolvedPiece p.text (case_told p class stays behind k f) whole l) (sym (case_is case)) (record {
       is = case_made endpoint awaited bound body ∙ ap (λ e. seen.Case e awaited bound.items (block_model body)) at ∙ ap (λ w. seen.Case (case_endpoint p f case.endpoint) w bound.items (block_model body)) waits
           ∙ ap (λ b. seen.Case (case_endpoint p f case.endpoint) (awaited_as case.message m) b (block_model body)) binds ∙ ap (seen.Case (case_endpoint p f case.endpoint) (awaited_as case.message m) first) told.is;
       frame = told.frame;
@@ -59,14 +59,14 @@ before_none [] = refl
 before_none (d ∷ done) = ap (seen.MoreCases d) (before_none done)
 
 -- so many cases are told; this one is next, and then the rest
-pub record CasesGo (p : Program) (class : ℕ) (stays : Staying) (close : Place) (f : Frame) (all : CaseTrees) (done : List CaseModel) (next : CaseTree) (rest : CaseTrees) (l : Locals) : Type 0 where
-  pub here : Frame
-  pub stands : IsFrame p.text here l
+pub record CasesGo (p : ProgramText) (class : ℕ) (stays : Staying) (close : Place) (f : LocalFrame) (all : CaseTrees) (done : List CaseModel) (next : CaseTree) (rest : CaseTrees) (l : Locals) : Type 0 where
+  pub here : LocalFrame
+  pub stands : IsLocalFrame p.text here l
   pub whole : cases_told p class stays all close f ≡ made (cases_before done) (cases_told p class stays (trees.MoreCases next rest) close here)
 
-case_then : (p : Program) (class : ℕ) (stays : Staying) (close : Place) (f : Frame) (all : CaseTrees) (done : List CaseModel) (next : CaseTree) (after : CaseTree) (rest : CaseTrees) (l m : Locals) (x : CaseModel)
+case_then : (p : ProgramText) (class : ℕ) (stays : Staying) (close : Place) (f : LocalFrame) (all : CaseTrees) (done : List CaseModel) (next : CaseTree) (after : CaseTree) (rest : CaseTrees) (l m : Locals) (x : CaseModel)
     → CasesGo p class stays close f all done next (trees.MoreCases after rest) l
-    → ((g : Frame) → IsFrame p.text g l → IsTold p.text (case_told p class stays (behind_case (trees.MoreCases after rest) close) next g) x m)
+    → ((g : LocalFrame) → IsLocalFrame p.text g l → IsResolvedPiece p.text (case_told p class stays (behind_case (trees.MoreCases after rest) close) next g) x m)
     → CasesGo p class stays close f all (done ++ x ∷ []) after rest m
 case_then p class stays close f all done next after rest l m x go tell =
     let told = tell go.here go.stands in
@@ -82,13 +82,13 @@ token_behind : (case : stated.Case.Case) (rest : CaseTrees) (close : Place) → 
 token_behind case rest close = ap (λ c. behind_case (trees.MoreCases c rest) close) (case_is case)
 
 -- no case is told yet
-pub cases_start : (p : Program) (class : ℕ) (stays : Staying) (close : Place) (f : Frame) (first : CaseTree) (rest : CaseTrees) (l : Locals) → IsFrame p.text f l → CasesGo p class stays close f (trees.MoreCases first rest) [] first rest l
+pub cases_start : (p : ProgramText) (class : ℕ) (stays : Staying) (close : Place) (f : LocalFrame) (first : CaseTree) (rest : CaseTrees) (l : Locals) → IsLocalFrame p.text f l → CasesGo p class stays close f (trees.MoreCases first rest) [] first rest l
 cases_start p class stays close f first rest l h = record { here = f; stands = h; whole = refl }
 
 -- one more case is told, behind which the next one stands
-pub cases_more : (p : Program) (class : ℕ) (stays : Staying) (close : Place) (f : Frame) (all : CaseTrees) (done : List found_case.Case) (next : CaseTree) (others : List stated.Case.Case) (i : ℕ) (after : stated.Case.Case) (l m : Locals) (x : found_case.Case)
+pub cases_more : (p : ProgramText) (class : ℕ) (stays : Staying) (close : Place) (f : LocalFrame) (all : CaseTrees) (done : List found_case.Case) (next : CaseTree) (others : List stated.Case.Case) (i : ℕ) (after : stated.Case.Case) (l m : Locals) (x : found_case.Case)
     → i < length others → after ≡ get_or others i after → CasesGo p class stays close f all (map case_model done) next (case_sequence (map case_tree (drop i others))) l
-    → ((g : Frame) → IsFrame p.text g l → IsTold p.text (case_told p class stays after.word.place next g) (case_model x) m)
+    → ((g : LocalFrame) → IsLocalFrame p.text g l → IsResolvedPiece p.text (case_told p class stays after.word.place next g) (case_model x) m)
     → CasesGo p class stays close f all (map case_model (done ++ x ∷ [])) (case_tree after) (case_sequence (map case_tree (drop (i + 1) others))) m
 cases_more p class stays close f all done next others i after l m x lt is go tell =
     let seen_so : List CaseModel = map case_model done in
@@ -97,26 +97,26 @@ cases_more p class stays close f all done next others i after l m x lt is go tel
     = ap (λ cs. case_sequence (map case_tree cs)) (drop-cons others i after lt ∙ ap (λ k. k ∷ drop (suc i) others) (sym is) ∙ ap (λ k. after ∷ drop k others) (sym (add-one i))) in
     subst (λ cs. CasesGo p class stays close f all cs (case_tree after) rest m) (sym (map-append case_model done (x ∷ [])))
     (case_then p class stays close f all seen_so next (case_tree after) rest l m (case_model x) (subst (λ cs. CasesGo p class stays close f all seen_so next cs l) sequence go)
-    (λ g here. subst (λ k. IsTold p.text (case_told p class stays k next g) (case_model x) m) (sym (token_behind after rest close)) (tell g here)))
+    (λ g here. subst (λ k. IsResolvedPiece p.text (case_told p class stays k next g) (case_model x) m) (sym (token_behind after rest close)) (tell g here)))
 
 -- the last case is told, behind which the switch ends
-pub cases_end : (p : Program) (class : ℕ) (stays : Staying) (close : Place) (f : Frame) (all : CaseTrees) (done : List found_case.Case) (next : CaseTree) (others : List stated.Case.Case) (i : ℕ) (l m : Locals) (x : found_case.Case)
+pub cases_end : (p : ProgramText) (class : ℕ) (stays : Staying) (close : Place) (f : LocalFrame) (all : CaseTrees) (done : List found_case.Case) (next : CaseTree) (others : List stated.Case.Case) (i : ℕ) (l m : Locals) (x : found_case.Case)
     → length others ≤ i → CasesGo p class stays close f all (map case_model done) next (case_sequence (map case_tree (drop i others))) l
-    → ((g : Frame) → IsFrame p.text g l → IsTold p.text (case_told p class stays close next g) (case_model x) m)
-    → IsTold p.text (cases_told p class stays all close f) (seen.case_sequence (map case_model (done ++ x ∷ []))) m
+    → ((g : LocalFrame) → IsLocalFrame p.text g l → IsResolvedPiece p.text (case_told p class stays close next g) (case_model x) m)
+    → IsResolvedPiece p.text (cases_told p class stays all close f) (seen.case_sequence (map case_model (done ++ x ∷ []))) m
 cases_end p class stays close f all done next others i l m x le go tell =
     let seen_so : List CaseModel = map case_model done in
     let none : case_sequence (map case_tree (drop i others)) ≡ trees.NoCase = ap (λ cs. case_sequence (map case_tree cs)) (drop_all i others le) in
     let last = subst (λ cs. CasesGo p class stays close f all seen_so next cs l) none go in
     let told = tell last.here last.stands in
     let t = case_told p class stays close next last.here in
-    subst (λ w. IsTold p.text w (seen.case_sequence (map case_model (done ++ x ∷ []))) m) (sym last.whole) (record {
+    subst (λ w. IsResolvedPiece p.text w (seen.case_sequence (map case_model (done ++ x ∷ []))) m) (sym last.whole) (record {
       is = ap seen.case_sequence (map-append case_model done (x ∷ [])) ∙ sym (before_none (seen_so ++ case_model x ∷ [])) ∙ before_more seen_so (case_model x) seen.NoCase ∙ ap (λ y. cases_before seen_so (seen.MoreCases y seen.NoCase)) told.is;
       frame = told.frame;
     })
 
 -- the cases of a switch in memory, and in a row
-pub switch_cases : (p : Program) (class : ℕ) (stays : Staying) (f : Frame) (s : stated.Switch.Switch)
+pub switch_cases : (p : ProgramText) (class : ℕ) (stays : Staying) (f : LocalFrame) (s : stated.Switch.Switch)
     → (let parts = stated.Switch.out-Switch s in cases_told p class stays (trees.MoreCases (switch_tree s).first (case_sequence (switch_tree s).others)) (switch_tree s).close.place f
     ≡ cases_told p class stays (trees.MoreCases (case_tree parts.first) (case_sequence (map case_tree parts.others.items))) parts.close.place f)
 switch_cases p class stays f s = ap (λ (t : SwitchTree). cases_told p class stays (trees.MoreCases t.first (case_sequence t.others)) t.close.place f) (switch_is s)

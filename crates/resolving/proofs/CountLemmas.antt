@@ -11,7 +11,7 @@ use Rattle.declarations.specs.ItemMistakes.{methods_in}
 use Rattle.program.specs.declared.limits.TheConstants.{MOST_METHODS}
 use Rattle.resolving.specs.Callees.{all_methods, methods_before}
 use Rattle.resolving.specs.Counts.{before, contracts_before, counts, struct_among, structs_before}
-use Rattle.resolving.specs.declared.counts.Before.{Before}
+use Rattle.resolving.specs.declared.counts.ItemsBefore.{ItemsBefore}
 
 -- how many of some kind stand before an item
 abbrev standing : {X : Type 0} → (DefinitionTree → List X) → List ItemTree → ℕ → ℕ
@@ -59,7 +59,7 @@ one_struct (Struct s) = omega arith
 one_struct (Class c) = omega arith
 
 -- what stands before each of the first items
-abbrev pub counted : List Item → ℕ → List Before
+abbrev pub counted : List Item → ℕ → List ItemsBefore
 counted items n = map (before (map item_tree items)) (range_with_len 0 n)
 
 -- one item more is counted
@@ -89,38 +89,38 @@ behind_item items n i lt is =
       few_structs = omega (arith, long, fewer_standing struct_among trees (n + 1), singles_few struct_among one_struct trees);
     }
 
-abbrev numbers : ℕ → ℕ → ℕ → Before
+abbrev numbers : ℕ → ℕ → ℕ → ItemsBefore
 numbers methods contracts structs = record { methods = methods; contracts = contracts; structs = structs }
 
 same_numbers : (m n k x y z : ℕ) → m ≡ x → n ≡ y → k ≡ z → numbers m n k ≡ numbers x y z
 same_numbers m n k x y z methods contracts structs = ap (λ a. numbers a n k) methods ∙ ap (λ a. numbers x a k) contracts ∙ ap (numbers x y) structs
 
 -- what is counted behind an item
-pub count_more : (items : List Item) (n : ℕ) (i : Item) (so_far : Before) (methods contracts structs : ℕ) → Behind items n i → so_far ≡ before (map item_tree items) n
+pub count_more : (items : List Item) (n : ℕ) (i : Item) (so_far : ItemsBefore) (methods contracts structs : ℕ) → Behind items n i → so_far ≡ before (map item_tree items) n
     → methods ≡ length (methods_in (definition_tree i.definition)) → contracts ≡ length (contract_of (definition_tree i.definition)) → structs ≡ length (struct_among (definition_tree i.definition))
     → record { methods = so_far.methods + methods; contracts = so_far.contracts + contracts; structs = so_far.structs + structs } ≡ before (map item_tree items) (n + 1)
 count_more items n i so_far methods contracts structs behind here many_methods many_contracts many_structs =
     let trees = map item_tree items in
     same_numbers (so_far.methods + methods) (so_far.contracts + contracts) (so_far.structs + structs) (methods_before trees (n + 1)) (contracts_before trees (n + 1)) (structs_before trees (n + 1))
-    (ap (λ (b : Before). b.methods + methods) here ∙ ap (λ k. methods_before trees n + k) many_methods ∙ sym behind.methods)
-    (ap (λ (b : Before). b.contracts + contracts) here ∙ ap (λ k. contracts_before trees n + k) many_contracts ∙ sym behind.contracts)
-    (ap (λ (b : Before). b.structs + structs) here ∙ ap (λ k. structs_before trees n + k) many_structs ∙ sym behind.structs)
+    (ap (λ (b : ItemsBefore). b.methods + methods) here ∙ ap (λ k. methods_before trees n + k) many_methods ∙ sym behind.methods)
+    (ap (λ (b : ItemsBefore). b.contracts + contracts) here ∙ ap (λ k. contracts_before trees n + k) many_contracts ∙ sym behind.contracts)
+    (ap (λ (b : ItemsBefore). b.structs + structs) here ∙ ap (λ k. structs_before trees n + k) many_structs ∙ sym behind.structs)
 
 -- one record for each item
 pub counts_long : (items : List ItemTree) → length (counts items) ≡ length items
 counts_long items = length-map-range_with_len (before items) 0 (length items)
 
 -- what is counted at an item
-pub count_read : (items : List ItemTree) (all : List Before) (n : ℕ) (b : Before) → all ≡ counts items → n < length all → b ≡ get_or all n b → b ≡ before items n
+pub count_read : (items : List ItemTree) (all : List ItemsBefore) (n : ℕ) (b : ItemsBefore) → all ≡ counts items → n < length all → b ≡ get_or all n b → b ≡ before items n
 count_read items all n b counted lt is =
     let long = ap length counted ∙ counts_long items in
     is ∙ ap (λ l. get_or l n b) counted ∙ get_or-map-range_with_len (before items) 0 (length items) n n b (omega (arith, long, lt)) (omega arith)
 
 -- the number of a method is less than the most there can be
-pub number_few : (items : List Item) (all : List Before) (n k : ℕ) (b : Before) (i : Item) (methods : List made.Method.Method) → length (all_methods (map item_tree items)) ≤ MOST_METHODS → all ≡ counts (map item_tree items)
+pub number_few : (items : List Item) (all : List ItemsBefore) (n k : ℕ) (b : ItemsBefore) (i : Item) (methods : List made.Method.Method) → length (all_methods (map item_tree items)) ≤ MOST_METHODS → all ≡ counts (map item_tree items)
     → n < length all → b ≡ get_or all n b → n < length items → i ≡ get_or items n i → map method_tree methods ≡ methods_in (definition_tree i.definition) → k < length methods → b.methods + k < MOST_METHODS
 number_few items all n k b i methods few counted lt is within at same below =
-    let read = ap (λ (x : Before). x.methods) (count_read (map item_tree items) all n b counted lt is) in
+    let read = ap (λ (x : ItemsBefore). x.methods) (count_read (map item_tree items) all n b counted lt is) in
     let behind = behind_item items n i within at in
     let many = sym (length-map methods method_tree) ∙ ap length same in
     omega (arith, few, read, behind.methods, behind.few_methods, many, below)

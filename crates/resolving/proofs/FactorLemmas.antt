@@ -11,7 +11,7 @@ use Rattle.tree.specs.declared.expression.Factor.{Factor}
 use Rattle.tree.specs.declared.expression.FactorOperator.{FactorOperator}
 use Rattle.tree.specs.declared.expression.FactorOperator.TheVariants as operators
 use Rattle.program.specs.declared.statement.Mention.{Mention}
-use Rattle.resolving.specs.Locals.{Local, Frame}
+use Rattle.resolving.specs.Locals.{Local, LocalFrame}
 use Rattle.resolving.specs.Reads.{reads, step_reads}
 use Rattle.resolving.specs.Steps.{AddsReads}
 use Rattle.resolving.specs.declared.locals.Locals.{Locals}
@@ -30,7 +30,7 @@ gathered_reads text ls u [] = append-nil (reads text ls u ++ [])
 gathered_reads text ls u (f ∷ fs) = before_reads text ls u f.0 (gathered f.1 fs) ∙ ap (λ m. reads text ls u ++ m) (gathered_reads text ls f.1 fs)
 
 -- what a sequence reads as far as it was walked
-abbrev pub sequence_reads : List ℕ → LevelTree Single → FactorTree → List Factor → ℕ → Frame → List Mention
+abbrev pub sequence_reads : List ℕ → LevelTree Single → FactorTree → List Factor → ℕ → LocalFrame → List Mention
 sequence_reads text first second xs i g = reads text g.locals first ++ factor_reads text g.locals (second ∷ map factor_tree (take i xs))
 
 -- one more factor

@@ -17,7 +17,7 @@ use Rattle.tree.specs.declared.item.Definition.{Definition}
 use Rattle.tree.specs.declared.item.Definition.TheVariants as definition
 use Rattle.tree.specs.declared.item.Item.{Item}
 use Rattle.declarations.specs.Declarations.{first_among}
-use Rattle.declarations.specs.Program.{Program, Numbered, as_struct}
+use Rattle.declarations.specs.Program.{ProgramText, Numbered, as_struct}
 use Rattle.program.specs.declared.types.HeapType.{HeapType}
 use Rattle.resolving.specs.Around.{owning_indices, index_listed, indices_held, indices_in}
 use Rattle.resolving.specs.Brought.{held_listed}
@@ -27,10 +27,10 @@ use Rattle.resolving.specs.Types.{type_held}
 use Rattle.resolving.specs.Locals.{Local}
 
 -- the place of a field, where it owns
-abbrev owned : Program → ℕ × Field → List ℕ
+abbrev owned : ProgramText → ℕ × Field → List ℕ
 owned p x = index_listed x.0 (type_held p x.1.ty)
 
-indices_more : (p : Program) (fields : List Field) (i : ℕ) (d : Field) → i < length fields
+indices_more : (p : ProgramText) (fields : List Field) (i : ℕ) (d : Field) → i < length fields
     → indices_held p (take (i + 1) fields) ≡ indices_held p (take i fields) ++ index_listed i (type_held p (get_or fields i d).ty)
 indices_more p fields i d lt =
     let front = take i fields in
@@ -42,28 +42,28 @@ indices_more p fields i d lt =
     ∙ sym (flat_map_more (owned p) [] (enumerate_from 0 front) (i, next))
 
 -- one more field that owns
-pub index_some : (p : Program) (fields : List Field) (i : ℕ) (d : Field) (held : HeapType) (done : List ℕ) → i < length fields
+pub index_some : (p : ProgramText) (fields : List Field) (i : ℕ) (d : Field) (held : HeapType) (done : List ℕ) → i < length fields
     → done ≡ indices_held p (take i fields) → Some held ≡ type_held p (get_or fields i d).ty → done ++ i ∷ [] ≡ indices_held p (take (i + 1) fields)
 index_some p fields i d held done lt before is =
     ap (λ l. l ++ i ∷ []) before ∙ ap (λ o. indices_held p (take i fields) ++ index_listed i o) is ∙ sym (indices_more p fields i d lt)
 
 -- one more that does not
-pub index_none : (p : Program) (fields : List Field) (i : ℕ) (d : Field) (done : List ℕ) → i < length fields
+pub index_none : (p : ProgramText) (fields : List Field) (i : ℕ) (d : Field) (done : List ℕ) → i < length fields
     → done ≡ indices_held p (take i fields) → None ≡ type_held p (get_or fields i d).ty → done ≡ indices_held p (take (i + 1) fields)
 index_none p fields i d done lt before is =
     let front = indices_held p (take i fields) in
     before ∙ sym (append-nil front) ∙ ap (λ (o : Option HeapType). front ++ index_listed i o) is ∙ sym (indices_more p fields i d lt)
 
 -- what the structs among the first so many items have
-abbrev pub first_fields : Program → List Item → ℕ → List (List HeapType)
+abbrev pub first_fields : ProgramText → List Item → ℕ → List (List HeapType)
 first_fields p xs i = map (λ s. fields_held p s.fields) (structs_of (map item_tree (take i xs)))
 
 -- what a definition has, if it is a struct
-abbrev pub fields_in : Program → DefinitionTree → List (List HeapType)
+abbrev pub fields_in : ProgramText → DefinitionTree → List (List HeapType)
 fields_in p d = map (λ s. fields_held p s.fields) (struct_among d)
 
 -- those of one more item
-pub fields_more : (p : Program) (xs : List Item) (i : ℕ) (x : Item) → i < length xs → x ≡ get_or xs i x
+pub fields_more : (p : ProgramText) (xs : List Item) (i : ℕ) (x : Item) → i < length xs → x ≡ get_or xs i x
     → first_fields p xs (i + 1) ≡ first_fields p xs i ++ fields_in p (definition_tree x.definition)
 fields_more p xs i x lt is =
     let has = λ (s : StructTree). fields_held p s.fields in
@@ -71,11 +71,11 @@ fields_more p xs i x lt is =
     ∙ map-append has (structs_of (map item_tree (take i xs))) (struct_among (definition_tree x.definition))
 
 -- those of all items
-pub fields_all : (p : Program) (xs : List Item) (i : ℕ) → length xs ≤ i → first_fields p xs i ≡ map (λ s. fields_held p s.fields) (structs_of (map item_tree xs))
+pub fields_all : (p : ProgramText) (xs : List Item) (i : ℕ) → length xs ≤ i → first_fields p xs i ≡ map (λ s. fields_held p s.fields) (structs_of (map item_tree xs))
 fields_all p xs i le = ap (λ l. map (λ (s : StructTree). fields_held p s.fields) (structs_of (map item_tree l))) (take_all i xs le)
 
 -- what is no struct has none, and no places
-pub no_struct : (p : Program) (d : Definition) → ((x : made.Struct.Struct) → d ≡ definition.Struct x → ⊥)
+pub no_struct : (p : ProgramText) (d : Definition) → ((x : made.Struct.Struct) → d ≡ definition.Struct x → ⊥)
     → ([] ≡ fields_in p (definition_tree d)) × ([] ≡ indices_in p (definition_tree d))
 no_struct p (definition.Contract c) none = (refl, refl)
 no_struct p (definition.Struct s) none = absurd (none s refl)
@@ -99,10 +99,10 @@ one_before n place None lt = refl
 one_before n place (Some held) lt = ap (λ (b : Bool). length (cond b (n ∷ []) [])) (lt-ltb n place lt)
 
 -- the places of the fields that own among these, before which so many stand
-abbrev indices_from : Program → ℕ → List Field → List ℕ
+abbrev indices_from : ProgramText → ℕ → List Field → List ℕ
 indices_from p n fields = flat_map (owned p) (enumerate_from n fields)
 
-none_before : (p : Program) (n place : ℕ) (fields : List Field) → place ≤ n → before_index place (indices_from p n fields) ≡ 0
+none_before : (p : ProgramText) (n place : ℕ) (fields : List Field) → place ≤ n → before_index place (indices_from p n fields) ≡ 0
 none_before p n place [] le = refl
 none_before p n place (f ∷ fields) le =
     let o = type_held p f.ty in
@@ -112,7 +112,7 @@ none_before p n place (f ∷ fields) le =
     omega (arith, here, rest, both)
 
 -- As many of them stand before a place as fields that own stand before the field there.
-so_many : (p : Program) (n k : ℕ) (fields : List Field) → before_index (n + k) (indices_from p n fields) ≡ length (fields_held p (take k fields))
+so_many : (p : ProgramText) (n k : ℕ) (fields : List Field) → before_index (n + k) (indices_from p n fields) ≡ length (fields_held p (take k fields))
 so_many p n k [] = sym (ap (λ (l : List Field). length (fields_held p l)) (take-nil k))
 so_many p n zero (f ∷ fields) = none_before p n (n + 0) (f ∷ fields) (omega arith)
 so_many p n (suc k) (f ∷ fields) =
@@ -126,17 +126,17 @@ so_many p n (suc k) (f ∷ fields) =
     omega (arith, here, rest, both, parts)
 
 -- the number of a field: how many places of fields that own stand before its own
-pub number_is : (p : Program) (k : ℕ) (fields : List Field) → before_index k (indices_held p fields) ≡ length (fields_held p (take k fields))
+pub number_is : (p : ProgramText) (k : ℕ) (fields : List Field) → before_index k (indices_held p fields) ≡ length (fields_held p (take k fields))
 number_is p k fields =
     let place : k ≡ 0 + k = omega arith in
     ap (λ m. before_index m (indices_held p fields)) place ∙ so_many p 0 k fields
 
 -- where a field of this name stands in a struct
-abbrev pub index_named : Program → Span → Numbered StructTree → Option ℕ
+abbrev pub index_named : ProgramText → Span → Numbered StructTree → Option ℕ
 index_named p field s = first_among p.text (map (λ f. f.name) s.1.fields) field
 
 -- the number of a field that stands there in a definition
-number_in : (p : Program) (n : ℕ) (field : Span) (place : ℕ) (d : DefinitionTree) → Some place ≡ option_and_then (index_named p field) (option_map (λ x. (n, x)) (as_struct d))
+number_in : (p : ProgramText) (n : ℕ) (field : Span) (place : ℕ) (d : DefinitionTree) → Some place ≡ option_and_then (index_named p field) (option_map (λ x. (n, x)) (as_struct d))
     → Some (before_index place (indices_in p d)) ≡ option_and_then (owning_before p field) (option_map (λ x. (n, x)) (as_struct d))
 number_in p n field place (Contract c) is = cc
 number_in p n field place (Class c) is = cc
@@ -144,7 +144,7 @@ number_in p n field place (Struct s) is =
     ap Some (number_is p place s.fields) ∙ ap (option_map (λ k. length (fields_held p (take k s.fields)))) is
 
 -- the same of an item, if there is one
-pub number_at : (p : Program) (n : ℕ) (field : Span) (place : ℕ) (sequence : List ℕ) (o : Option ItemTree) → Some sequence ≡ option_map (owning_indices p) o
+pub number_at : (p : ProgramText) (n : ℕ) (field : Span) (place : ℕ) (sequence : List ℕ) (o : Option ItemTree) → Some sequence ≡ option_map (owning_indices p) o
     → Some place ≡ option_and_then (index_named p field) (option_and_then (λ i. option_map (λ x. (n, x)) (as_struct i.definition)) o)
     → Some (before_index place sequence) ≡ option_and_then (owning_before p field) (option_and_then (λ i. option_map (λ x. (n, x)) (as_struct i.definition)) o)
 number_at p n field place sequence None has is = cc
@@ -153,13 +153,13 @@ number_at p n field place sequence (Some i) has is =
     ap (λ r. Some (before_index place r)) type_lists ∙ number_in p n field place i.definition is
 
 -- the number of a field of what a variable holds, by the type of the variable
-pub of_type : (p : Program) (field : Span) (o : Option Local) → option_and_then (λ ty. field_number p ty field) (option_map (λ v. v.ty) o)
+pub of_type : (p : ProgramText) (field : Span) (o : Option Local) → option_and_then (λ ty. field_number p ty field) (option_map (λ v. v.ty) o)
     ≡ option_and_then (λ v. field_number p v.ty field) o
 of_type p field None = refl
 of_type p field (Some v) = refl
 
 -- the places that are looked up at an item
-pub owning_found : (p : Program) (type_lists : List (Vec ℕ)) (n : ℕ) (sequence : Vec ℕ) → map (λ x. x.items) type_lists ≡ map (owning_indices p) p.items → slice_get type_lists n ≡ Some sequence
+pub owning_found : (p : ProgramText) (type_lists : List (Vec ℕ)) (n : ℕ) (sequence : Vec ℕ) → map (λ x. x.items) type_lists ≡ map (owning_indices p) p.items → slice_get type_lists n ≡ Some sequence
     → Some sequence.items ≡ option_map (owning_indices p) (slice_get p.items n)
 owning_found p type_lists n sequence same at =
     ap (option_map (λ (x : Vec ℕ). x.items)) (sym at) ∙ sym (slice_get-map (λ (x : Vec ℕ). x.items) type_lists n)

@@ -7,8 +7,8 @@ use Rattle.tree.specs.declared.statement as stated
 use Rattle.tree.specs.declared.statement.Statement.TheOpen as layer
 use Rattle.tree.specs.declared.statement.Statement.TheOpen.{Statement-F}
 use Rattle.tree.specs.declared.statement.Statement.TheVariants as variants
-use Rattle.declarations.specs.Program.{Program}
-use Rattle.resolving.specs.Locals.{Frame}
+use Rattle.declarations.specs.Program.{ProgramText}
+use Rattle.resolving.specs.Locals.{LocalFrame}
 use Rattle.resolving.specs.Told.{Staying}
 use Rattle.resolving.proofs.BlockLemmas.{IsAlone, alone_as}
 use Rattle.tree.proofs.StatementTwins.{of_declare, of_assign, of_call, of_start, of_delete, of_channel, of_exchange, of_return}
@@ -22,7 +22,7 @@ pub record IsFlat (s : stated.Statement.Statement) : Type 0 where
   pub continue : (w : Span) → s ≡ variants.Continue w → ⊥
   pub switch : (w : Box stated.Switch.Switch Global) → s ≡ variants.Switch w → ⊥
 
-by_layer : (p : Program) (own : ℕ) (stays : Staying) (f : Frame) (s : stated.Statement.Statement)
+by_layer : (p : ProgramText) (own : ℕ) (stays : Staying) (f : LocalFrame) (s : stated.Statement.Statement)
     (l : Statement-F stated.Statement.Statement stated.Block.Block stated.Case.Case stated.If.If stated.Switch.Switch stated.Test.Test)
     → stated.Statement.roll-Statement l ≡ s → IsFlat s → IsAlone p own stays f (statement_tree s)
 by_layer p own stays f s (layer.Block b) is flat = absurd (flat.block b (sym is ∙ variants.rolls-Block b))
@@ -41,5 +41,5 @@ by_layer p own stays f s (layer.NewChannel n) is flat = alone_as p own stays f (
 by_layer p own stays f s (layer.Return w v) is flat = alone_as p own stays f (ap statement_tree (sym is ∙ variants.rolls-Return w v) ∙ of_return w v) refl
 
 -- such a statement is told alone
-pub flat_alone : (p : Program) (own : ℕ) (stays : Staying) (f : Frame) (s : stated.Statement.Statement) → IsFlat s → IsAlone p own stays f (statement_tree s)
+pub flat_alone : (p : ProgramText) (own : ℕ) (stays : Staying) (f : LocalFrame) (s : stated.Statement.Statement) → IsFlat s → IsAlone p own stays f (statement_tree s)
 flat_alone p own stays f s flat = by_layer p own stays f s (stated.Statement.out-Statement s) (stated.Statement.roll-out-Statement s) flat

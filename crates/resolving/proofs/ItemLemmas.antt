@@ -9,18 +9,18 @@ use Rattle.declarations.proofs.ReadyLemmas.{not_past}
 use Rattle.declarations.specs.declared.mistake.Limit.TheVariants as limit
 use Rattle.declarations.specs.Listed.{twice_among}
 use Rattle.declarations.specs.ItemMistakes.{items_mistakes, method_names, methods_in}
-use Rattle.declarations.specs.Program.{Program, item_names}
+use Rattle.declarations.specs.Program.{ProgramText, item_names}
 use Rattle.program.specs.declared.limits.TheConstants.{MOST_METHODS}
 use Rattle.program.specs.Methods.{MethodModel}
 use Rattle.resolving.specs.Callees.{all_methods}
 use Rattle.resolving.specs.Methods.{item_told, method_told}
 
 -- the methods of the first so many items
-abbrev pub first_told : Program → List Item → ℕ → List MethodModel
+abbrev pub first_told : ProgramText → List Item → ℕ → List MethodModel
 first_told p xs i = flat_map (item_told p) (enumerate_from 0 (map item_tree (take i xs)))
 
 -- those of one more item
-pub items_more : (p : Program) (xs : List Item) (i : ℕ) (x : Item) → i < length xs → x ≡ get_or xs i x → first_told p xs (i + 1) ≡ first_told p xs i ++ item_told p (i, item_tree x)
+pub items_more : (p : ProgramText) (xs : List Item) (i : ℕ) (x : Item) → i < length xs → x ≡ get_or xs i x → first_told p xs (i + 1) ≡ first_told p xs i ++ item_told p (i, item_tree x)
 items_more p xs i x lt is =
     let front = map item_tree (take i xs) in
     let size : length front ≡ i = length-map (take i xs) item_tree ∙ length-take-le i xs (omega (arith, lt)) in
@@ -31,7 +31,7 @@ items_more p xs i x lt is =
     ∙ sym (flat_map_more (item_told p) [] (enumerate_from 0 front) (i, item_tree x))
 
 -- those of all items
-pub items_all : (p : Program) (xs : List Item) (i : ℕ) → length xs ≤ i → first_told p xs i ≡ flat_map (item_told p) (enumerate_from 0 (map item_tree xs))
+pub items_all : (p : ProgramText) (xs : List Item) (i : ℕ) → length xs ≤ i → first_told p xs i ≡ flat_map (item_told p) (enumerate_from 0 (map item_tree xs))
 items_all p xs i le = ap (λ l. flat_map (item_told p) (enumerate_from 0 (map item_tree l))) (take_all i xs le)
 
 -- one more that is resolved
@@ -44,7 +44,7 @@ seen_more seen go ss i s old done more t lt is before new one =
     ∙ append_assoc (map seen old) front (go s ∷ []) ∙ ap (λ l. map seen old ++ l) (sym taken)
 
 -- There are as many as the items have.
-pub told_many : (p : Program) (n : ℕ) (items : List ItemTree) → length (flat_map (item_told p) (enumerate_from n items)) ≡ length (all_methods items)
+pub told_many : (p : ProgramText) (n : ℕ) (items : List ItemTree) → length (flat_map (item_told p) (enumerate_from n items)) ≡ length (all_methods items)
 told_many p n [] = refl
 told_many p n (i ∷ items) =
     let methods = methods_in i.definition in
@@ -53,7 +53,7 @@ told_many p n (i ∷ items) =
     ∙ ap (λ k. length methods + k) (told_many p (n + 1) items) ∙ sym (length-append methods (all_methods items))
 
 -- Where nothing is wrong with the names of items, there are no more than the limit.
-pub few_methods : (p : Program) → items_mistakes p ≡ [] → length (all_methods p.items) ≤ MOST_METHODS
+pub few_methods : (p : ProgramText) → items_mistakes p ≡ [] → length (all_methods p.items) ≤ MOST_METHODS
 few_methods p clean =
     let few = not_past limit.Methods (method_names p) (nil_right (twice_among p.text (item_names p)) _ clean) in
     let many = length-map (all_methods p.items) (λ m. m.name) in

@@ -14,19 +14,19 @@ use Rattle.declarations.specs.declared.value_type.ValueType.TheVariants.{Missing
 use Rattle.program.specs.Methods.{variable_model}
 use Rattle.program.specs.declared.types.HeapType.{HeapType}
 use Rattle.program.specs.declared.number.VarId.{VarId}
-use Rattle.resolving.specs.Frames.{IsFrame, local_model, number_model, words_in}
+use Rattle.resolving.specs.Frames.{IsLocalFrame, local_model, number_model, words_in}
 use Rattle.resolving.specs.Locals as model
-use Rattle.resolving.specs.Locals.{Frame, local_named, number_of, entered, counted, declared_heap}
+use Rattle.resolving.specs.Locals.{LocalFrame, local_named, number_of, entered, counted, declared_heap}
 use Rattle.resolving.specs.declared.locals.Declaration.{Declaration}
 use Rattle.resolving.specs.declared.locals.Locals.{Locals}
 use Rattle.resolving.proofs.ScopeLemmas.{scoped, words_push}
 
-local_at : (text : List ℕ) (f : Frame) (l : Locals) → IsFrame text f l → (place : Option ℕ) → option_map local_model (option_and_then (slice_get l.list.items) place) ≡ option_and_then (slice_get f.locals) place
+local_at : (text : List ℕ) (f : LocalFrame) (l : Locals) → IsLocalFrame text f l → (place : Option ℕ) → option_map local_model (option_and_then (slice_get l.list.items) place) ≡ option_and_then (slice_get f.locals) place
 local_at text f l h None = refl
 local_at text f l h (Some k) = sym (slice_get-map local_model l.list.items k) ∙ ap (λ x. slice_get x k) h.list
 
 -- the variable that a table of names leads to
-pub local_found : (text : List ℕ) (f : Frame) (l : Locals) (name : Span) (place : Option ℕ) → IsFrame text f l → place ≡ first_of (words_in text f.locals) (word_at text name)
+pub local_found : (text : List ℕ) (f : LocalFrame) (l : Locals) (name : Span) (place : Option ℕ) → IsLocalFrame text f l → place ≡ first_of (words_in text f.locals) (word_at text name)
     → option_map local_model (option_and_then (slice_get l.list.items) place) ≡ local_named text f.locals name
 local_found text f l name place h is = local_at text f l h place ∙ ap (option_and_then (slice_get f.locals)) is
 
@@ -45,29 +45,29 @@ some_there text locals name (Some k) is =
 is_named : (text : List ℕ) (locals : List model.Local) (name : Span) → is_some (local_named text locals name) ≡ is_some (first_of (words_in text locals) (word_at text name))
 is_named text locals name = some_there text locals name (first_of (words_in text locals) (word_at text name)) refl
 
-abbrev entered_if : Bool → Declaration → Option ℕ → Frame → Frame
+abbrev entered_if : Bool → Declaration → Option ℕ → LocalFrame → LocalFrame
 entered_if taken d number f = scoped (if taken then f.locals else f.locals ++ here d number ∷ []) f.last f
 
 -- a name that is taken already
-pub entered_taken : (text : List ℕ) (f : Frame) (l : Locals) (d : Declaration) (number : Option ℕ) (word : List ℕ) (found : Option ℕ) → IsFrame text f l → word ≡ word_at text d.name
-    → ((words : List (List ℕ)) → IsTable words l.names → found ≡ first_of words word) → is_some found ≡ true → IsFrame text (scoped (entered text d number f.locals) f.last f) l
+pub entered_taken : (text : List ℕ) (f : LocalFrame) (l : Locals) (d : Declaration) (number : Option ℕ) (word : List ℕ) (found : Option ℕ) → IsLocalFrame text f l → word ≡ word_at text d.name
+    → ((words : List (List ℕ)) → IsTable words l.names → found ≡ first_of words word) → is_some found ≡ true → IsLocalFrame text (scoped (entered text d number f.locals) f.last f) l
 entered_taken text f l d number word found h at is taken =
     let there = is_named text f.locals d.name ∙ ap (λ w. is_some (first_of (words_in text f.locals) w)) (sym at) ∙ sym (ap is_some (is (words_in text f.locals) h.names)) ∙ taken in
-    subst (λ b. IsFrame text (entered_if b d number f) l) (sym there) h
+    subst (λ b. IsLocalFrame text (entered_if b d number f) l) (sym there) h
 
 -- a new name
-pub entered_new : (text : List ℕ) (f : Frame) (l m : Locals) (d : Declaration) (number : Option VarId) (word : List ℕ) (found : Option ℕ) → IsFrame text f l → word ≡ word_at text d.name
+pub entered_new : (text : List ℕ) (f : LocalFrame) (l m : Locals) (d : Declaration) (number : Option VarId) (word : List ℕ) (found : Option ℕ) → IsLocalFrame text f l → word ≡ word_at text d.name
     → ((words : List (List ℕ)) → IsTable words l.names → found ≡ first_of words word) → is_some found ≡ false
     → ((words : List (List ℕ)) → IsTable words l.names → first_of words word ≡ None → IsTable (words ++ word ∷ []) m.names)
     → m.list.items ≡ l.list.items ++ record { name = d.name; ty = d.ty; number = number } ∷ [] → m.last ≡ l.last → m.variables.items ≡ l.variables.items
-    → IsFrame text (scoped (entered text d (number_model number) f.locals) f.last f) m
+    → IsLocalFrame text (scoped (entered text d (number_model number) f.locals) f.last f) m
 entered_new text f l m d number word found h at is taken table list last variables =
     let words = words_in text f.locals in
     let found_none : first_of words word ≡ None = sym (is words h.names) ∙ none_is found taken in
     let none : first_of words (word_at text d.name) ≡ None = subst (λ x. first_of words x ≡ None) at found_none in
     let there = is_named text f.locals d.name ∙ ap is_some none in
     let more = words_push text f.locals (here d (number_model number)) in
-    subst (λ b. IsFrame text (entered_if b d (number_model number) f) m) (sym there) (record {
+    subst (λ b. IsLocalFrame text (entered_if b d (number_model number) f) m) (sym there) (record {
       list = ap (map local_model) list ∙ map-append local_model l.list.items (record { name = d.name; ty = d.ty; number = number } ∷ []) ∙ ap (λ x. x ++ here d (number_model number) ∷ []) h.list;
       names = subst (λ x. IsTable x m.names) (sym more) (subst (λ x. IsTable (words ++ x ∷ []) m.names) at (table words h.names found_none));
       apart = subst IsApart (sym more) ((apart_more words (word_at text d.name) none).0 h.apart);
@@ -76,12 +76,12 @@ entered_new text f l m d number word found h at is taken table list last variabl
     })
 
 -- one of the exchange heap that is in scope and counted is the last of them
-pub heap_declared : (text : List ℕ) (f : Frame) (l m : Locals) (d : Declaration) (held : HeapType) (n : ℕ) → IsFrame text f l → n ≡ length l.variables.items
-    → IsFrame text (record { locals = entered text d (Some n) f.locals; last = f.last; variables = counted text d held f.last f.variables }) m
-    → IsFrame text (declared_heap text d held f) (record { names = m.names; list = m.list; last = Some (number_of n); variables = m.variables })
+pub heap_declared : (text : List ℕ) (f : LocalFrame) (l m : Locals) (d : Declaration) (held : HeapType) (n : ℕ) → IsLocalFrame text f l → n ≡ length l.variables.items
+    → IsLocalFrame text (record { locals = entered text d (Some n) f.locals; last = f.last; variables = counted text d held f.last f.variables }) m
+    → IsLocalFrame text (declared_heap text d held f) (record { names = m.names; list = m.list; last = Some (number_of n); variables = m.variables })
 heap_declared text f l m d held n h is both =
     let many : n ≡ length f.variables = is ∙ sym (length-map l.variables.items variable_model) ∙ ap length h.variables in
-    subst (λ k. IsFrame text (record { locals = entered text d (Some k) f.locals; last = Some k; variables = counted text d held f.last f.variables }) (record { names = m.names; list = m.list; last = Some (number_of n); variables = m.variables })) many (record {
+    subst (λ k. IsLocalFrame text (record { locals = entered text d (Some k) f.locals; last = Some k; variables = counted text d held f.last f.variables }) (record { names = m.names; list = m.list; last = Some (number_of n); variables = m.variables })) many (record {
       list = both.list;
       names = both.names;
       apart = both.apart;

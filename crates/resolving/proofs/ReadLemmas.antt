@@ -6,7 +6,7 @@ use Rattle.tree.specs.Operators.{Operators, below}
 use Rattle.tree.specs.Expressions.{LevelTree, StepOf, Chain}
 use Rattle.tree.specs.Factors.{step_sequence}
 use Rattle.program.specs.declared.statement.Mention.{Mention}
-use Rattle.resolving.specs.Locals.{Local, Frame}
+use Rattle.resolving.specs.Locals.{Local, LocalFrame}
 use Rattle.resolving.specs.Reads.{reads, step_reads}
 use Rattle.resolving.specs.Steps.{AddsReads}
 use Rattle.resolving.specs.declared.locals.Locals.{Locals}
@@ -19,7 +19,7 @@ steps_more text ls l (q ∷ ps) p =
     ∙ sym (append_assoc (reads text ls q.1) (step_reads text ls (step_sequence l ps)) (reads text ls p.1))
 
 -- what a chain reads as far as it was walked
-abbrev pub chain_reads : List ℕ → (l : Operators) → {X : Type 0} → (X → StepOf l) → LevelTree (below l) → List X → ℕ → Frame → List Mention
+abbrev pub chain_reads : List ℕ → (l : Operators) → {X : Type 0} → (X → StepOf l) → LevelTree (below l) → List X → ℕ → LocalFrame → List Mention
 chain_reads text l f first xs i g = reads text g.locals first ++ step_reads text g.locals (step_sequence l (map f (take i xs)))
 
 chain_more : (text : List ℕ) (ls : List Local) (l : Operators) {X : Type 0} (f : X → StepOf l) (xs : List X) (i : ℕ) (x : X) → i < length xs → x ≡ get_or xs i x

@@ -7,9 +7,9 @@ use Rattle.tables.specs.Firsts.{IsApart, first_of}
 use Rattle.tables.specs.Tables.{IsTable}
 use Rattle.tables.specs.Words.{word_at, words_at}
 use Rattle.program.specs.Methods.{variable_model}
-use Rattle.resolving.specs.Frames.{IsFrame, local_model, number_model, words_in}
+use Rattle.resolving.specs.Frames.{IsLocalFrame, local_model, number_model, words_in}
 use Rattle.resolving.specs.Locals as model
-use Rattle.resolving.specs.Locals.{Frame}
+use Rattle.resolving.specs.Locals.{LocalFrame}
 use Rattle.resolving.specs.declared.locals.Local.{Local}
 use Rattle.resolving.specs.declared.locals.Locals.{Locals}
 
@@ -20,13 +20,13 @@ words_push text locals l =
     ∙ map-append (word_at text) (map (λ (x : model.Local). x.name) locals) (l.name ∷ [])
 
 -- a frame with these variables in scope, and this one the last of the exchange heap
-abbrev pub scoped : List model.Local → Option ℕ → Frame → Frame
+abbrev pub scoped : List model.Local → Option ℕ → LocalFrame → LocalFrame
 scoped locals last f = record { locals = locals; last = last; variables = f.variables }
 
 -- the last variable goes out of scope
-popped_to : (text : List ℕ) (f : Frame) (l m : Locals) (front : List model.Local) (x : model.Local) → IsFrame text f l → f.locals ≡ front ++ x ∷ [] → map local_model m.list.items ≡ front → m.last ≡ l.last → m.variables.items ≡ l.variables.items
+popped_to : (text : List ℕ) (f : LocalFrame) (l m : Locals) (front : List model.Local) (x : model.Local) → IsLocalFrame text f l → f.locals ≡ front ++ x ∷ [] → map local_model m.list.items ≡ front → m.last ≡ l.last → m.variables.items ≡ l.variables.items
     → ((words : List (List ℕ)) → IsTable (words ++ word_at text x.name ∷ []) l.names → first_of words (word_at text x.name) ≡ None → IsTable words m.names)
-    → IsFrame text (scoped front f.last f) m
+    → IsLocalFrame text (scoped front f.last f) m
 popped_to text f l m front x h is list last variables table =
     let words = ap (words_in text) is ∙ words_push text front x in
     let apart = subst IsApart words h.apart in
@@ -40,30 +40,30 @@ popped_to text f l m front x h is list last variables table =
     }
 
 -- the same, with the words as the code reads them
-pub frame_popped : (text : List ℕ) (f : Frame) (l m : Locals) (items : List Local) (x : Local) (word : List ℕ) → IsFrame text f l → l.list.items ≡ items ++ x ∷ [] → m.list.items ≡ items → m.last ≡ l.last → m.variables.items ≡ l.variables.items → word ≡ word_at text x.name
+pub frame_popped : (text : List ℕ) (f : LocalFrame) (l m : Locals) (items : List Local) (x : Local) (word : List ℕ) → IsLocalFrame text f l → l.list.items ≡ items ++ x ∷ [] → m.list.items ≡ items → m.last ≡ l.last → m.variables.items ≡ l.variables.items → word ≡ word_at text x.name
     → ((words : List (List ℕ)) → IsTable (words ++ word ∷ []) l.names → first_of words word ≡ None → IsTable words m.names)
-    → IsFrame text (scoped (take (length f.locals - 1) f.locals) f.last f) m
+    → IsLocalFrame text (scoped (take (length f.locals - 1) f.locals) f.last f) m
 frame_popped text f l m items x word h is list last variables at table =
     let split = sym h.list ∙ ap (map local_model) is ∙ map-append local_model items (x ∷ []) in
-    subst (λ k. IsFrame text (scoped k f.last f) m) (sym (front_of f.locals (map local_model items) (local_model x) split))
+    subst (λ k. IsLocalFrame text (scoped k f.last f) m) (sym (front_of f.locals (map local_model items) (local_model x) split))
     (popped_to text f l m (map local_model items) (local_model x) h split (ap (map local_model) list) last variables
     (subst (λ q. (words : List (List ℕ)) → IsTable (words ++ q ∷ []) l.names → first_of words q ≡ None → IsTable words m.names) at table))
 
 -- of the variables in scope when a scope is left, so many are still there
-pub record Leaving (text : List ℕ) (outer : ℕ) (f : Frame) (l : Locals) : Type 0 where
-  pub frame : IsFrame text (scoped (take (length l.list.items) f.locals) f.last f) l
+pub record Leaving (text : List ℕ) (outer : ℕ) (f : LocalFrame) (l : Locals) : Type 0 where
+  pub frame : IsLocalFrame text (scoped (take (length l.list.items) f.locals) f.last f) l
   pub stays : take outer (take (length l.list.items) f.locals) ≡ take outer f.locals
 
 -- one variable fewer
-pub leaves_more : (text : List ℕ) (outer : ℕ) (f : Frame) (l m : Locals) → (let n = length l.list.items in
+pub leaves_more : (text : List ℕ) (outer : ℕ) (f : LocalFrame) (l m : Locals) → (let n = length l.list.items in
     Leaving text outer f l → length m.list.items ≡ n - 1 → outer < n
-    → IsFrame text (scoped (take (length (take n f.locals) - 1) (take n f.locals)) f.last f) m
+    → IsLocalFrame text (scoped (take (length (take n f.locals) - 1) (take n f.locals)) f.last f) m
     → Leaving text outer f m)
 leaves_more text outer f l m before fewer more h =
     let n = length l.list.items in
     let many = ap length (sym before.frame.list) ∙ length-map l.list.items local_model in
     let last : length (take n f.locals) - 1 ≡ length m.list.items = omega (arith, many, fewer) in
     record {
-      frame = subst (λ k. IsFrame text (scoped k f.last f) m) (ap (λ i. take i (take n f.locals)) last ∙ take-take (length m.list.items) n f.locals (omega (arith, fewer))) h;
+      frame = subst (λ k. IsLocalFrame text (scoped k f.last f) m) (ap (λ i. take i (take n f.locals)) last ∙ take-take (length m.list.items) n f.locals (omega (arith, fewer))) h;
       stays = take-take outer (length m.list.items) f.locals (omega (arith, fewer, more));
     }

@@ -6,16 +6,16 @@ use Rattle.source.specs.declared.place.Place.{Place}
 use Rattle.tree.specs.Expressions.{ExpressionTree}
 use Rattle.tree.specs.ExpressionTrees.{expression_tree}
 use Rattle.tree.specs.declared.expression.Expression.{Expression}
-use Rattle.declarations.specs.Program.{Program}
+use Rattle.declarations.specs.Program.{ProgramText}
 use Rattle.program.specs.declared.number.MessageId.{MessageId}
 use Rattle.program.specs.Statements.{SendModel}
 use Rattle.program.specs.declared.statement.Mention.{Mention}
-use Rattle.resolving.specs.Locals.{Frame}
+use Rattle.resolving.specs.Locals.{LocalFrame}
 use Rattle.resolving.specs.Reads.{listed}
 use Rattle.resolving.specs.Plain.{lone, payloads}
 
 -- one argument more
-pub payloads_more : (p : Program) (own : ℕ) (f : Frame) (es : List Expression) (n : ℕ) (e : Expression) → n < length es → e ≡ get_or es n e
+pub payloads_more : (p : ProgramText) (own : ℕ) (f : LocalFrame) (es : List Expression) (n : ℕ) (e : Expression) → n < length es → e ≡ get_or es n e
     → payloads p own f (map expression_tree (take (n + 1) es)) ≡ payloads p own f (map expression_tree (take n es)) ++ listed (lone p own f (expression_tree e))
 payloads_more p own f es n e lt is =
     let sends = λ (x : ExpressionTree). listed (lone p own f x) in

@@ -5,18 +5,18 @@ use Rattle.source.specs.declared.place.Place.{Place}
 use Rattle.tree.specs.StatementTrees.{BlockTree, statement_tree, statement_sequence}
 use Rattle.tree.specs.Trees.{MethodTree, method_tree}
 use Rattle.tree.specs.declared.class as made
-use Rattle.declarations.specs.Program.{Program}
+use Rattle.declarations.specs.Program.{ProgramText}
 use Rattle.program.specs.Methods.{MethodModel, VariableModel, method_model, variable_model}
 use Rattle.program.specs.Statements as seen
 use Rattle.program.specs.Statements.{StatementsModel, statement_model}
 use Rattle.program.specs.declared.types.HeapType.{HeapType}
 use Rattle.program.specs.declared.method.Method.{Method}
 use Rattle.program.specs.declared.number.VarId.{VarId}
-use Rattle.resolving.specs.Frames.{IsFrame}
+use Rattle.resolving.specs.Frames.{IsLocalFrame}
 use Rattle.resolving.specs.Types.{result_held}
-use Rattle.resolving.specs.Locals.{Frame, number_of}
+use Rattle.resolving.specs.Locals.{LocalFrame, number_of}
 use Rattle.resolving.specs.Methods.{no_variables, parameters_frame, method_told, takes_some}
-use Rattle.resolving.specs.Steps.{IsTold}
+use Rattle.resolving.specs.Steps.{IsResolvedPiece}
 use Rattle.resolving.specs.Told.{stays_here, statements_told}
 use Rattle.resolving.specs.declared.locals.Locals.{Locals}
 use Rattle.tree.proofs.StatementTwins.{block_is}
@@ -28,9 +28,9 @@ with_body : made.Method.Method → BlockTree → MethodTree
 with_body m b = record { access = m.access; result = m.result; name = m.name; open_paren = m.«open»; params = m.params.items; body = b }
 
 -- a method is what its parts come to
-pub method_is : (p : Program) (class : ℕ) (m : made.Method.Method) (r : Method) (l : Locals) → r.name ≡ m.name.place → r.takes ≡ takes_some m.params.items → r.gives ≡ is_some m.result → r.result ≡ result_held p m.result → r.close ≡ m.body.close.place
-    → IsTold p.text (statements_told p class (stays_here (parameters_frame p m.params.items no_variables)) (statement_sequence (map statement_tree m.body.statements.items)) (parameters_frame p m.params.items no_variables)) (seen.statement_sequence (map statement_model r.statements.items)) l
-    → ((t : List ℕ) (f : Frame) → IsFrame t f l → map variable_model r.variables.items ≡ f.variables) → ((t : List ℕ) (f : Frame) → IsFrame t f l → r.scope ≡ option_map number_of f.last)
+pub method_is : (p : ProgramText) (class : ℕ) (m : made.Method.Method) (r : Method) (l : Locals) → r.name ≡ m.name.place → r.takes ≡ takes_some m.params.items → r.gives ≡ is_some m.result → r.result ≡ result_held p m.result → r.close ≡ m.body.close.place
+    → IsResolvedPiece p.text (statements_told p class (stays_here (parameters_frame p m.params.items no_variables)) (statement_sequence (map statement_tree m.body.statements.items)) (parameters_frame p m.params.items no_variables)) (seen.statement_sequence (map statement_model r.statements.items)) l
+    → ((t : List ℕ) (f : LocalFrame) → IsLocalFrame t f l → map variable_model r.variables.items ≡ f.variables) → ((t : List ℕ) (f : LocalFrame) → IsLocalFrame t f l → r.scope ≡ option_map number_of f.last)
     → method_model r ≡ method_told p class (method_tree m)
 unfolding method_of with_body
 method_is p class m r l name takes gives result close body variables scope =

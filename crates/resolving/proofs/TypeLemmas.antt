@@ -6,7 +6,7 @@ use Rattle.std.proofs.lemmas.List.{length-map, take_all}
 use Rattle.std.proofs.lemmas.Option.{slice_get-map, slice_get_past, slice_get_read}
 use Rattle.tree.specs.Trees.{contracts_of}
 use Rattle.declarations.specs.Declarations.{messages_of, states_of}
-use Rattle.declarations.specs.Program.{Program}
+use Rattle.declarations.specs.Program.{ProgramText}
 use Rattle.program.specs.Parts.{contract_model, message_model, state_model}
 use Rattle.declarations.specs.Resolution.{each_behind, message_count, resolved_contract, resolved_contracts, state_count}
 use Rattle.program.specs.declared.contract.Contract.{Contract}
@@ -19,7 +19,7 @@ use Rattle.resolving.specs.Around.{IsDirectory}
 use Rattle.resolving.specs.Counts.{contracts_before, structs_before}
 use Rattle.resolving.specs.Types.{contract_at, number_at}
 use Rattle.resolving.specs.declared.around.Directory.{Directory}
-use Rattle.resolving.specs.declared.counts.Before.{Before}
+use Rattle.resolving.specs.declared.counts.ItemsBefore.{ItemsBefore}
 use Rattle.resolving.proofs.CountLemmas.{count_read, counts_long}
 
 -- what a look-up in a list in memory answers
@@ -51,7 +51,7 @@ singles f before [] = refl
 singles f before (x ∷ xs) = let rest = singles f (before ++ x ∷ []) xs in omega (arith, rest)
 
 -- no contract stands behind the last item
-pub contract_past : (p : Program) (t : Directory) (place : ℕ) → IsDirectory p t → length t.before.now ≤ place → contract_at p place ≡ None
+pub contract_past : (p : ProgramText) (t : Directory) (place : ℕ) → IsDirectory p t → length t.before.now ≤ place → contract_at p place ≡ None
 contract_past p t place h past =
     let contracts = contracts_of p.items in
     let long = ap length h.before ∙ counts_long p.items in
@@ -60,20 +60,20 @@ contract_past p t place h past =
     slice_get_past (resolved_contracts p.text contracts) (contracts_before p.items place) (omega (arith, many, all))
 
 -- the contract that is looked up by the number that is counted at an item
-pub contract_found : (p : Program) (t : Directory) (place : ℕ) (b : Before) (contracts : List Contract) (r : Option (Bor Contract)) → IsDirectory p t → place < length t.before.now → b ≡ get_or t.before.now place b
+pub contract_found : (p : ProgramText) (t : Directory) (place : ℕ) (b : ItemsBefore) (contracts : List Contract) (r : Option (Bor Contract)) → IsDirectory p t → place < length t.before.now → b ≡ get_or t.before.now place b
     → contracts ≡ t.resolved.now.contracts.items → LooksUp contracts b.contracts r → option_map (λ c. contract_model c.now) r ≡ contract_at p place
 contract_found p t place b contracts r h lt is same found =
     seen_at contract_model contracts b.contracts r found
     ∙ ap (λ l. slice_get (map contract_model l) b.contracts) same
     ∙ ap (λ l. slice_get l b.contracts) h.contracts
-    ∙ ap (λ (x : Before). slice_get (resolved_contracts p.text (contracts_of p.items)) x.contracts) (count_read p.items t.before.now place b h.before lt is)
+    ∙ ap (λ (x : ItemsBefore). slice_get (resolved_contracts p.text (contracts_of p.items)) x.contracts) (count_read p.items t.before.now place b h.before lt is)
 
 -- its number
-pub number_found : (p : Program) (t : Directory) (place : ℕ) (b : Before) (contracts : List Contract) (c : Bor Contract) → IsDirectory p t → place < length t.before.now → b ≡ get_or t.before.now place b
+pub number_found : (p : ProgramText) (t : Directory) (place : ℕ) (b : ItemsBefore) (contracts : List Contract) (c : Bor Contract) → IsDirectory p t → place < length t.before.now → b ≡ get_or t.before.now place b
     → contracts ≡ t.resolved.now.contracts.items → LooksUp contracts b.contracts (Some c) → Some (record { 0 = b.contracts }) ≡ number_at p place
 number_found p t place b contracts c h lt is same found =
     let number : ℕ → ContractId = λ n. record { 0 = n } in
-    ap (λ (x : Before). Some (number x.contracts)) (count_read p.items t.before.now place b h.before lt is)
+    ap (λ (x : ItemsBefore). Some (number x.contracts)) (count_read p.items t.before.now place b h.before lt is)
     ∙ ap (option_map (λ s. number (contracts_before p.items place))) (contract_found p t place b contracts (Some c) h lt is same found)
 
 there : {X Y : Type 0} (y : Y) (xs : List X) (n : ℕ) → n < length xs → option_map (λ x. y) (slice_get xs n) ≡ Some y
@@ -85,15 +85,15 @@ abbrev struct_of : ℕ → HeapType
 struct_of n = Struct (record { 0 = n })
 
 -- no struct stands behind the last item
-pub struct_past : (p : Program) (t : Directory) (place : ℕ) → IsDirectory p t → length t.before.now ≤ place → None ≡ option_map (λ i. struct_of (structs_before p.items place)) (slice_get p.items place)
+pub struct_past : (p : ProgramText) (t : Directory) (place : ℕ) → IsDirectory p t → length t.before.now ≤ place → None ≡ option_map (λ i. struct_of (structs_before p.items place)) (slice_get p.items place)
 struct_past p t place h past =
     let long = ap length h.before ∙ counts_long p.items in
     sym (ap (option_map (λ i. struct_of (structs_before p.items place))) (slice_get_past p.items place (omega (arith, past, long))))
 
 -- the number of a struct that is counted at an item
-pub struct_found : (p : Program) (t : Directory) (place : ℕ) (b : Before) → IsDirectory p t → place < length t.before.now → b ≡ get_or t.before.now place b
+pub struct_found : (p : ProgramText) (t : Directory) (place : ℕ) (b : ItemsBefore) → IsDirectory p t → place < length t.before.now → b ≡ get_or t.before.now place b
     → Some (struct_of b.structs) ≡ option_map (λ i. struct_of (structs_before p.items place)) (slice_get p.items place)
 struct_found p t place b h lt is =
     let long = ap length h.before ∙ counts_long p.items in
-    ap (λ (x : Before). Some (struct_of x.structs)) (count_read p.items t.before.now place b h.before lt is)
+    ap (λ (x : ItemsBefore). Some (struct_of x.structs)) (count_read p.items t.before.now place b h.before lt is)
     ∙ sym (there (struct_of (structs_before p.items place)) p.items place (omega (arith, lt, long)))

@@ -4,7 +4,7 @@ use Rattle.std.specs.List.{enumerate_from, flat_map}
 use Rattle.tree.specs.Trees.{ItemTree, Contract, Struct, Class, contracts_of, item_tree, message_tree, method_tree}
 use Rattle.tree.specs.Trees.{DefinitionTree}
 use Rattle.tree.specs.declared.class.Field.{Field}
-use Rattle.declarations.specs.Program.{Program}
+use Rattle.declarations.specs.Program.{ProgramText}
 use Rattle.program.specs.Parts.{contract_model}
 use Rattle.declarations.specs.Resolution.{resolved_contracts}
 use Rattle.declarations.specs.Scopes.{IsScope}
@@ -17,11 +17,11 @@ pub use Rattle.resolving.specs.Counts.{counts}
 use Rattle.resolving.specs.Types.{type_held}
 use Rattle.resolving.specs.declared.around.Around.{Around}
 use Rattle.resolving.specs.declared.around.Directory.{Directory}
-use Rattle.resolving.specs.declared.calls.Callee.{Callee}
+use Rattle.resolving.specs.declared.calls.NumberedMethod.{NumberedMethod}
 use Rattle.resolving.specs.declared.messages.Meant.{Meant}
 
 -- a text and these items
-abbrev pub program_in : List ℕ → List ItemTree → Program
+abbrev pub program_in : List ℕ → List ItemTree → ProgramText
 program_in text items = record { text = text; items = items }
 
 -- the index of a field that holds this
@@ -30,27 +30,27 @@ index_listed k None = []
 index_listed k (Some held) = k ∷ []
 
 -- the indices of the fields that own among these, in order
-abbrev pub indices_held : Program → List Field → List ℕ
+abbrev pub indices_held : ProgramText → List Field → List ℕ
 indices_held p fields = flat_map (λ x. index_listed x.0 (type_held p x.1.ty)) (enumerate_from 0 fields)
 
 -- those of a definition, if it is a struct
-abbrev pub indices_in : Program → DefinitionTree → List ℕ
+abbrev pub indices_in : ProgramText → DefinitionTree → List ℕ
 indices_in p (Contract c) = []
 indices_in p (Struct s) = indices_held p s.fields
 indices_in p (Class c) = []
 
-abbrev pub owning_indices : Program → ItemTree → List ℕ
+abbrev pub owning_indices : ProgramText → ItemTree → List ℕ
 owning_indices p i = indices_in p i.definition
 
 -- these are the names of a program, its contracts with their names resolved, and what stands before each item
-pub record IsDirectory (p : Program) (t : Directory) : Type 0 where
+pub record IsDirectory (p : ProgramText) (t : Directory) : Type 0 where
   pub scope : IsScope p t.scope.now
   pub contracts : map contract_model t.resolved.now.contracts.items ≡ resolved_contracts p.text (contracts_of p.items)
   pub before : t.before.now ≡ counts p.items
 
 -- these are the items of a program, what its types are looked up in, the indices of the fields that own in each item, and the index
 -- of a class
-pub record IsAround (p : Program) (class : ℕ) (a : Around) : Type 0 where
+pub record IsAround (p : ProgramText) (class : ℕ) (a : Around) : Type 0 where
   pub directory : IsDirectory p a.directory
   pub items : map item_tree a.items.now ≡ p.items
   pub owning : map (λ x. x.items) a.owning.now ≡ map (owning_indices p) p.items
@@ -58,7 +58,7 @@ pub record IsAround (p : Program) (class : ℕ) (a : Around) : Type 0 where
   pub few : length (all_methods p.items) ≤ MOST_METHODS
 
 -- a method and its number, without where it lies in memory
-abbrev pub callee_model : Callee → model.Callee
+abbrev pub callee_model : NumberedMethod → model.NumberedMethod
 callee_model c = record { number = c.id.0; method = method_tree c.method.now }
 
 -- a message and its number, likewise

@@ -4,7 +4,7 @@ use Rattle.std.specs.List.{flat_map}
 use Rattle.tree.specs.Trees.{MessageTree, contracts_of}
 use Rattle.tree.specs.declared.contract.MessageParameter.{MessageParameter}
 use Rattle.declarations.specs.Declarations.{messages_of}
-use Rattle.declarations.specs.Program.{Program}
+use Rattle.declarations.specs.Program.{ProgramText}
 use Rattle.program.specs.declared.types.HeapType.{HeapType}
 use Rattle.resolving.specs.Types.{type_held}
 
@@ -13,12 +13,12 @@ held_listed None = []
 held_listed (Some held) = held ∷ []
 
 -- what stands for parameters of the exchange heap, in order
-abbrev pub params_held : Program → List MessageParameter → List HeapType
+abbrev pub params_held : ProgramText → List MessageParameter → List HeapType
 params_held p params = flat_map (λ x. held_listed (type_held p x.ty)) params
 
-abbrev pub brought : Program → MessageTree → List HeapType
+abbrev pub brought : ProgramText → MessageTree → List HeapType
 brought p m = params_held p m.params
 
 -- what each message of a program brings; the number of a message is its place among these
-abbrev pub messages_told : Program → List (List HeapType)
+abbrev pub messages_told : ProgramText → List (List HeapType)
 messages_told p = map (brought p) (flat_map messages_of (contracts_of p.items))

@@ -5,7 +5,7 @@ use Rattle.source.specs.declared.token.Span.{Span}
 use Rattle.tree.specs.Trees.{StructTree}
 use Rattle.tree.specs.declared.class.Field.{Field}
 use Rattle.declarations.specs.Declarations.{first_among}
-use Rattle.declarations.specs.Program.{Program, Numbered, as_struct, item_at}
+use Rattle.declarations.specs.Program.{ProgramText, Numbered, as_struct, item_at}
 use Rattle.declarations.specs.declared.value_type as names
 use Rattle.declarations.specs.declared.value_type.ValueType.TheVariants as name_type
 use Rattle.program.specs.declared.types.HeapType.{HeapType}
@@ -14,19 +14,19 @@ use Rattle.resolving.specs.Counts.{structs_of}
 use Rattle.resolving.specs.Types.{type_held}
 
 -- what stands for the fields that own among these, in order
-abbrev pub fields_held : Program → List Field → List HeapType
+abbrev pub fields_held : ProgramText → List Field → List HeapType
 fields_held p fields = flat_map (λ f. held_listed (type_held p f.ty)) fields
 
 -- what each struct of a program has in its fields that own; the number of a struct is its place among these
-abbrev pub structs_told : Program → List (List HeapType)
+abbrev pub structs_told : ProgramText → List (List HeapType)
 structs_told p = map (λ s. fields_held p s.fields) (structs_of p.items)
 
 -- how many fields that own stand before the first one of this name in a struct
-abbrev pub owning_before : Program → Span → Numbered StructTree → Option ℕ
+abbrev pub owning_before : ProgramText → Span → Numbered StructTree → Option ℕ
 owning_before p field s = option_map (λ k. length (fields_held p (take k s.1.fields)))
     (first_among p.text (map (λ f. f.name) s.1.fields) field)
 
 -- the number of a field of what a variable holds, among the fields that own
-abbrev pub field_number : Program → names.ValueType.ValueType → Span → Option ℕ
+abbrev pub field_number : ProgramText → names.ValueType.ValueType → Span → Option ℕ
 field_number p (name_type.Pointer n) field = option_and_then (owning_before p field) (item_at as_struct p n)
 field_number p _ field = None

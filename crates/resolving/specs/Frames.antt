@@ -6,7 +6,7 @@ use Rattle.tables.specs.Words.{words_at}
 use Rattle.program.specs.Methods.{variable_model}
 use Rattle.program.specs.declared.number.VarId.{VarId}
 use Rattle.resolving.specs.Locals as model
-use Rattle.resolving.specs.Locals.{Frame}
+use Rattle.resolving.specs.Locals.{LocalFrame}
 use Rattle.resolving.specs.declared.locals.Local.{Local}
 use Rattle.resolving.specs.Told as told
 use Rattle.resolving.specs.declared.locals.Locals.{Locals}
@@ -25,7 +25,7 @@ abbrev pub words_in : List ℕ → List model.Local → List (List ℕ)
 words_in text locals = words_at text (map (λ l. l.name) locals)
 
 -- These are the variables in scope, each findable by its name, no two of one name, the last one of the exchange heap, and all of those.
-pub record IsFrame (text : List ℕ) (f : Frame) (l : Locals) : Type 0 where
+pub record IsLocalFrame (text : List ℕ) (f : LocalFrame) (l : Locals) : Type 0 where
   pub list : map local_model l.list.items ≡ f.locals
   pub names : IsTable (words_in text f.locals) l.names
   pub apart : IsApart (words_in text f.locals)

@@ -13,7 +13,7 @@ use Rattle.tree.specs.Values.{ValueTree, CallTree, MadeTree}
 use Rattle.tree.specs.declared.class as declared_class
 use Rattle.tree.specs.declared.statement as statement
 use Rattle.declarations.specs.Types.{type_meant}
-use Rattle.declarations.specs.Program.{Program}
+use Rattle.declarations.specs.Program.{ProgramText}
 use Rattle.program.specs.declared.number.ContractId.{ContractId}
 use Rattle.program.specs.Statements as seen
 use Rattle.program.specs.Statements.{CallModel, NewModel, SendModel, StatementModel, StatementsModel}
@@ -24,8 +24,8 @@ use Rattle.program.specs.declared.statement.Action.{Action}
 use Rattle.program.specs.declared.statement.Action.TheVariants.{Nothing, Use, Move, Delete, Exchange, NewChannel, Return}
 use Rattle.program.specs.declared.statement.Mention.{Mention}
 use Rattle.resolving.specs.Fields.{field_number}
-use Rattle.resolving.specs.Locals.{Frame, local_named, mention, mention_of, declared, next_number, number_of}
-use Rattle.resolving.specs.Callees.{Callee, callee, called_name}
+use Rattle.resolving.specs.Locals.{LocalFrame, local_named, mention, mention_of, declared, next_number, number_of}
+use Rattle.resolving.specs.Callees.{NumberedMethod, callee, called_name}
 use Rattle.resolving.specs.Types.{contract_named, type_held}
 use Rattle.resolving.specs.Messages.{Meant, message_sent, end_contract}
 use Rattle.resolving.specs.Reads.{reads, listed}
@@ -56,14 +56,14 @@ given x None = []
 given x (Some m) = record { mention = m; claimed = x.claims } ∷ []
 
 -- a declaration; its variable is in scope behind it
-abbrev pub declaration_of : Program → DeclareTree → Declaration
+abbrev pub declaration_of : ProgramText → DeclareTree → Declaration
 declaration_of p d = record { name = d.name; ty = type_meant p d.ty; held = type_held p d.ty; role = Local }
 
 -- the message that a call by two names sends, where the first one means an endpoint
-abbrev pub meant_by : Program → Frame → CallTree → Span → Option Meant
+abbrev pub meant_by : ProgramText → LocalFrame → CallTree → Span → Option Meant
 meant_by p f c word = option_and_then (λ n. message_sent p n word) (end_contract p f.locals c.name)
 
-module _ (p : Program) (class : ℕ) (f : Frame) where
+module _ (p : ProgramText) (class : ℕ) (f : LocalFrame) where
   -- the name that an expression is alone, where it means a variable of the exchange heap
   abbrev pub lone : ExpressionTree → Option Mention
   lone e = option_and_then (mention p.text f.locals) (lone_name e)
@@ -79,7 +79,7 @@ module _ (p : Program) (class : ℕ) (f : Frame) where
   argument_reads es = flat_map (reads p.text f.locals) es
 
   -- a call of this method
-  abbrev pub call_of : CallTree → Option Mention → List Mention → Callee → CallModel
+  abbrev pub call_of : CallTree → Option Mention → List Mention → NumberedMethod → CallModel
   call_of c target behind m = record {
     reads = argument_reads c.arguments;
     place = (called_name c.name c.member).place;
@@ -223,6 +223,6 @@ module _ (p : Program) (class : ℕ) (f : Frame) where
   plain_told _ = told [] Nothing
 
   -- the frame behind it
-  abbrev pub frame_behind : StatementTree → Frame
+  abbrev pub frame_behind : StatementTree → LocalFrame
   frame_behind (stated.Declare d) = declared p.text (declaration_of p d) f
   frame_behind _ = f

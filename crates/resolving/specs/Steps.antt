@@ -6,38 +6,38 @@ use Rattle.program.specs.declared.statement.Statement.{Statement}
 use Rattle.program.specs.declared.call.Call.{Call}
 use Rattle.program.specs.declared.call.Send.{Send}
 use Rattle.program.specs.declared.number.VarId.{VarId}
-use Rattle.resolving.specs.Frames.{IsFrame}
-use Rattle.resolving.specs.Locals.{Frame}
-use Rattle.resolving.specs.Told.{Told, follow}
+use Rattle.resolving.specs.Frames.{IsLocalFrame}
+use Rattle.resolving.specs.Locals.{LocalFrame}
+use Rattle.resolving.specs.Told.{ResolvedPiece, follow}
 use Rattle.resolving.specs.declared.locals.Locals.{Locals}
 
 -- the new list has these mentions behind those of the old one
-pub record AddsReads (text : List ℕ) (locals : Locals) (read : Frame → List Mention) (old new : List Mention) : Type 0 where
-  pub all : (f : Frame) → IsFrame text f locals → new ≡ old ++ read f
+pub record AddsReads (text : List ℕ) (locals : Locals) (read : LocalFrame → List Mention) (old new : List Mention) : Type 0 where
+  pub all : (f : LocalFrame) → IsLocalFrame text f locals → new ≡ old ++ read f
 
 -- a statement is what this one comes to
-pub record Tells (text : List ℕ) (locals : Locals) (told : Frame → StatementModel) (s : Statement) : Type 0 where
-  pub all : (f : Frame) → IsFrame text f locals → statement_model s ≡ told f
+pub record TellsStatement (text : List ℕ) (locals : Locals) (told : LocalFrame → StatementModel) (s : Statement) : Type 0 where
+  pub all : (f : LocalFrame) → IsLocalFrame text f locals → statement_model s ≡ told f
 
 -- a call, if there is one, is what this one comes to
-pub record TellsCall (text : List ℕ) (locals : Locals) (told : Frame → Option CallModel) (c : Option Call) : Type 0 where
-  pub all : (f : Frame) → IsFrame text f locals → option_map call_model c ≡ told f
+pub record TellsCall (text : List ℕ) (locals : Locals) (told : LocalFrame → Option CallModel) (c : Option Call) : Type 0 where
+  pub all : (f : LocalFrame) → IsLocalFrame text f locals → option_map call_model c ≡ told f
 
 -- a send, if there is one, is what this one comes to
-pub record TellsSend (text : List ℕ) (locals : Locals) (told : Frame → Option SendModel) (s : Option Send) : Type 0 where
-  pub all : (f : Frame) → IsFrame text f locals → option_map send_model s ≡ told f
+pub record TellsSend (text : List ℕ) (locals : Locals) (told : LocalFrame → Option SendModel) (s : Option Send) : Type 0 where
+  pub all : (f : LocalFrame) → IsLocalFrame text f locals → option_map send_model s ≡ told f
 
 -- the numbers that a piece brings are added, and the frame behind it is the one that stands now
-pub record IsBound (text : List ℕ) (old new : List VarId) (locals : Locals) (t : Told (List VarId)) : Type 0 where
+pub record AddsBinds (text : List ℕ) (old new : List VarId) (locals : Locals) (t : ResolvedPiece (List VarId)) : Type 0 where
   pub adds : new ≡ old ++ t.what
-  pub frame : IsFrame text t.frame locals
+  pub frame : IsLocalFrame text t.frame locals
 
 -- a piece is what this one comes to, and the frame behind it is the one that stands now
-pub record IsTold (text : List ℕ) {X : Type 0} (t : Told X) (what : X) (locals : Locals) : Type 0 where
+pub record IsResolvedPiece (text : List ℕ) {X : Type 0} (t : ResolvedPiece X) (what : X) (locals : Locals) : Type 0 where
   pub is : what ≡ t.what
-  pub frame : IsFrame text t.frame locals
+  pub frame : IsLocalFrame text t.frame locals
 
 -- what pieces in a row come to, each in the frame behind those before it
-abbrev pub walked : {T X : Type 0} → (T → Frame → Told X) → List T → Frame → Told (List X)
+abbrev pub walked : {T X : Type 0} → (T → LocalFrame → ResolvedPiece X) → List T → LocalFrame → ResolvedPiece (List X)
 walked go [] f = record { what = []; frame = f }
 walked go (t ∷ ts) f = follow (λ x xs. x ∷ xs) (go t f) (walked go ts)

@@ -9,7 +9,7 @@ use Rattle.program.specs.declared.types.Side.{Side}
 use Rattle.tree.specs.declared.types.Type.TheVariants as type
 use Rattle.declarations.specs.Types.{type_meant}
 use Rattle.declarations.specs.Indices.{contract_index, state_index}
-use Rattle.declarations.specs.Program.{Program}
+use Rattle.declarations.specs.Program.{ProgramText}
 use Rattle.program.specs.Parts.{ContractModel}
 use Rattle.declarations.specs.Resolution.{resolved_contracts}
 use Rattle.declarations.specs.declared.value_type as names
@@ -21,32 +21,32 @@ use Rattle.program.specs.declared.types.HeapType.TheVariants.{Struct, Array, End
 use Rattle.resolving.specs.Counts.{contracts_before, structs_before}
 
 -- the contract that is the item at this place, with its names resolved
-abbrev pub contract_at : Program → ℕ → Option ContractModel
+abbrev pub contract_at : ProgramText → ℕ → Option ContractModel
 contract_at p n = slice_get (resolved_contracts p.text (contracts_of p.items)) (contracts_before p.items n)
 
 -- the number of the state of this name
-abbrev pub named_state : Program → ℕ → ContractModel → Span → Option StateId
+abbrev pub named_state : ProgramText → ℕ → ContractModel → Span → Option StateId
 named_state p n c name = option_map (λ s. s.id) (option_and_then (slice_get c.parts.states) (state_index p n name))
 
 -- the state that is written, or else the first one of the contract
-abbrev pub state_of : Program → ℕ → ContractModel → Option Span → StateId
+abbrev pub state_of : ProgramText → ℕ → ContractModel → Option Span → StateId
 state_of p n c state = option_map_or (λ s. s) (option_and_then (named_state p n c) state) c.parts.first
 
-abbrev pub contract_number : Program → ℕ → ContractId
+abbrev pub contract_number : ProgramText → ℕ → ContractId
 contract_number p n = record { 0 = contracts_before p.items n }
 
 -- the number of the contract of this name
-abbrev pub number_at : Program → ℕ → Option ContractId
+abbrev pub number_at : ProgramText → ℕ → Option ContractId
 number_at p n = option_map (λ c. contract_number p n) (contract_at p n)
 
-abbrev pub contract_named : Program → Span → Option ContractId
+abbrev pub contract_named : ProgramText → Span → Option ContractId
 contract_named p name = option_and_then (number_at p) (contract_index p name)
 
-abbrev pub endpoint_held : Program → ℕ → Side → Option Span → Option HeapType
+abbrev pub endpoint_held : ProgramText → ℕ → Side → Option Span → Option HeapType
 endpoint_held p n side state = option_map (λ c. Endpoint (contract_number p n) side (state_of p n c state)) (contract_at p n)
 
 -- what a variable of this type holds, where it is of the exchange heap
-abbrev pub heap_type : Program → names.ValueType.ValueType → Option Span → Option HeapType
+abbrev pub heap_type : ProgramText → names.ValueType.ValueType → Option Span → Option HeapType
 heap_type p (name.Pointer n) state = option_map (λ i. Struct (record { 0 = structs_before p.items n })) (slice_get p.items n)
 heap_type p (name.Array element) state = Some (Array element)
 heap_type p (name.Endpoint side n) state = endpoint_held p n side state
@@ -60,9 +60,9 @@ state_in (type.Heap (heap.Endpoint contract side state bang in_heap)) = state
 state_in _ = None
 
 -- what a variable of this type holds
-abbrev pub type_held : Program → type_nodes.Type.Type → Option HeapType
+abbrev pub type_held : ProgramText → type_nodes.Type.Type → Option HeapType
 type_held p t = heap_type p (type_meant p t) (state_in t)
 
 -- what a method gives, where it is of the exchange heap
-abbrev pub result_held : Program → Option type_nodes.Type.Type → Option HeapType
+abbrev pub result_held : ProgramText → Option type_nodes.Type.Type → Option HeapType
 result_held p t = option_and_then (type_held p) t

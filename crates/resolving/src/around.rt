@@ -6,7 +6,7 @@ ghost use Rattle.program.specs.declared.limits.TheConstants.{MOST_METHODS};
 ghost use Rattle.resolving.specs.Callees.{all_methods};
 ghost use Rattle.resolving.specs.Counts.{counts};
 
-use crate::counts::Before;
+use crate::counts::ItemsBefore;
 use declarations::Scope;
 use program::Resolved;
 use std::alloc::Global;
@@ -18,7 +18,7 @@ use tree::Item;
 pub(crate) struct Directory<'s, 'a> {
     pub(crate) scope: &'s Scope<'a>,
     pub(crate) resolved: &'s Resolved,
-    pub(crate) before: &'s [Before],
+    pub(crate) before: &'s [ItemsBefore],
     ghost room: { length resolved.now.contracts.items < 2 ^ 32 },
 }
 

@@ -4,7 +4,7 @@ ghost use Rattle.std.specs.Prelude.{◌≡◌, ℕ, ◌++◌, IfOk, OnOk, map};
 ghost use Rattle.std.specs.List.{flat_map};
 ghost use Rattle.tree.specs.Trees.{contract_of, definition_tree, member_tree, message_tree};
 ghost use Rattle.declarations.specs.Declarations.{message_among, messages_of};
-ghost use Rattle.declarations.specs.Program.{Program};
+ghost use Rattle.declarations.specs.Program.{ProgramText};
 ghost use Rattle.resolving.specs.Around.{IsDirectory};
 ghost use Rattle.resolving.specs.Brought.{brought, params_held};
 ghost use Rattle.program.specs.Programs.{type_lists};
@@ -21,7 +21,7 @@ fn params_held(
     directory: &Directory<'_, '_>,
     params: &[MessageParameter],
 ) -> Result<Vec<HeapType>, AllocError>
-    ensures { (p : Program) → IsDirectory p directory.now → IfOk result (λ types. types.items ≡ params_held p params.now) }
+    ensures { (p : ProgramText) → IsDirectory p directory.now → IfOk result (λ types. types.items ≡ params_held p params.now) }
 {
     let mut types = Vec::new(alloc);
     for param in params {
@@ -39,7 +39,7 @@ fn add_messages(
     messages: &[Message],
     told: &mut Vec<Vec<HeapType>>,
 ) -> Result<(), AllocError>
-    ensures { (p : Program) → IsDirectory p directory.now
+    ensures { (p : ProgramText) → IsDirectory p directory.now
         → OnOk result (type_lists told.new.items ≡ type_lists told.old.items ++ map (brought p) (map message_tree messages.now)) }
 {
     for message in messages {
@@ -55,7 +55,7 @@ fn add_members(
     members: &[Member],
     told: &mut Vec<Vec<HeapType>>,
 ) -> Result<(), AllocError>
-    ensures { (p : Program) → IsDirectory p directory.now → OnOk result (type_lists told.new.items
+    ensures { (p : ProgramText) → IsDirectory p directory.now → OnOk result (type_lists told.new.items
         ≡ type_lists told.old.items ++ map (brought p) (flat_map message_among (map member_tree members.now))) }
 {
     for member in members {
@@ -73,7 +73,7 @@ pub(crate) fn add_brought(
     definition: &Definition,
     told: &mut Vec<Vec<HeapType>>,
 ) -> Result<(), AllocError>
-    ensures { (p : Program) → IsDirectory p directory.now → OnOk result (type_lists told.new.items
+    ensures { (p : ProgramText) → IsDirectory p directory.now → OnOk result (type_lists told.new.items
         ≡ type_lists told.old.items ++ map (brought p) (flat_map messages_of (contract_of (definition_tree definition.now)))) }
 {
     if let Definition::Contract(contract) = definition {

@@ -8,10 +8,10 @@ ghost use Rattle.program.specs.Statements.{call_model};
 ghost use Rattle.resolving.specs.Around.{IsAround, callee_model, program_in};
 ghost use Rattle.resolving.specs.Callees as model;
 ghost use Rattle.resolving.specs.Callees.{method_at, method_of, member_callee, called_name};
-ghost use Rattle.resolving.specs.Frames.{IsFrame};
-ghost use Rattle.resolving.specs.Locals.{Frame, local_named};
+ghost use Rattle.resolving.specs.Frames.{IsLocalFrame};
+ghost use Rattle.resolving.specs.Locals.{LocalFrame, local_named};
 ghost use Rattle.resolving.specs.Reads.{reads};
-ghost use Rattle.resolving.specs.Steps.{AddsReads, Tells, TellsCall};
+ghost use Rattle.resolving.specs.Steps.{AddsReads, TellsStatement, TellsCall};
 ghost use Rattle.resolving.specs.Plain as told;
 ghost use Rattle.resolving.specs.Plain.{argument_reads, call_told, given};
 
@@ -28,7 +28,7 @@ use tree::{Expression, Method, Parameter};
 
 /// A method, and its number.
 #[derive(Clone, Copy)]
-pub(crate) struct Callee<'a> {
+pub(crate) struct NumberedMethod<'a> {
     pub(crate) id: MethodId,
     pub(crate) method: &'a Method,
 }
@@ -39,7 +39,7 @@ fn method_at<'a>(
     around: &Around<'_, 'a>,
     class: usize,
     name: Span,
-) -> Option<Callee<'a>>
+) -> Option<NumberedMethod<'a>>
     ensures { (items : List ItemTree) (own : ℕ) → IsAround (program_in text.now items) own around.now
         → option_map callee_model result ≡ method_at (program_in text.now items) class name }
 {
@@ -47,7 +47,7 @@ fn method_at<'a>(
     let item = around.items.get(class)?;
     let method = methods_of(&item.definition).get(place)?;
     let before = around.directory.before.get(class)?;
-    Some(Callee {
+    Some(NumberedMethod {
         id: MethodId((before.methods + place) as u32),
         method,
     })
@@ -59,7 +59,7 @@ fn method_of<'a>(
     around: &Around<'_, 'a>,
     class: Span,
     name: Span,
-) -> Option<Callee<'a>>
+) -> Option<NumberedMethod<'a>>
     ensures { (items : List ItemTree) (own : ℕ) → IsAround (program_in text.now items) own around.now
         → option_map callee_model result ≡ method_of (program_in text.now items) class name }
 {
@@ -74,9 +74,9 @@ fn member_callee<'a>(
     locals: &Locals<'_>,
     class: Span,
     name: Span,
-) -> Option<Callee<'a>>
-    ensures { (items : List ItemTree) (own : ℕ) (f : Frame) → IsAround (program_in text.now items) own around.now
-        → IsFrame text.now f locals.now → option_map callee_model result
+) -> Option<NumberedMethod<'a>>
+    ensures { (items : List ItemTree) (own : ℕ) (f : LocalFrame) → IsAround (program_in text.now items) own around.now
+        → IsLocalFrame text.now f locals.now → option_map callee_model result
         ≡ member_callee (program_in text.now items) (local_named text.now f.locals class) class name }
 {
     if locals.is_in_scope(text, class) {
@@ -91,9 +91,9 @@ fn callee_of<'a>(
     around: &Around<'_, 'a>,
     locals: &Locals<'_>,
     call: &tree::Call,
-) -> Option<Callee<'a>>
-    ensures { (items : List ItemTree) (own : ℕ) (f : Frame)
-        → IsAround (program_in text.now items) own around.now → IsFrame text.now f locals.now
+) -> Option<NumberedMethod<'a>>
+    ensures { (items : List ItemTree) (own : ℕ) (f : LocalFrame)
+        → IsAround (program_in text.now items) own around.now → IsLocalFrame text.now f locals.now
         → option_map callee_model result ≡ model.callee (program_in text.now items) own f.locals (call_tree call.now) }
 {
     match call.member {
@@ -151,7 +151,7 @@ fn arguments_of(
     parameters: &[Parameter],
     arguments: &[Expression],
 ) -> Result<Vec<Argument>, AllocError>
-    ensures { (items : List ItemTree) (own : ℕ) (f : Frame) → IsFrame text.now f locals.now → IfOk result (λ list.
+    ensures { (items : List ItemTree) (own : ℕ) (f : LocalFrame) → IsLocalFrame text.now f locals.now → IfOk result (λ list.
         list.items ≡ told.arguments (program_in text.now items) own f parameters.now (map expression_tree arguments.now)) }
 {
     let mut given = Vec::new(alloc);
@@ -175,10 +175,10 @@ fn call_of(
     text: &[u8],
     locals: &Locals<'_>,
     call: &tree::Call,
-    callee: Callee<'_>,
+    callee: NumberedMethod<'_>,
     after: ResultUse,
 ) -> Result<Call, AllocError>
-    ensures { (items : List ItemTree) (own : ℕ) (f : Frame) → IsFrame text.now f locals.now
+    ensures { (items : List ItemTree) (own : ℕ) (f : LocalFrame) → IsLocalFrame text.now f locals.now
         → IfOk result (λ c. call_model c ≡ told.call_of (program_in text.now items) own f
         (call_tree call.now) after.target after.behind.items (callee_model callee.entry)) }
 {
@@ -225,7 +225,7 @@ pub(crate) fn tell_call(
     after: ResultUse,
 ) -> Result<Statement, AllocError>
     ensures { (items : List ItemTree) (own : ℕ) → IsAround (program_in text.now items) own around.now
-        → IfOk result (Tells text.now locals.now
+        → IfOk result (TellsStatement text.now locals.now
         (λ f. told.called (program_in text.now items) own f (call_tree call.now) after.target after.behind.items)) }
 {
     match tell_called(text, around, locals, call, after)? {
@@ -241,7 +241,7 @@ pub(crate) fn tell_start(
     locals: &Locals<'_>,
     call: &tree::Call,
 ) -> Result<Statement, AllocError>
-    ensures { (items : List ItemTree) (own : ℕ) → IsAround (program_in text.now items) own around.now → IfOk result (Tells
+    ensures { (items : List ItemTree) (own : ℕ) → IsAround (program_in text.now items) own around.now → IfOk result (TellsStatement
         text.now locals.now (λ f. told.started (program_in text.now items) own f (call_tree call.now))) }
 {
     let behind = Vec::new(around.alloc);

@@ -3,12 +3,12 @@
 ghost use Rattle.std.specs.Prelude.{◌≡◌, ◌++◌, ℕ, List, IfOk, OnOk, option_map, slice_get};
 ghost use Rattle.tree.specs.Trees.{ItemTree};
 ghost use Rattle.declarations.specs.Types.{brought_type};
-ghost use Rattle.declarations.specs.Program.{Program};
+ghost use Rattle.declarations.specs.Program.{ProgramText};
 ghost use Rattle.resolving.specs.Around.{IsAround, meant_model, program_in};
 ghost use Rattle.resolving.specs.Binds as model;
-ghost use Rattle.resolving.specs.Frames.{IsFrame, number_model};
-ghost use Rattle.resolving.specs.Locals.{Frame};
-ghost use Rattle.resolving.specs.Steps.{IsBound, IsTold};
+ghost use Rattle.resolving.specs.Frames.{IsLocalFrame, number_model};
+ghost use Rattle.resolving.specs.Locals.{LocalFrame};
+ghost use Rattle.resolving.specs.Steps.{AddsBinds, IsResolvedPiece};
 ghost use Rattle.resolving.specs.Told as told;
 
 use crate::around::Around;
@@ -22,7 +22,7 @@ use tree::{Bind, MessageParameter};
 
 /// The endpoint of a case.
 pub(crate) fn case_endpoint(text: &[u8], locals: &Locals<'_>, name: Span) -> Mention
-    ensures { (items : List ItemTree) (f : Frame) → IsFrame text.now f locals.now
+    ensures { (items : List ItemTree) (f : LocalFrame) → IsLocalFrame text.now f locals.now
         → result ≡ told.case_endpoint (program_in text.now items) f name }
 {
     match locals.mention(text, name) {
@@ -42,8 +42,8 @@ pub(crate) fn awaited_message<'a>(
     name: Span,
     awaited: tree::Awaited,
 ) -> Option<Meant<'a>>
-    ensures { (items : List ItemTree) (own : ℕ) (f : Frame)
-        → IsAround (program_in text.now items) own around.now → IsFrame text.now f locals.now
+    ensures { (items : List ItemTree) (own : ℕ) (f : LocalFrame)
+        → IsAround (program_in text.now items) own around.now → IsLocalFrame text.now f locals.now
         → option_map meant_model result ≡ told.awaited_message (program_in text.now items) f name awaited }
 {
     let tree::Awaited::Message(word) = awaited else {
@@ -88,7 +88,7 @@ fn brought_type(
     around: &Around<'_, '_>,
     param: Option<&MessageParameter>,
 ) -> declarations::ValueType
-    ensures { (p : Program) (own : ℕ) → IsAround p own around.now → result ≡ brought_type p (option_map (λ x. x.now) param.entry) }
+    ensures { (p : ProgramText) (own : ℕ) → IsAround p own around.now → result ≡ brought_type p (option_map (λ x. x.now) param.entry) }
 {
     match param {
         Some(param) => around.directory.scope.type_meant(param.ty),
@@ -102,7 +102,7 @@ fn bind_declaration(
     param: Option<&MessageParameter>,
     bind: Bind,
 ) -> Declaration
-    ensures { (p : Program) (own : ℕ) → IsAround p own around.now
+    ensures { (p : ProgramText) (own : ℕ) → IsAround p own around.now
         → result ≡ model.bind_declaration p (option_map (λ x. x.now) param.entry) bind }
 {
     let name = bind.name;
@@ -147,8 +147,8 @@ fn declare_bind<'a>(
     bind: Bind,
     targets: &mut Vec<VarId>,
 ) -> Result<(), AllocError>
-    ensures { (items : List ItemTree) (own : ℕ) (f : Frame) → IsAround (program_in text.now items) own around.now
-        → IsFrame text.now f locals.old → OnOk result (IsBound text.now targets.old.items targets.new.items
+    ensures { (items : List ItemTree) (own : ℕ) (f : LocalFrame) → IsAround (program_in text.now items) own around.now
+        → IsLocalFrame text.now f locals.old → OnOk result (AddsBinds text.now targets.old.items targets.new.items
         locals.new (model.bind_told (program_in text.now items) (option_map (λ x. x.now) param.entry) bind f)) }
 {
     let declaration = bind_declaration(around, param, bind);
@@ -173,8 +173,8 @@ pub(crate) fn declare_binds<'a>(
     params: &[MessageParameter],
     binds: &[Bind],
 ) -> Result<Vec<VarId>, AllocError>
-    ensures { (items : List ItemTree) (own : ℕ) (f : Frame) → IsAround (program_in text.now items) own around.now
-        → IsFrame text.now f locals.old → IfOk result (λ bound. IsTold text.now
+    ensures { (items : List ItemTree) (own : ℕ) (f : LocalFrame) → IsAround (program_in text.now items) own around.now
+        → IsLocalFrame text.now f locals.old → IfOk result (λ bound. IsResolvedPiece text.now
         (model.binds_told (program_in text.now items) params.now binds.now f) bound.items locals.new) }
 {
     let mut bound = Vec::new(around.alloc);

@@ -12,19 +12,19 @@ use tree::{Definition, Item};
 
 /// How many methods, contracts and structs stand before an item in the text.
 #[derive(Clone, Copy)]
-pub(crate) struct Before {
+pub(crate) struct ItemsBefore {
     pub(crate) methods: usize,
     pub(crate) contracts: usize,
     pub(crate) structs: usize,
 }
 
 /// What stands before each of these items.
-pub(crate) fn count_items(alloc: Global, items: &[Item]) -> Result<Vec<Before>, AllocError>
+pub(crate) fn count_items(alloc: Global, items: &[Item]) -> Result<Vec<ItemsBefore>, AllocError>
     requires few { length (all_methods (map item_tree items.now)) ≤ MOST_METHODS }
     ensures { IfOk result (λ before. before.items ≡ counts (map item_tree items.now)) }
 {
     let mut before = Vec::new(alloc);
-    let mut so_far = Before {
+    let mut so_far = ItemsBefore {
         methods: 0,
         contracts: 0,
         structs: 0,

@@ -4,8 +4,8 @@ ghost use Rattle.std.specs.Prelude.{◌≡◌, ℕ, List, option_and_then};
 ghost use Rattle.tree.specs.Trees.{ItemTree};
 ghost use Rattle.resolving.specs.Around.{IsAround, program_in};
 ghost use Rattle.resolving.specs.Fields as fields;
-ghost use Rattle.resolving.specs.Frames.{IsFrame};
-ghost use Rattle.resolving.specs.Locals.{Frame, local_named};
+ghost use Rattle.resolving.specs.Frames.{IsLocalFrame};
+ghost use Rattle.resolving.specs.Locals.{LocalFrame, local_named};
 ghost use Rattle.resolving.specs.Plain as told;
 
 use crate::around::Around;
@@ -21,8 +21,8 @@ fn exchanged_field(
     locals: &Locals<'_>,
     exchange: Exchange,
 ) -> Option<usize>
-    ensures { (items : List ItemTree) (own : ℕ) (f : Frame) → IsAround (program_in text.now items) own around.now
-        → IsFrame text.now f locals.now
+    ensures { (items : List ItemTree) (own : ℕ) (f : LocalFrame) → IsAround (program_in text.now items) own around.now
+        → IsLocalFrame text.now f locals.now
         → result ≡ option_and_then (λ v. fields.field_number (program_in text.now items) v.ty exchange.field)
         (local_named text.now f.locals exchange.holder) }
 {
@@ -37,8 +37,8 @@ fn exchange_of(
     locals: &Locals<'_>,
     exchange: Exchange,
 ) -> Option<Action>
-    ensures { (items : List ItemTree) (own : ℕ) (f : Frame)
-        → IsAround (program_in text.now items) own around.now → IsFrame text.now f locals.now
+    ensures { (items : List ItemTree) (own : ℕ) (f : LocalFrame)
+        → IsAround (program_in text.now items) own around.now → IsLocalFrame text.now f locals.now
         → result ≡ told.exchange_found (program_in text.now items) own f exchange }
 {
     let field = exchanged_field(text, around, locals, exchange)?;
@@ -59,8 +59,8 @@ pub(crate) fn exchange_action(
     locals: &Locals<'_>,
     exchange: Exchange,
 ) -> Action
-    ensures { (items : List ItemTree) (own : ℕ) (f : Frame) → IsAround (program_in text.now items) own around.now
-        → IsFrame text.now f locals.now → result ≡ told.exchanged (program_in text.now items) own f exchange }
+    ensures { (items : List ItemTree) (own : ℕ) (f : LocalFrame) → IsAround (program_in text.now items) own around.now
+        → IsLocalFrame text.now f locals.now → result ≡ told.exchanged (program_in text.now items) own f exchange }
 {
     match exchange_of(text, around, locals, exchange) {
         Some(action) => action,

@@ -3,7 +3,7 @@
 ghost use Rattle.std.specs.Prelude.{◌≡◌, ℕ, IfOk, List, length, ltb, map};
 ghost use Rattle.std.specs.List.{filter};
 ghost use Rattle.tree.specs.Trees.{item_tree};
-ghost use Rattle.declarations.specs.Program.{Program};
+ghost use Rattle.declarations.specs.Program.{ProgramText};
 ghost use Rattle.program.specs.Programs.{type_lists};
 ghost use Rattle.resolving.specs.Around.{IsAround, IsDirectory, indices_held, program_in, owning_indices};
 ghost use Rattle.resolving.specs.Fields as model;
@@ -29,7 +29,7 @@ fn owning_among(
     directory: &Directory<'_, '_>,
     fields: &[Field],
 ) -> Result<Owning, AllocError>
-    ensures { (p : Program) → IsDirectory p directory.now → IfOk result (λ owning.
+    ensures { (p : ProgramText) → IsDirectory p directory.now → IfOk result (λ owning.
         (owning.types.items ≡ fields_held p fields.now) × (owning.indices.items ≡ indices_held p fields.now)) }
 {
     let mut types = Vec::new(alloc);
@@ -45,7 +45,7 @@ fn owning_among(
 
 /// The fields that own of a program: what each struct has in them, in order of the text, and their places in each item.
 #[derive(Drop)]
-pub(crate) struct Fields {
+pub(crate) struct OwningFields {
     pub(crate) structs: Vec<Vec<HeapType>>,
     pub(crate) indices: Vec<Vec<usize>>,
 }
@@ -55,7 +55,7 @@ pub(crate) fn fields_of(
     alloc: Global,
     directory: &Directory<'_, '_>,
     items: &[Item],
-) -> Result<Fields, AllocError>
+) -> Result<OwningFields, AllocError>
     ensures { (text : List ℕ) → IsDirectory (program_in text (map item_tree items.now)) directory.now → IfOk result (λ fields.
         (type_lists fields.structs.items ≡ structs_told (program_in text (map item_tree items.now)))
         × (map (λ x. x.items) fields.indices.items
@@ -72,7 +72,7 @@ pub(crate) fn fields_of(
             indices.push(Vec::new(alloc))?;
         }
     }
-    Ok(Fields { structs, indices })
+    Ok(OwningFields { structs, indices })
 }
 
 /// How many of these are less than this one.
@@ -88,7 +88,7 @@ pub(crate) fn field_number(
     ty: declarations::ValueType,
     field: Span,
 ) -> Option<usize>
-    ensures { (p : Program) (own : ℕ) → IsAround p own around.now
+    ensures { (p : ProgramText) (own : ℕ) → IsAround p own around.now
         → result ≡ model.field_number p ty field }
 {
     let declarations::ValueType::Pointer(item) = ty else {

@@ -4,8 +4,8 @@ ghost use Rattle.std.specs.Prelude.{◌≡◌, ◌++◌, ℕ, List, IfOk, OnOk, 
 ghost use Rattle.tree.specs.ExpressionTrees.{expression_tree};
 ghost use Rattle.tree.specs.Trees.{ItemTree};
 ghost use Rattle.resolving.specs.Around.{program_in};
-ghost use Rattle.resolving.specs.Frames.{IsFrame};
-ghost use Rattle.resolving.specs.Locals.{Frame};
+ghost use Rattle.resolving.specs.Frames.{IsLocalFrame};
+ghost use Rattle.resolving.specs.Locals.{LocalFrame};
 ghost use Rattle.resolving.specs.Plain.{lone, payloads};
 ghost use Rattle.resolving.specs.Reads.{listed};
 
@@ -16,7 +16,7 @@ use tree::{Expression, name_alone};
 
 /// The name that an expression is alone, where it means a variable of the exchange heap.
 pub(crate) fn alone(text: &[u8], locals: &Locals<'_>, expression: &Expression) -> Option<Mention>
-    ensures { (items : List ItemTree) (own : ℕ) (f : Frame) → IsFrame text.now f locals.now
+    ensures { (items : List ItemTree) (own : ℕ) (f : LocalFrame) → IsLocalFrame text.now f locals.now
         → result ≡ lone (program_in text.now items) own f (expression_tree expression.now) }
 {
     let name = name_alone(expression)?;
@@ -43,7 +43,7 @@ pub(crate) fn payloads_of(
     locals: &Locals<'_>,
     arguments: &[Expression],
 ) -> Result<Vec<Mention>, AllocError>
-    ensures { (items : List ItemTree) (own : ℕ) (f : Frame) → IsFrame text.now f locals.now → IfOk result
+    ensures { (items : List ItemTree) (own : ℕ) (f : LocalFrame) → IsLocalFrame text.now f locals.now → IfOk result
         (λ list. list.items ≡ payloads (program_in text.now items) own f (map expression_tree arguments.now)) }
 {
     let mut payloads = Vec::new(alloc);

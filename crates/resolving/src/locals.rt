@@ -4,10 +4,11 @@ ghost use Rattle.std.specs.Prelude.{◌≡◌, ◌-◌, ℕ, List, length, map, 
 ghost use Rattle.tree.specs.Trees.{ItemTree};
 ghost use Rattle.program.specs.Methods.{variable_model};
 ghost use Rattle.resolving.specs.Around.{program_in};
-ghost use Rattle.resolving.specs.Frames.{IsFrame, local_model, number_model};
+ghost use Rattle.resolving.specs.Frames.{IsLocalFrame, local_model, number_model};
 ghost use Rattle.resolving.specs.Messages.{contract_of, end_contract};
 ghost use Rattle.resolving.specs.Methods.{no_variables};
-ghost use Rattle.resolving.specs.Locals.{Frame, local_named, mention, next_number, number_of, entered, counted, declared, declared_heap};
+ghost use Rattle.resolving.specs.Locals.{LocalFrame, local_named, mention, next_number, number_of};
+ghost use Rattle.resolving.specs.Locals.{entered, counted, declared, declared_heap};
 
 use program::{HeapType, Mention, Role, VarId, Variable};
 use source::Span;
@@ -45,7 +46,7 @@ pub(crate) struct Locals<'a> {
 impl<'a> Locals<'a> {
     /// None.
     pub(crate) fn new(alloc: Global) -> Locals<'a>
-        ensures { (text : List ℕ) → IsFrame text no_variables result }
+        ensures { (text : List ℕ) → IsLocalFrame text no_variables result }
     {
         Locals {
             names: Table::new(alloc),
@@ -57,28 +58,28 @@ impl<'a> Locals<'a> {
 
     /// How many are in scope.
     pub(crate) fn len(&self) -> usize
-        ensures { (text : List ℕ) (f : Frame) → IsFrame text f self.now → result ≡ length f.locals }
+        ensures { (text : List ℕ) (f : LocalFrame) → IsLocalFrame text f self.now → result ≡ length f.locals }
     {
         self.list.len()
     }
 
     /// The last one of the exchange heap in scope.
     pub(crate) fn last(&self) -> Option<VarId>
-        ensures { (text : List ℕ) (f : Frame) → IsFrame text f self.now → result ≡ option_map number_of f.last }
+        ensures { (text : List ℕ) (f : LocalFrame) → IsLocalFrame text f self.now → result ≡ option_map number_of f.last }
     {
         self.last
     }
 
     /// Those of the exchange heap, in order of declaration.
     pub(crate) fn into_variables(self) -> Vec<Variable>
-        ensures { (text : List ℕ) (f : Frame) → IsFrame text f self.entry → map variable_model result.items ≡ f.variables }
+        ensures { (text : List ℕ) (f : LocalFrame) → IsLocalFrame text f self.entry → map variable_model result.items ≡ f.variables }
     {
         self.variables
     }
 
     /// The variable of this name.
     fn find(&self, text: &[u8], name: Span) -> Option<Local>
-        ensures { (f : Frame) → IsFrame text.now f self.now
+        ensures { (f : LocalFrame) → IsLocalFrame text.now f self.now
             → option_map local_model result ≡ local_named text.now f.locals name }
     {
         let place = self.names.find(name.slice(text))?;
@@ -88,7 +89,7 @@ impl<'a> Locals<'a> {
 
     /// Whether a variable in scope has this name.
     pub(crate) fn is_in_scope(&self, text: &[u8], name: Span) -> bool
-        ensures { (f : Frame) → IsFrame text.now f self.now
+        ensures { (f : LocalFrame) → IsLocalFrame text.now f self.now
             → result ≡ is_some (local_named text.now f.locals name) }
     {
         self.find(text, name).is_some()
@@ -96,7 +97,7 @@ impl<'a> Locals<'a> {
 
     /// A name, where it means a variable of the exchange heap.
     pub(crate) fn mention(&self, text: &[u8], name: Span) -> Option<Mention>
-        ensures { (f : Frame) → IsFrame text.now f self.now → result ≡ mention text.now f.locals name }
+        ensures { (f : LocalFrame) → IsLocalFrame text.now f self.now → result ≡ mention text.now f.locals name }
     {
         let variable = self.find(text, name)?.number?;
         Some(Mention {
@@ -107,7 +108,7 @@ impl<'a> Locals<'a> {
 
     /// The type of the variable that a name means.
     pub(crate) fn ty(&self, text: &[u8], name: Span) -> Option<declarations::ValueType>
-        ensures { (f : Frame) → IsFrame text.now f self.now
+        ensures { (f : LocalFrame) → IsLocalFrame text.now f self.now
             → result ≡ option_map (λ v. v.ty) (local_named text.now f.locals name) }
     {
         let local = self.find(text, name)?;
@@ -116,7 +117,7 @@ impl<'a> Locals<'a> {
 
     /// The place of the contract of the endpoint that a name means.
     pub(crate) fn contract(&self, text: &[u8], name: Span) -> Option<usize>
-        ensures { (items : List ItemTree) (f : Frame) → IsFrame text.now f self.now
+        ensures { (items : List ItemTree) (f : LocalFrame) → IsLocalFrame text.now f self.now
             → result ≡ end_contract (program_in text.now items) f.locals name }
     {
         contract_of(self.find(text, name)?.ty)
@@ -124,7 +125,7 @@ impl<'a> Locals<'a> {
 
     /// The number of a variable that is declared next, where it is one of the exchange heap and holds this.
     pub(crate) fn next_number(&self, held: Option<HeapType>) -> Option<VarId>
-        ensures { (text : List ℕ) (f : Frame) → IsFrame text f self.now → number_model result ≡ next_number held f }
+        ensures { (text : List ℕ) (f : LocalFrame) → IsLocalFrame text f self.now → number_model result ≡ next_number held f }
     {
         match held {
             Some(_) => Some(VarId(self.variables.len())),
@@ -139,8 +140,8 @@ impl<'a> Locals<'a> {
         text: &'a [u8],
         declaration: Declaration,
     ) -> Result<(), AllocError>
-        ensures { (f : Frame) → IsFrame text.now f self.old
-            → OnOk result (IsFrame text.now (declared text.now declaration f) self.new) }
+        ensures { (f : LocalFrame) → IsLocalFrame text.now f self.old
+            → OnOk result (IsLocalFrame text.now (declared text.now declaration f) self.new) }
     {
         match declaration.held {
             Some(held) => self.declare_heap(alloc, text, declaration, held),
@@ -156,8 +157,8 @@ impl<'a> Locals<'a> {
         declaration: Declaration,
         held: HeapType,
     ) -> Result<(), AllocError>
-        ensures { (f : Frame) → IsFrame text.now f self.old
-            → OnOk result (IsFrame text.now (declared_heap text.now declaration held f) self.new) }
+        ensures { (f : LocalFrame) → IsLocalFrame text.now f self.old
+            → OnOk result (IsLocalFrame text.now (declared_heap text.now declaration held f) self.new) }
     {
         let number = VarId(self.variables.len());
         self.enter(alloc, text, declaration, Some(number))?;
@@ -174,8 +175,8 @@ impl<'a> Locals<'a> {
         declaration: Declaration,
         number: Option<VarId>,
     ) -> Result<(), AllocError>
-        ensures { (f : Frame) → IsFrame text.now f self.old
-            → OnOk result (IsFrame text.now (record {
+        ensures { (f : LocalFrame) → IsLocalFrame text.now f self.old
+            → OnOk result (IsLocalFrame text.now (record {
               locals = entered text.now declaration
                   (number_model number) f.locals;
               last = f.last;
@@ -201,8 +202,8 @@ impl<'a> Locals<'a> {
         declaration: Declaration,
         ty: HeapType,
     ) -> Result<(), AllocError>
-        ensures { (f : Frame) → IsFrame text.now f self.old
-            → OnOk result (IsFrame text.now (record {
+        ensures { (f : LocalFrame) → IsLocalFrame text.now f self.old
+            → OnOk result (IsLocalFrame text.now (record {
               locals = f.locals;
               last = f.last;
               variables = counted text.now declaration ty f.last f.variables;
@@ -221,7 +222,7 @@ impl<'a> Locals<'a> {
 
     /// Leaves a scope: the first so many stay, and the last of the exchange heap among them is this.
     pub(crate) fn leave(&mut self, text: &[u8], outer: usize, last: Option<VarId>)
-        ensures { (f : Frame) → IsFrame text.now f self.old → IsFrame text.now
+        ensures { (f : LocalFrame) → IsLocalFrame text.now f self.old → IsLocalFrame text.now
             (record { locals = take outer f.locals; last = number_model last; variables = f.variables }) self.new }
     {
         while self.list.len() > outer {
@@ -232,7 +233,7 @@ impl<'a> Locals<'a> {
 
     /// Takes the last variable out of scope.
     fn drop_last(&mut self, text: &[u8])
-        ensures frame { (f : Frame) → IsFrame text.now f self.old → IsFrame text.now
+        ensures frame { (f : LocalFrame) → IsLocalFrame text.now f self.old → IsLocalFrame text.now
             (record { locals = take (length f.locals - 1) f.locals; last = f.last; variables = f.variables }) self.new }
         ensures shorter { length self.new.list.items ≡ length self.old.list.items - 1 }
     {

@@ -1,7 +1,7 @@
 //! The messages that names mean, and their numbers.
 
 ghost use Rattle.std.specs.Prelude.{◌≡◌, ℕ, option_map};
-ghost use Rattle.declarations.specs.Program.{Program};
+ghost use Rattle.declarations.specs.Program.{ProgramText};
 ghost use Rattle.resolving.specs.Around.{IsDirectory, meant_model};
 ghost use Rattle.resolving.specs.Messages as model;
 
@@ -20,7 +20,7 @@ pub(crate) struct Meant<'a> {
 
 /// The number of the message at this index in the contract that is the item at the first one.
 fn message_number(directory: &Directory<'_, '_>, contract: usize, index: usize) -> Option<MessageId>
-    ensures { (p : Program) → IsDirectory p directory.now → result ≡ model.message_number p contract index }
+    ensures { (p : ProgramText) → IsDirectory p directory.now → result ≡ model.message_number p contract index }
 {
     let numbered = contract_at(directory, contract)?.messages.get(index)?;
     Some(numbered.id)
@@ -32,7 +32,7 @@ fn message_there<'a>(
     contract: usize,
     index: usize,
 ) -> Option<Meant<'a>>
-    ensures { (p : Program) → IsDirectory p directory.now → option_map meant_model result ≡ model.message_there p contract index }
+    ensures { (p : ProgramText) → IsDirectory p directory.now → option_map meant_model result ≡ model.message_there p contract index }
 {
     let message = directory.scope.message_at(contract, index)?;
     let id = message_number(directory, contract, index)?;
@@ -45,7 +45,7 @@ pub(crate) fn message_named<'a>(
     contract: usize,
     name: Span,
 ) -> Option<Meant<'a>>
-    ensures { (p : Program) → IsDirectory p directory.now → option_map meant_model result ≡ model.message_named p contract name }
+    ensures { (p : ProgramText) → IsDirectory p directory.now → option_map meant_model result ≡ model.message_named p contract name }
 {
     let place = directory.scope.message_index(contract, name)?;
     message_there(directory, contract, place)
@@ -57,7 +57,7 @@ pub(crate) fn message_sent<'a>(
     contract: usize,
     word: Span,
 ) -> Option<Meant<'a>>
-    ensures { (p : Program) → IsDirectory p directory.now → option_map meant_model result ≡ model.message_sent p contract word }
+    ensures { (p : ProgramText) → IsDirectory p directory.now → option_map meant_model result ≡ model.message_sent p contract word }
 {
     let place = directory.scope.sent_index(contract, word)?;
     message_there(directory, contract, place)

@@ -15,8 +15,8 @@ ghost use Rattle.resolving.specs.Brought.{brought, messages_told};
 ghost use Rattle.program.specs.Programs.{type_lists};
 ghost use Rattle.resolving.specs.Callees.{all_methods};
 ghost use Rattle.resolving.specs.Fields.{structs_told};
-ghost use Rattle.resolving.specs.Frames.{IsFrame};
-ghost use Rattle.resolving.specs.Locals.{Frame};
+ghost use Rattle.resolving.specs.Frames.{IsLocalFrame};
+ghost use Rattle.resolving.specs.Locals.{LocalFrame};
 ghost use Rattle.resolving.specs.Methods.{methods_told, role_of, parameter_declaration, parameters_frame, method_told, takes_some};
 
 use crate::around::{Around, Directory};
@@ -46,7 +46,7 @@ fn role_of(parameter: Parameter) -> Role
 
 /// What a parameter declares.
 fn parameter_declaration(around: &Around<'_, '_>, parameter: Parameter) -> Declaration
-    ensures { (p : model.Program) (own : ℕ) → IsAround p own around.now → result ≡ parameter_declaration p parameter }
+    ensures { (p : model.ProgramText) (own : ℕ) → IsAround p own around.now → result ≡ parameter_declaration p parameter }
 {
     Declaration {
         name: parameter.name,
@@ -73,9 +73,9 @@ fn declare_parameters<'a>(
     locals: &mut Locals<'a>,
     params: &[Parameter],
 ) -> Result<(), AllocError>
-    ensures { (items : List ItemTree) (own : ℕ) (f : Frame) → IsAround (program_in text.now items) own around.now
-        → IsFrame text.now f locals.old → OnOk result
-        (IsFrame text.now (parameters_frame (program_in text.now items) params.now f) locals.new) }
+    ensures { (items : List ItemTree) (own : ℕ) (f : LocalFrame) → IsAround (program_in text.now items) own around.now
+        → IsLocalFrame text.now f locals.old → OnOk result
+        (IsLocalFrame text.now (parameters_frame (program_in text.now items) params.now f) locals.new) }
 {
     for parameter in params {
         locals.declare(

@@ -5,12 +5,12 @@ ghost use Rattle.tree.specs.ExpressionTrees.{expression_tree, target_tree};
 ghost use Rattle.tree.specs.StatementTrees.{declare_tree, statement_tree};
 ghost use Rattle.tree.specs.Trees.{ItemTree};
 ghost use Rattle.tree.specs.Values.{value_tree};
-ghost use Rattle.declarations.specs.Program.{Program};
+ghost use Rattle.declarations.specs.Program.{ProgramText};
 ghost use Rattle.resolving.specs.Around.{IsAround, program_in};
-ghost use Rattle.resolving.specs.Frames.{IsFrame};
+ghost use Rattle.resolving.specs.Frames.{IsLocalFrame};
 ghost use Rattle.resolving.specs.Types.{type_held};
-ghost use Rattle.resolving.specs.Locals.{Frame, mention_of, next_number};
-ghost use Rattle.resolving.specs.Steps.{Tells};
+ghost use Rattle.resolving.specs.Locals.{LocalFrame, mention_of, next_number};
+ghost use Rattle.resolving.specs.Steps.{TellsStatement};
 ghost use Rattle.resolving.specs.Plain.{declaration_of, deleted, written, first_value, returned, plain_told, frame_behind};
 
 use crate::around::Around;
@@ -46,7 +46,7 @@ fn tell_assign(
     value: &Value,
 ) -> Result<Statement, AllocError>
     ensures { (items : List ItemTree) (own : ℕ) → IsAround (program_in text.now items) own around.now
-        → IfOk result (Tells text.now locals.now
+        → IfOk result (TellsStatement text.now locals.now
         (λ f. written (program_in text.now items) own f (target_tree target.now) (value_tree value.now))) }
 {
     match target {
@@ -75,8 +75,8 @@ fn declared_mention(
     locals: &Locals<'_>,
     declare: &Declare,
 ) -> Option<Mention>
-    ensures { (items : List ItemTree) (own : ℕ) (f : Frame) → IsAround (program_in text.now items) own around.now
-        → IsFrame text.now f locals.now → result ≡ option_map (mention_of declare.now.name)
+    ensures { (items : List ItemTree) (own : ℕ) (f : LocalFrame) → IsAround (program_in text.now items) own around.now
+        → IsLocalFrame text.now f locals.now → result ≡ option_map (mention_of declare.now.name)
         (next_number (type_held (program_in text.now items) declare.now.ty) f) }
 {
     let variable = locals.next_number(type_held(&around.directory, declare.ty))?;
@@ -93,7 +93,7 @@ fn tell_declare(
     locals: &Locals<'_>,
     declare: &Declare,
 ) -> Result<Statement, AllocError>
-    ensures { (items : List ItemTree) (own : ℕ) → IsAround (program_in text.now items) own around.now → IfOk result (Tells
+    ensures { (items : List ItemTree) (own : ℕ) → IsAround (program_in text.now items) own around.now → IfOk result (TellsStatement
         text.now locals.now (λ f. first_value (program_in text.now items) own f declare.now.name (next_number
         (type_held (program_in text.now items) declare.now.ty) f) (option_map value_tree declare.now.value))) }
 {
@@ -114,7 +114,7 @@ fn tell_return(
     place: Place,
     value: &Option<Box<Expression>>,
 ) -> Result<Statement, AllocError>
-    ensures { (items : List ItemTree) (own : ℕ) → IfOk result (Tells text.now locals.now
+    ensures { (items : List ItemTree) (own : ℕ) → IfOk result (TellsStatement text.now locals.now
         (λ f. returned (program_in text.now items) own f place (option_map (λ e. expression_tree e.value) value.now))) }
 {
     let scope = locals.last();
@@ -150,7 +150,7 @@ pub(crate) fn tell_plain(
     statement: &tree::Statement,
 ) -> Result<Statement, AllocError>
     ensures { (items : List ItemTree) (own : ℕ) → IsAround (program_in text.now items) own around.now
-        → IfOk result (Tells text.now locals.now
+        → IfOk result (TellsStatement text.now locals.now
         (λ f. plain_told (program_in text.now items) own f (statement_tree statement.now))) }
 {
     let alloc = around.alloc;
@@ -183,7 +183,7 @@ pub(crate) fn tell_plain(
 
 /// What a declaration declares.
 fn declaration_of(around: &Around<'_, '_>, declare: &Declare) -> Declaration
-    ensures { (p : Program) (own : ℕ) → IsAround p own around.now → result ≡ declaration_of p (declare_tree declare.now) }
+    ensures { (p : ProgramText) (own : ℕ) → IsAround p own around.now → result ≡ declaration_of p (declare_tree declare.now) }
 {
     Declaration {
         name: declare.name,
@@ -200,8 +200,8 @@ pub(crate) fn declare_in<'a>(
     locals: &mut Locals<'a>,
     statement: &tree::Statement,
 ) -> Result<(), AllocError>
-    ensures { (items : List ItemTree) (own : ℕ) (f : Frame) → IsAround (program_in text.now items) own around.now
-        → IsFrame text.now f locals.old → OnOk result (IsFrame text.now
+    ensures { (items : List ItemTree) (own : ℕ) (f : LocalFrame) → IsAround (program_in text.now items) own around.now
+        → IsLocalFrame text.now f locals.old → OnOk result (IsLocalFrame text.now
         (frame_behind (program_in text.now items) own f (statement_tree statement.now)) locals.new) }
 {
     match statement {

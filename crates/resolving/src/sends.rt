@@ -6,9 +6,9 @@ ghost use Rattle.tree.specs.Trees.{ItemTree};
 ghost use Rattle.tree.specs.Values.{call_tree};
 ghost use Rattle.program.specs.Statements.{send_model};
 ghost use Rattle.resolving.specs.Around.{IsAround, meant_model, program_in};
-ghost use Rattle.resolving.specs.Frames.{IsFrame};
-ghost use Rattle.resolving.specs.Locals.{Frame};
-ghost use Rattle.resolving.specs.Steps.{Tells, TellsSend};
+ghost use Rattle.resolving.specs.Frames.{IsLocalFrame};
+ghost use Rattle.resolving.specs.Locals.{LocalFrame};
+ghost use Rattle.resolving.specs.Steps.{TellsStatement, TellsSend};
 ghost use Rattle.resolving.specs.Plain as told;
 
 use crate::around::Around;
@@ -24,7 +24,7 @@ use tree::{Call, NewChannel};
 
 /// What the names of a send mean: the endpoint, and the message that this word names.
 #[derive(Clone, Copy)]
-struct Sending<'a> {
+struct SendMeaning<'a> {
     endpoint: Mention,
     word: Span,
     meant: Meant<'a>,
@@ -36,9 +36,9 @@ fn send_of(
     text: &[u8],
     locals: &Locals<'_>,
     call: &Call,
-    sending: Sending<'_>,
+    sending: SendMeaning<'_>,
 ) -> Result<Send, AllocError>
-    ensures { (items : List ItemTree) (own : ℕ) (f : Frame) → IsFrame text.now f locals.now → IfOk result (λ s. send_model s
+    ensures { (items : List ItemTree) (own : ℕ) (f : LocalFrame) → IsLocalFrame text.now f locals.now → IfOk result (λ s. send_model s
         ≡ told.send_of (program_in text.now items) own f
         sending.entry.word (call_tree call.now) sending.entry.endpoint (meant_model sending.entry.meant)) }
 {
@@ -61,8 +61,8 @@ fn sent_by<'a>(
     call: &Call,
     word: Span,
 ) -> Option<Meant<'a>>
-    ensures { (items : List ItemTree) (own : ℕ) (f : Frame)
-        → IsAround (program_in text.now items) own around.now → IsFrame text.now f locals.now
+    ensures { (items : List ItemTree) (own : ℕ) (f : LocalFrame)
+        → IsAround (program_in text.now items) own around.now → IsLocalFrame text.now f locals.now
         → option_map meant_model result ≡ told.meant_by (program_in text.now items) f (call_tree call.now) word }
 {
     let contract = locals.contract(text, call.name)?;
@@ -89,7 +89,7 @@ fn tell_send(
     let Some(endpoint) = locals.mention(text, call.name) else {
         return Ok(None);
     };
-    let sending = Sending {
+    let sending = SendMeaning {
         endpoint,
         word,
         meant,
@@ -105,7 +105,7 @@ pub(crate) fn tell_stated(
     locals: &Locals<'_>,
     call: &Call,
 ) -> Result<Statement, AllocError>
-    ensures { (items : List ItemTree) (own : ℕ) → IsAround (program_in text.now items) own around.now → IfOk result (Tells
+    ensures { (items : List ItemTree) (own : ℕ) → IsAround (program_in text.now items) own around.now → IfOk result (TellsStatement
         text.now locals.now (λ f. told.stated_call (program_in text.now items) own f (call_tree call.now))) }
 {
     match tell_send(text, around, locals, call)? {
@@ -127,8 +127,8 @@ fn channel_of(
     locals: &Locals<'_>,
     channel: NewChannel,
 ) -> Option<Action>
-    ensures { (items : List ItemTree) (own : ℕ) (f : Frame)
-        → IsAround (program_in text.now items) own around.now → IsFrame text.now f locals.now
+    ensures { (items : List ItemTree) (own : ℕ) (f : LocalFrame)
+        → IsAround (program_in text.now items) own around.now → IsLocalFrame text.now f locals.now
         → result ≡ told.channel_found (program_in text.now items) own f channel }
 {
     let contract = contract_named(&around.directory, channel.contract)?;
@@ -149,8 +149,8 @@ pub(crate) fn channel_action(
     locals: &Locals<'_>,
     channel: NewChannel,
 ) -> Action
-    ensures { (items : List ItemTree) (own : ℕ) (f : Frame) → IsAround (program_in text.now items) own around.now
-        → IsFrame text.now f locals.now → result ≡ told.channel (program_in text.now items) own f channel }
+    ensures { (items : List ItemTree) (own : ℕ) (f : LocalFrame) → IsAround (program_in text.now items) own around.now
+        → IsLocalFrame text.now f locals.now → result ≡ told.channel (program_in text.now items) own f channel }
 {
     match channel_of(text, around, locals, channel) {
         Some(action) => action,

@@ -4,9 +4,9 @@ ghost use Rattle.std.specs.Prelude.{◌≡◌, ℕ, List, map, IfOk, option_map}
 ghost use Rattle.program.specs.Statements as seen;
 ghost use Rattle.program.specs.Statements.{statement_model, block_model, test_model, if_model, case_model};
 ghost use Rattle.resolving.specs.Around.{IsAround, program_in};
-ghost use Rattle.resolving.specs.Frames.{IsFrame, staying_model};
-ghost use Rattle.resolving.specs.Locals.{Frame};
-ghost use Rattle.resolving.specs.Steps.{IsTold, walked};
+ghost use Rattle.resolving.specs.Frames.{IsLocalFrame, staying_model};
+ghost use Rattle.resolving.specs.Locals.{LocalFrame};
+ghost use Rattle.resolving.specs.Steps.{IsResolvedPiece, walked};
 ghost use Rattle.resolving.specs.Plain.{plain_told, frame_behind};
 ghost use Rattle.resolving.specs.Told.{follow, statement_told, statements_told, block_told, test_told, others_told, case_told, cases_told};
 ghost use Rattle.tree.specs.Trees.{ItemTree};
@@ -32,8 +32,8 @@ fn tell_alone<'a>(
     locals: &mut Locals<'a>,
     statement: &tree::Statement,
 ) -> Result<Statement, AllocError>
-    ensures { (items : List ItemTree) (own : ℕ) (f : Frame) → IsAround (program_in text.now items) own around.now
-        → IsFrame text.now f locals.old → IfOk result (λ s. IsTold text.now
+    ensures { (items : List ItemTree) (own : ℕ) (f : LocalFrame) → IsAround (program_in text.now items) own around.now
+        → IsLocalFrame text.now f locals.old → IfOk result (λ s. IsResolvedPiece text.now
         (record {
           what = plain_told (program_in text.now items) own f (statement_tree statement.now);
           frame = frame_behind
@@ -54,8 +54,8 @@ fn tell_statement<'a>(
     stays: Staying,
     statement: &tree::Statement,
 ) -> Result<Statement, AllocError>
-    ensures { (items : List ItemTree) (own : ℕ) (f : Frame) → IsAround (program_in text.now items) own around.now
-        → IsFrame text.now f locals.old → IfOk result (λ s. IsTold text.now (statement_told (program_in
+    ensures { (items : List ItemTree) (own : ℕ) (f : LocalFrame) → IsAround (program_in text.now items) own around.now
+        → IsLocalFrame text.now f locals.old → IfOk result (λ s. IsResolvedPiece text.now (statement_told (program_in
         text.now items) own (staying_model stays) (statement_tree statement.now) f) (statement_model s) locals.new) }
 {
     match statement {
@@ -111,9 +111,9 @@ pub(crate) fn tell_statements<'a>(
     stays: Staying,
     statements: &[tree::Statement],
 ) -> Result<Vec<Statement>, AllocError>
-    ensures { (items : List ItemTree) (own : ℕ) (f : Frame) → IsAround (program_in text.now items) own around.now
-        → IsFrame text.now f locals.old → IfOk result
-        (λ list. IsTold text.now (statements_told (program_in text.now items) own (staying_model stays)
+    ensures { (items : List ItemTree) (own : ℕ) (f : LocalFrame) → IsAround (program_in text.now items) own around.now
+        → IsLocalFrame text.now f locals.old → IfOk result
+        (λ list. IsResolvedPiece text.now (statements_told (program_in text.now items) own (staying_model stays)
         (statement_sequence (map statement_tree statements.now)) f) (seen.statement_sequence (map statement_model list.items)) locals.new) }
 {
     let mut told = Vec::with_capacity(around.alloc, statements.len())?;
@@ -132,8 +132,8 @@ fn tell_block<'a>(
     stays: Staying,
     block: &tree::Block,
 ) -> Result<Block, AllocError>
-    ensures { (items : List ItemTree) (own : ℕ) (f : Frame) → IsAround (program_in text.now items) own around.now
-        → IsFrame text.now f locals.old → IfOk result (λ b. IsTold text.now (block_told
+    ensures { (items : List ItemTree) (own : ℕ) (f : LocalFrame) → IsAround (program_in text.now items) own around.now
+        → IsLocalFrame text.now f locals.old → IfOk result (λ b. IsResolvedPiece text.now (block_told
         (program_in text.now items) own (staying_model stays) (block_tree block.now) f) (block_model b) locals.new) }
 {
     let outer = locals.len();
@@ -153,8 +153,8 @@ fn tell_test<'a>(
     stays: Staying,
     test: &tree::Test,
 ) -> Result<Test, AllocError>
-    ensures { (items : List ItemTree) (own : ℕ) (f : Frame) → IsAround (program_in text.now items) own around.now
-        → IsFrame text.now f locals.old → IfOk result (λ t. IsTold text.now
+    ensures { (items : List ItemTree) (own : ℕ) (f : LocalFrame) → IsAround (program_in text.now items) own around.now
+        → IsLocalFrame text.now f locals.old → IfOk result (λ t. IsResolvedPiece text.now
         (test_told (program_in text.now items) own (staying_model stays) (test_tree test.now) f) (test_model t) locals.new) }
 {
     let mut reads = Vec::new(around.alloc);
@@ -177,8 +177,8 @@ fn tell_tests<'a>(
     stays: Staying,
     tests: &[tree::Test],
 ) -> Result<Vec<Test>, AllocError>
-    ensures { (items : List ItemTree) (own : ℕ) (f : Frame) → IsAround (program_in text.now items) own around.now
-        → IsFrame text.now f locals.old → IfOk result (λ list. IsTold text.now (walked (test_told (program_in
+    ensures { (items : List ItemTree) (own : ℕ) (f : LocalFrame) → IsAround (program_in text.now items) own around.now
+        → IsLocalFrame text.now f locals.old → IfOk result (λ list. IsResolvedPiece text.now (walked (test_told (program_in
         text.now items) own (staying_model stays)) (map test_tree tests.now) f) (map test_model list.items) locals.new) }
 {
     let mut told = Vec::with_capacity(around.alloc, tests.len())?;
@@ -197,9 +197,9 @@ fn tell_otherwise<'a>(
     stays: Staying,
     otherwise: &Option<tree::Block>,
 ) -> Result<Option<Block>, AllocError>
-    ensures { (items : List ItemTree) (own : ℕ) (f : Frame)
-        → IsAround (program_in text.now items) own around.now → IsFrame text.now f locals.old
-        → IfOk result (λ b. IsTold text.now (others_told (program_in text.now items) own (staying_model stays)
+    ensures { (items : List ItemTree) (own : ℕ) (f : LocalFrame)
+        → IsAround (program_in text.now items) own around.now → IsLocalFrame text.now f locals.old
+        → IfOk result (λ b. IsResolvedPiece text.now (others_told (program_in text.now items) own (staying_model stays)
         (last_other (option_map block_tree otherwise.now)) f) (seen.last_other (option_map block_model b)) locals.new) }
 {
     match otherwise {
@@ -220,8 +220,8 @@ fn tell_if<'a>(
     stays: Staying,
     branches: &tree::If,
 ) -> Result<If, AllocError>
-    ensures { (items : List ItemTree) (own : ℕ) (f : Frame) → IsAround (program_in text.now items) own around.now
-        → IsFrame text.now f locals.old → IfOk result (λ i. IsTold text.now
+    ensures { (items : List ItemTree) (own : ℕ) (f : LocalFrame) → IsAround (program_in text.now items) own around.now
+        → IsLocalFrame text.now f locals.old → IfOk result (λ i. IsResolvedPiece text.now
         (follow seen.If (test_told (program_in text.now items) own (staying_model stays) (if_tree branches.now).first f)
         (others_told (program_in text.now items) own (staying_model stays) (if_tree branches.now).others))
         (seen.If (if_model i).first (if_model i).others) locals.new) }
@@ -245,9 +245,9 @@ fn tell_cases<'a>(
     stays: Staying,
     switch: &Switch,
 ) -> Result<Vec<Case>, AllocError>
-    ensures { (items : List ItemTree) (own : ℕ) (f : Frame)
-        → IsAround (program_in text.now items) own around.now → IsFrame text.now f locals.old
-        → IfOk result (λ list. IsTold text.now (cases_told (program_in text.now items) own
+    ensures { (items : List ItemTree) (own : ℕ) (f : LocalFrame)
+        → IsAround (program_in text.now items) own around.now → IsLocalFrame text.now f locals.old
+        → IfOk result (λ list. IsResolvedPiece text.now (cases_told (program_in text.now items) own
         (staying_model stays) (MoreCases (switch_tree switch.now).first (case_sequence (switch_tree switch.now).others))
         (switch_tree switch.now).close.place f) (seen.case_sequence (map case_model list.items)) locals.new) }
 {
@@ -272,8 +272,8 @@ fn tell_case<'a>(
     behind: Place,
     case: &tree::Case,
 ) -> Result<Case, AllocError>
-    ensures { (items : List ItemTree) (own : ℕ) (f : Frame) → IsAround (program_in text.now items) own around.now
-        → IsFrame text.now f locals.old → IfOk result (λ c. IsTold text.now (case_told
+    ensures { (items : List ItemTree) (own : ℕ) (f : LocalFrame) → IsAround (program_in text.now items) own around.now
+        → IsLocalFrame text.now f locals.old → IfOk result (λ c. IsResolvedPiece text.now (case_told
         (program_in text.now items) own (staying_model stays) behind (case_tree case.now) f) (case_model c) locals.new) }
 {
     let kept = locals.len();

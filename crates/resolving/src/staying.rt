@@ -3,8 +3,8 @@
 ghost use Rattle.std.specs.Prelude.{◌≡◌, ℕ, List, []};
 ghost use Rattle.program.specs.Statements.{statement_model};
 ghost use Rattle.program.specs.declared.statement.Action.TheVariants.{Break, Continue};
-ghost use Rattle.resolving.specs.Frames.{IsFrame, number_model, staying_model};
-ghost use Rattle.resolving.specs.Locals.{Frame, forget};
+ghost use Rattle.resolving.specs.Frames.{IsLocalFrame, number_model, staying_model};
+ghost use Rattle.resolving.specs.Locals.{LocalFrame, forget};
 ghost use Rattle.resolving.specs.Plain.{told};
 ghost use Rattle.resolving.specs.Told.{left, stays_here, in_switch};
 
@@ -25,7 +25,7 @@ pub(crate) struct Staying {
 impl Staying {
     /// In a loop before which this variable is the last in scope, or in a method of which it is the last parameter.
     pub(crate) fn here(last: Option<VarId>) -> Staying
-        ensures { (f : Frame) → number_model last ≡ f.last → staying_model result ≡ stays_here f }
+        ensures { (f : LocalFrame) → number_model last ≡ f.last → staying_model result ≡ stays_here f }
     {
         Staying {
             at_break: last,
@@ -35,7 +35,7 @@ impl Staying {
 
     /// In a switch before which this variable is the last in scope.
     pub(crate) fn in_switch(self, last: Option<VarId>) -> Staying
-        ensures { (f : Frame) → number_model last ≡ f.last → staying_model result ≡ in_switch (staying_model self) f }
+        ensures { (f : LocalFrame) → number_model last ≡ f.last → staying_model result ≡ in_switch (staying_model self) f }
     {
         Staying {
             at_break: last,
@@ -57,7 +57,7 @@ pub(crate) fn forget_past(place: Place, outer: Option<VarId>, last: Option<VarId
 
 /// What goes out of scope at a `break` or a `continue`, where this variable is the last that stays.
 fn forget_at_exit(locals: &Locals<'_>, place: Place, stays: Option<VarId>) -> Option<Forget>
-    ensures { (text : List ℕ) (f : Frame) → IsFrame text f locals.now → result ≡ left place (number_model stays) f }
+    ensures { (text : List ℕ) (f : LocalFrame) → IsLocalFrame text f locals.now → result ≡ left place (number_model stays) f }
 {
     forget_past(place, stays, locals.last())
 }
@@ -69,7 +69,7 @@ pub(crate) fn tell_break(
     place: Place,
     stays: Staying,
 ) -> Statement
-    ensures { (text : List ℕ) (f : Frame) → IsFrame text f locals.now
+    ensures { (text : List ℕ) (f : LocalFrame) → IsLocalFrame text f locals.now
         → statement_model result ≡ told [] (Break (left place (number_model stays.at_break) f)) }
 {
     unread(
@@ -85,7 +85,7 @@ pub(crate) fn tell_continue(
     place: Place,
     stays: Staying,
 ) -> Statement
-    ensures { (text : List ℕ) (f : Frame) → IsFrame text f locals.now
+    ensures { (text : List ℕ) (f : LocalFrame) → IsLocalFrame text f locals.now
         → statement_model result ≡ told [] (Continue (left place (number_model stays.at_continue) f)) }
 {
     unread(

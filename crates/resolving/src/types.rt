@@ -1,7 +1,7 @@
 //! What types hold, with a number for each of their names.
 
 ghost use Rattle.std.specs.Prelude.{◌≡◌, ℕ, None, option_map};
-ghost use Rattle.declarations.specs.Program.{Program};
+ghost use Rattle.declarations.specs.Program.{ProgramText};
 ghost use Rattle.program.specs.Parts.{contract_model};
 ghost use Rattle.declarations.specs.declared.value_type.ValueType.TheVariants.{Pointer};
 ghost use Rattle.resolving.specs.Around.{IsDirectory};
@@ -14,7 +14,7 @@ use tree::{Heap, Type};
 
 /// The contract that is the item at this index.
 pub(crate) fn contract_at<'s>(directory: &Directory<'s, '_>, index: usize) -> Option<&'s Contract>
-    ensures { (p : Program) → IsDirectory p directory.now
+    ensures { (p : ProgramText) → IsDirectory p directory.now
         → option_map (λ c. contract_model c.now) result ≡ model.contract_at p index }
 {
     let before = directory.before.get(index)?;
@@ -23,7 +23,7 @@ pub(crate) fn contract_at<'s>(directory: &Directory<'s, '_>, index: usize) -> Op
 
 /// The number of the contract that is the item at this index, if it is one.
 fn contract_number(directory: &Directory<'_, '_>, index: usize) -> Option<ContractId>
-    ensures { (p : Program) → IsDirectory p directory.now → result ≡ model.number_at p index }
+    ensures { (p : ProgramText) → IsDirectory p directory.now → result ≡ model.number_at p index }
 {
     let before = directory.before.get(index)?;
     let _contract = directory.resolved.contracts.get(before.contracts)?;
@@ -32,7 +32,7 @@ fn contract_number(directory: &Directory<'_, '_>, index: usize) -> Option<Contra
 
 /// The number of the contract of this name.
 pub(crate) fn contract_named(directory: &Directory<'_, '_>, name: Span) -> Option<ContractId>
-    ensures { (p : Program) → IsDirectory p directory.now → result ≡ model.contract_named p name }
+    ensures { (p : ProgramText) → IsDirectory p directory.now → result ≡ model.contract_named p name }
 {
     let place = directory.scope.contract_index(name)?;
     contract_number(directory, place)
@@ -45,7 +45,7 @@ fn named_state(
     contract: &Contract,
     name: Span,
 ) -> Option<StateId>
-    ensures { (p : Program) → IsDirectory p directory.now → result ≡ model.named_state p index (contract_model contract.now) name }
+    ensures { (p : ProgramText) → IsDirectory p directory.now → result ≡ model.named_state p index (contract_model contract.now) name }
 {
     let at = directory.scope.state_index(index, name)?;
     let state = contract.states.get(at)?;
@@ -59,7 +59,7 @@ fn state_of(
     contract: &Contract,
     state: Option<Span>,
 ) -> StateId
-    ensures { (p : Program) → IsDirectory p directory.now → result ≡ model.state_of p index (contract_model contract.now) state }
+    ensures { (p : ProgramText) → IsDirectory p directory.now → result ≡ model.state_of p index (contract_model contract.now) state }
 {
     let Some(name) = state else {
         return contract.first;
@@ -77,7 +77,7 @@ fn endpoint_held(
     side: Side,
     state: Option<Span>,
 ) -> Option<HeapType>
-    ensures { (p : Program) → IsDirectory p directory.now → result ≡ model.endpoint_held p index side state }
+    ensures { (p : ProgramText) → IsDirectory p directory.now → result ≡ model.endpoint_held p index side state }
 {
     let number = contract_number(directory, index)?;
     let contract = contract_at(directory, index)?;
@@ -90,7 +90,7 @@ fn endpoint_held(
 
 /// A struct that is the item at this index.
 fn struct_held(directory: &Directory<'_, '_>, index: usize) -> Option<HeapType>
-    ensures { (p : Program) → IsDirectory p directory.now → result ≡ model.heap_type p (Pointer index) None }
+    ensures { (p : ProgramText) → IsDirectory p directory.now → result ≡ model.heap_type p (Pointer index) None }
 {
     let before = directory.before.get(index)?;
     Some(HeapType::Struct(StructId(before.structs)))
@@ -102,7 +102,7 @@ pub(crate) fn heap_type(
     ty: declarations::ValueType,
     state: Option<Span>,
 ) -> Option<HeapType>
-    ensures { (p : Program) → IsDirectory p directory.now → result ≡ model.heap_type p ty state }
+    ensures { (p : ProgramText) → IsDirectory p directory.now → result ≡ model.heap_type p ty state }
 {
     match ty {
         declarations::ValueType::Pointer(place) => struct_held(directory, place),
@@ -128,7 +128,7 @@ fn state_in(written: Type) -> Option<Span>
 
 /// What a variable of this type holds, where it is of the exchange heap.
 pub(crate) fn type_held(directory: &Directory<'_, '_>, written: Type) -> Option<HeapType>
-    ensures { (p : Program) → IsDirectory p directory.now → result ≡ model.type_held p written }
+    ensures { (p : ProgramText) → IsDirectory p directory.now → result ≡ model.type_held p written }
 {
     heap_type(
         directory,
@@ -139,7 +139,7 @@ pub(crate) fn type_held(directory: &Directory<'_, '_>, written: Type) -> Option<
 
 /// What a method gives, where it is of the exchange heap.
 pub(crate) fn result_held(directory: &Directory<'_, '_>, written: Option<Type>) -> Option<HeapType>
-    ensures { (p : Program) → IsDirectory p directory.now → result ≡ model.result_held p written }
+    ensures { (p : ProgramText) → IsDirectory p directory.now → result ≡ model.result_held p written }
 {
     type_held(directory, written?)
 }

@@ -8,9 +8,9 @@ ghost use Rattle.tree.specs.Values.{call_tree, value_tree, made_tree};
 ghost use Rattle.program.specs.Statements as seen;
 ghost use Rattle.program.specs.Statements.{statement_model};
 ghost use Rattle.resolving.specs.Around.{IsAround, program_in};
-ghost use Rattle.resolving.specs.Steps.{AddsReads, Tells};
-ghost use Rattle.resolving.specs.Frames.{IsFrame};
-ghost use Rattle.resolving.specs.Locals.{Frame};
+ghost use Rattle.resolving.specs.Steps.{AddsReads, TellsStatement};
+ghost use Rattle.resolving.specs.Frames.{IsLocalFrame};
+ghost use Rattle.resolving.specs.Locals.{LocalFrame};
 ghost use Rattle.resolving.specs.Reads.{reads};
 ghost use Rattle.resolving.specs.Plain.{told, moved, used, made_reads, made_arguments, new_of, taken, scalar_taken, assigned, part_taken};
 
@@ -80,7 +80,7 @@ fn made_arguments(
     locals: &Locals<'_>,
     made: &Made,
 ) -> Result<Vec<Mention>, AllocError>
-    ensures { (items : List ItemTree) (own : ℕ) (f : Frame) → IsFrame text.now f locals.now → IfOk result
+    ensures { (items : List ItemTree) (own : ℕ) (f : LocalFrame) → IsLocalFrame text.now f locals.now → IfOk result
         (λ given. given.items ≡ made_arguments (program_in text.now items) own f (made_tree made.now)) }
 {
     match made {
@@ -97,7 +97,7 @@ fn tell_made(
     made: &Made,
     action: Action,
 ) -> Result<Statement, AllocError>
-    ensures { (items : List ItemTree) (own : ℕ) → IfOk result (Tells text.now locals.now
+    ensures { (items : List ItemTree) (own : ℕ) → IfOk result (TellsStatement text.now locals.now
         (λ f. told (before.items ++ made_reads (program_in text.now items) own f (made_tree made.now)) action)) }
 {
     add_made_reads(text, locals, made, &mut before)?;
@@ -112,7 +112,7 @@ fn tell_new(
     target: Mention,
     made: &Made,
 ) -> Result<Statement, AllocError>
-    ensures { (items : List ItemTree) (own : ℕ) → IfOk result (Tells text.now locals.now
+    ensures { (items : List ItemTree) (own : ℕ) → IfOk result (TellsStatement text.now locals.now
         (λ f. seen.New (new_of (program_in text.now items) own f target (made_tree made.now)))) }
 {
     let mut reads = Vec::new(alloc);
@@ -132,7 +132,7 @@ pub(crate) fn tell_read(
     expression: &Expression,
     action: Action,
 ) -> Result<Statement, AllocError>
-    ensures { IfOk result (Tells text.now locals.now
+    ensures { IfOk result (TellsStatement text.now locals.now
         (λ f. told (before.items ++ reads text.now f.locals (expression_tree expression.now)) action)) }
 {
     add_reads(text, locals, expression, &mut before)?;
@@ -147,7 +147,7 @@ fn tell_taken(
     target: Mention,
     value: &Value,
 ) -> Result<Statement, AllocError>
-    ensures { (items : List ItemTree) (own : ℕ) → IsAround (program_in text.now items) own around.now → IfOk result (Tells
+    ensures { (items : List ItemTree) (own : ℕ) → IsAround (program_in text.now items) own around.now → IfOk result (TellsStatement
         text.now locals.now (λ f. taken (program_in text.now items) own f target (value_tree value.now))) }
 {
     match value {
@@ -174,7 +174,7 @@ fn tell_scalar(
     locals: &Locals<'_>,
     value: &Value,
 ) -> Result<Statement, AllocError>
-    ensures { (items : List ItemTree) (own : ℕ) → IsAround (program_in text.now items) own around.now → IfOk result (Tells
+    ensures { (items : List ItemTree) (own : ℕ) → IsAround (program_in text.now items) own around.now → IfOk result (TellsStatement
         text.now locals.now (λ f. scalar_taken (program_in text.now items) own f (value_tree value.now))) }
 {
     let before = Vec::new(around.alloc);
@@ -201,7 +201,7 @@ pub(crate) fn tell_assigned(
     target: Option<Mention>,
     value: &Value,
 ) -> Result<Statement, AllocError>
-    ensures { (items : List ItemTree) (own : ℕ) → IsAround (program_in text.now items) own around.now → IfOk result (Tells
+    ensures { (items : List ItemTree) (own : ℕ) → IsAround (program_in text.now items) own around.now → IfOk result (TellsStatement
         text.now locals.now (λ f. assigned (program_in text.now items) own f target (value_tree value.now))) }
 {
     match target {
@@ -220,7 +220,7 @@ fn tell_part_called(
     call: &tree::Call,
 ) -> Result<Statement, AllocError>
     ensures { (items : List ItemTree) (own : ℕ) → IsAround (program_in text.now items) own around.now
-        → IfOk result (Tells text.now locals.now
+        → IfOk result (TellsStatement text.now locals.now
         (λ f. part_taken (program_in text.now items) own f index.items whole (values.Call (call_tree call.now)))) }
 {
     add_listed(whole, &mut index)?;
@@ -241,7 +241,7 @@ pub(crate) fn tell_part(
     value: &Value,
 ) -> Result<Statement, AllocError>
     ensures { (items : List ItemTree) (own : ℕ) → IsAround (program_in text.now items) own around.now
-        → IfOk result (Tells text.now locals.now
+        → IfOk result (TellsStatement text.now locals.now
         (λ f. part_taken (program_in text.now items) own f index.items whole (value_tree value.now))) }
 {
     match value {

@@ -10,13 +10,13 @@ abbrev pub row_model : Row → List Leaf
 row_model r = r.leaves.items
 
 -- a leaf, where there is one
-abbrev pub given : Option Leaf → Leaf
-given (Some leaf) = leaf
-given None = Nothing
+abbrev pub leaf_or_nothing : Option Leaf → Leaf
+leaf_or_nothing (Some leaf) = leaf
+leaf_or_nothing None = Nothing
 
 -- what a variable has
 abbrev pub leaf_at : List Leaf → ℕ → Leaf
-leaf_at row variable = given (slice_get row variable)
+leaf_at row variable = leaf_or_nothing (slice_get row variable)
 
 -- whether that is something
 abbrev pub is_owned : List Leaf → ℕ → Bool

@@ -7,7 +7,7 @@ use Rattle.program.specs.declared.statement.Mention.{Mention}
 use Rattle.rules.specs.Checks.{first_kept}
 use Rattle.rows.specs.Leaves.{is_something}
 use Rattle.rules.specs.Mentions.{is_kept, is_lent, is_named}
-use Rattle.rows.specs.Rows.{given, is_owned}
+use Rattle.rows.specs.Rows.{leaf_or_nothing, is_owned}
 use Rattle.rows.specs.declared.row.Leaf.{Leaf}
 
 none_of : (a b : Bool) → (a && (b && false)) ≡ false
@@ -22,12 +22,12 @@ module _ (m : MethodModel) (row : List Leaf) (spared : Option Mention) where
 
   -- so a variable whose leaf is nothing is not kept
   pub nothing_there : (leaves : List Leaf) (v : ℕ) (d : Leaf) → leaves ≡ row → v < length leaves → is_something (slice_index_or leaves v d) ≡ false → is_kept m row spared v ≡ false
-  nothing_there leaves v d same lt none = empty v (ap (λ l. is_something (given (slice_get l v))) (sym same) ∙ ap (λ o. is_something (given o)) (slice_get-get_or leaves v d lt) ∙ none)
+  nothing_there leaves v d same lt none = empty v (ap (λ l. is_something (leaf_or_nothing (slice_get l v))) (sym same) ∙ ap (λ o. is_something (leaf_or_nothing o)) (slice_get-get_or leaves v d lt) ∙ none)
 
   -- nor is one past the end of the row
   pub none_kept : (done : ℕ) → length row ≤ done → ((v : ℕ) → v < done → is_kept m row spared v ≡ false) → (v : ℕ) → is_kept m row spared v ≡ false
   none_kept done all below v =
-      ⊎_elim (λ lt. below v lt) (λ le. empty v (ap (λ o. is_something (given o)) (slice_get_past row v (omega (arith, le, all))))) (cases_lt v done)
+      ⊎_elim (λ lt. below v lt) (λ le. empty v (ap (λ o. is_something (leaf_or_nothing o)) (slice_get_past row v (omega (arith, le, all))))) (cases_lt v done)
 
   -- where none is kept, none is the first of any
   pub first_none : ((v : ℕ) → is_kept m row spared v ≡ false) → (variables : List ℕ) → None ≡ first_kept m row spared variables

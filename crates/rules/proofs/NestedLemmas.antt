@@ -5,7 +5,7 @@ use Rattle.program.specs.Methods.{MethodModel}
 use Rattle.program.specs.Scopes.{outer_of}
 use Rattle.program.specs.declared.number.VarId.{VarId}
 use Rattle.program.specs.declared.statement.Mention.{Mention}
-use Rattle.rules.specs.Checks.{IsFirst, IsPlain, LeadsTo, first_kept, if_kept, kept_or}
+use Rattle.rules.specs.Checks.{IsFirstKept, IsPlain, LeadsTo, first_kept, if_kept, kept_or}
 use Rattle.rules.specs.Scopes.{between, declared_between, is_this}
 use Rattle.rows.specs.declared.row.Leaf.{Leaf}
 use Rattle.rules.proofs.ScopeLemmas.{between_more, between_none, between_this, kept_append}
@@ -15,7 +15,7 @@ is_another : (v : VarId) (outer : Option VarId) (first : ℕ) → first ≤ v.0 
 is_another v None first le out = refl
 is_another v (Some o) first le out = ne_eqb v.0 o.0 (λ e. omega (arith, le, out, e))
 
-module _ (m : MethodModel) (row : List Leaf) (given : Option Mention) (outer : Option VarId) (first : ℕ) (is : IsFirst m row given first) where
+module _ (m : MethodModel) (row : List Leaf) (given : Option Mention) (outer : Option VarId) (first : ℕ) (is : IsFirstKept m row given first) where
   -- the first kept of the variables in scope where this one is the last
   abbrev kept_from : ℕ → Option VarId → Option ℕ
   kept_from most at = first_kept m row given (between m.variables most outer at)

@@ -65,8 +65,7 @@ module _ (m : MethodModel) where
   -- one, this is said.
   abbrev pub taken_checks : List Leaf → (wrong : List ℕ → Place → FindingModel) → HeapType → Argument → List Check
   taken_checks row wrong ty a =
-      is_not_lent m a.mention
-      ∷ has_something m row a.mention
+      is_not_lent m a.mention ∷ has_something m row a.mention
       ∷ refused (is_wrong ty (leaf_at row a.mention.variable.0)) (wrong (name_of m a.mention.variable.0) a.mention.place)
       ∷ []
 

@@ -33,7 +33,7 @@ kept_or None other = other
 kept_or (Some v) other = Some v
 
 -- the first variable of a method that still has something, but for the one that is given
-pub record IsFirst (m : MethodModel) (row : List Leaf) (given : Option Mention) (first : ℕ) : Type 0 where
+pub record IsFirstKept (m : MethodModel) (row : List Leaf) (given : Option Mention) (first : ℕ) : Type 0 where
   pub kept : is_kept m row given first ≡ true
   pub none : (v : ℕ) → v < first → is_kept m row given v ≡ false
 

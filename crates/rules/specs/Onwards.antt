@@ -20,10 +20,10 @@ onward_model says (Ways pairs) row = Goes (map pair_model pairs.items)
 onward_model says (Found breach) row = Fails (says breach)
 
 -- the row is as it was, where the answer says so
-abbrev pub IsKept : Onward → (before after : List Leaf) → Type 0
-IsKept (Changed point) before after = Unit {0}
-IsKept (Found breach) before after = Unit {0}
-IsKept _ before after = after ≡ before
+abbrev pub KeepsRow : Onward → (before after : List Leaf) → Type 0
+KeepsRow (Changed point) before after = Unit {0}
+KeepsRow (Found breach) before after = Unit {0}
+KeepsRow _ before after = after ≡ before
 
 -- where a condition goes on, if one stands there
 abbrev pub condition_at : Option Instruction → Option Branches

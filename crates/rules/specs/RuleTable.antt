@@ -37,11 +37,9 @@ module _ (p : ProgramModel) (m : MethodModel) where
   abbrev pub value_checks : List Leaf → Option Mention → List Check
   value_checks row None = []
   value_checks row (Some v) =
-      is_not_lent m v
-      ∷ has_something m row v
+      is_not_lent m v ∷ has_something m row v
       ∷ refused (option_map_or (λ ty. is_wrong ty (leaf_at row v.variable.0)) m.result false)
-      (wrong_for_result (name_of m v.variable.0) v.place)
-      ∷ []
+      (wrong_for_result (name_of m v.variable.0) v.place) ∷ []
 
   -- whether an endpoint was lent, and is neither cut off nor in its declared state
   abbrev pub is_not_back : List Leaf → ℕ → Bool
@@ -55,8 +53,7 @@ module _ (p : ProgramModel) (m : MethodModel) where
   abbrev pub exchanged : List Leaf → stated.Exchange.Exchange → ℕ → Option HeapType → Step Pair FindingModel
   exchanged row e next ty =
       checked
-      (is_another m e.holder e.given
-      ∷ has_something m row e.holder
+      (is_another m e.holder e.given ∷ has_something m row e.holder
       ∷ option_map_or (λ ty. field_checks m row ty (payload e.given)) ty [])
       ((next, set row e.given.variable.0 (option_map_or declared_leaf ty Nothing)) ∷ [])
 

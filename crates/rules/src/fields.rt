@@ -10,7 +10,7 @@ ghost use Rattle.rules.specs.Breaches.{breach_model};
 ghost use Rattle.rules.specs.Checks.{StandsFor};
 ghost use Rattle.rules.specs.Endpoints as table;
 ghost use Rattle.rows.specs.Leaves.{IsNumbered};
-ghost use Rattle.rules.specs.Onwards.{IsKept, onward_model};
+ghost use Rattle.rules.specs.Onwards.{KeepsRow, onward_model};
 ghost use Rattle.rules.specs.Programs.{model_of};
 ghost use Rattle.rows.specs.Rows.{row_model};
 ghost use Rattle.rules.specs.RuleTable.{instruction_outcome};
@@ -38,7 +38,7 @@ pub(crate) fn new(
         (row_model row.new)
         ≡ instruction_outcome (model_of site.now.program.now) (method_model site.now.method.now) (New target arguments.now next)
         (row_model row.old) }
-    ensures kept { IsKept result (row_model row.old) (row_model row.new) }
+    ensures kept { KeepsRow result (row_model row.old) (row_model row.new) }
 {
     let here = Here {
         program: site.program,
@@ -90,7 +90,7 @@ pub(crate) fn exchange(site: &Site<'_>, row: &mut Row, exchange: Exchange, next:
         (row_model row.new)
         ≡ instruction_outcome (model_of site.now.program.now) (method_model site.now.method.now) (graphs.Exchange exchange next)
         (row_model row.old) }
-    ensures kept { IsKept result (row_model row.old) (row_model row.new) }
+    ensures kept { KeepsRow result (row_model row.old) (row_model row.new) }
 {
     let here = Here {
         program: site.program,

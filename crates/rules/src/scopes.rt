@@ -5,7 +5,7 @@ ghost use Rattle.program.specs.Methods.{method_model};
 ghost use Rattle.program.specs.Scopes.{outer_of};
 ghost use Rattle.rules.specs.Breaches.{breach_model};
 ghost use Rattle.rules.specs.Checks as checks;
-ghost use Rattle.rules.specs.Checks.{AllLeadTo, IsFirst, IsPlain, LeadsTo, StandsFor};
+ghost use Rattle.rules.specs.Checks.{AllLeadTo, IsFirstKept, IsPlain, LeadsTo, StandsFor};
 ghost use Rattle.rules.specs.Mentions as table;
 ghost use Rattle.rules.specs.Mentions.{given_back};
 ghost use Rattle.rules.specs.Programs.{model_of};
@@ -75,7 +75,7 @@ fn kept_or(
 fn first_of_all(here: &Here<'_>, given: Option<Mention>) -> Option<VarId>
     ensures none { result ≡ None
         → (v : ℕ) → table.is_kept (method_model here.now.method.now) (row_model here.now.row.now) given v ≡ false }
-    ensures some { IfSome result (λ first. IsFirst (method_model here.now.method.now) (row_model here.now.row.now) given first.0) }
+    ensures some { IfSome result (λ first. IsFirstKept (method_model here.now.method.now) (row_model here.now.row.now) given first.0) }
 {
     for (number, leaf) in here.row.leaves().iter().enumerate() {
         if leaf.is_something() && is_kept(here, given, VarId(number)) {

@@ -8,7 +8,7 @@ ghost use Rattle.rules.specs.Arguments as table;
 ghost use Rattle.rules.specs.Arguments.{lacks_edge};
 ghost use Rattle.rules.specs.Breaches.{breach_model};
 ghost use Rattle.rows.specs.Leaves.{IsNumbered};
-ghost use Rattle.rules.specs.Onwards.{IsKept, onward_model};
+ghost use Rattle.rules.specs.Onwards.{KeepsRow, onward_model};
 ghost use Rattle.rules.specs.Programs.{model_of};
 ghost use Rattle.rows.specs.Rows.{row_model};
 ghost use Rattle.rules.specs.RuleTable.{instruction_outcome};
@@ -31,7 +31,7 @@ pub(crate) fn send(site: &Site<'_>, row: &mut Row, sending: &Sending) -> Onward
         ≡ instruction_outcome (model_of site.now.program.now) (method_model site.now.method.now)
         (instruction_model (Instr.Send sending.now))
         (row_model row.old) }
-    ensures kept { IsKept result (row_model row.old) (row_model row.new) }
+    ensures kept { KeepsRow result (row_model row.old) (row_model row.new) }
 {
     let here = Here {
         program: site.program,

@@ -8,7 +8,7 @@ ghost use Rattle.program.specs.declared.limits.TheConstants.{MOST_VARIABLES};
 ghost use Rattle.rules.specs.Breaches.{breach_in};
 ghost use Rattle.rules.specs.Endpoints.{declared_leaf};
 ghost use Rattle.rows.specs.Leaves.{IsNumbered};
-ghost use Rattle.rules.specs.Onwards.{IsKept, condition_at, onward_model};
+ghost use Rattle.rules.specs.Onwards.{KeepsRow, condition_at, onward_model};
 ghost use Rattle.rules.specs.Outcomes.{Goes};
 ghost use Rattle.rules.specs.Programs.{model_of};
 ghost use Rattle.rows.specs.Rows.{row_model};
@@ -21,7 +21,7 @@ use crate::endpoints::declared_leaf;
 use crate::here::Site;
 use crate::lowered::Program;
 use crate::onward::Onward;
-use crate::outcome::Outcome;
+use crate::outcome::StepOutcome;
 use crate::table::apply;
 use flow::{Branches, Instr};
 use program::{HeapType, MethodId, Role, Variable};
@@ -86,7 +86,7 @@ pub fn step(
     method: MethodId,
     point: usize,
     row: &Row,
-) -> Result<Outcome, Memory>
+) -> Result<StepOutcome, Memory>
     requires there { method.0 < length (model_of program.now).methods }
     ensures { IfOk result (λ o. outcome_model (breach_in (model_of program.now) method.0) o
         ≡ outcome (model_of program.now) method.0 (point, row_model row.now)) }
@@ -112,7 +112,7 @@ pub fn step_in_place(
     requires there { method.0 < length (model_of program.now).methods }
     ensures outcome { IfOk result (λ o. onward_model (breach_in (model_of program.now) method.0) o (row_model row.new)
         ≡ outcome (model_of program.now) method.0 (point, row_model row.old)) }
-    ensures kept { IfOk result (λ o. IsKept o (row_model row.old) (row_model row.new)) }
+    ensures kept { IfOk result (λ o. KeepsRow o (row_model row.old) (row_model row.new)) }
 {
     let site = Site {
         program,
@@ -158,34 +158,34 @@ fn branches_of(instruction: &Instr) -> Option<Branches>
 }
 
 /// An answer of a step in place as an outcome with rows of its own.
-fn apart(alloc: Global, onward: Onward, row: Row) -> Result<Outcome, Memory>
+fn apart(alloc: Global, onward: Onward, row: Row) -> Result<StepOutcome, Memory>
     ensures { IfOk result (λ o. (says : BreachModel → FindingModel) → outcome_model says o ≡ onward_model says onward (row_model row)) }
 {
     match onward {
-        Onward::Ends => Ok(Outcome::Next(Vec::new(alloc))),
+        Onward::Ends => Ok(StepOutcome::Next(Vec::new(alloc))),
         Onward::Same(point) | Onward::Changed(point) => goes(alloc, point, row),
         Onward::Both(first, second) => goes_both(alloc, first, second, row),
-        Onward::Ways(pairs) => Ok(Outcome::Next(pairs)),
-        Onward::Found(breach) => Ok(Outcome::Found(breach)),
+        Onward::Ways(pairs) => Ok(StepOutcome::Next(pairs)),
+        Onward::Found(breach) => Ok(StepOutcome::Found(breach)),
     }
 }
 
 /// The method goes on at one point, with this row.
-fn goes(alloc: Global, point: usize, row: Row) -> Result<Outcome, Memory>
+fn goes(alloc: Global, point: usize, row: Row) -> Result<StepOutcome, Memory>
     ensures { IfOk result (λ o. (says : BreachModel → FindingModel) → outcome_model says o ≡ Goes ((point, row_model row) ∷ [])) }
 {
     let mut pairs = Vec::new(alloc);
     pairs.push((point, row))?;
-    Ok(Outcome::Next(pairs))
+    Ok(StepOutcome::Next(pairs))
 }
 
 /// The method goes on at one of two points, with this row.
-fn goes_both(alloc: Global, first: usize, second: usize, row: Row) -> Result<Outcome, Memory>
+fn goes_both(alloc: Global, first: usize, second: usize, row: Row) -> Result<StepOutcome, Memory>
     ensures { IfOk result (λ o. (says : BreachModel → FindingModel)
         → outcome_model says o ≡ Goes ((first, row_model row) ∷ (second, row_model row) ∷ [])) }
 {
     let mut pairs = Vec::new(alloc);
     pairs.push((first, row.copy(alloc)?))?;
     pairs.push((second, row))?;
-    Ok(Outcome::Next(pairs))
+    Ok(StepOutcome::Next(pairs))
 }

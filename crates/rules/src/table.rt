@@ -8,7 +8,7 @@ ghost use Rattle.flow.specs.declared.graph.Instr.{Instr};
 ghost use Rattle.source.specs.Findings.{FindingModel};
 ghost use Rattle.program.specs.Methods.{method_model};
 ghost use Rattle.rules.specs.Breaches.{breach_model};
-ghost use Rattle.rules.specs.Onwards.{IsKept, onward_model};
+ghost use Rattle.rules.specs.Onwards.{KeepsRow, onward_model};
 ghost use Rattle.rules.specs.Outcomes.{Goes, Fails};
 ghost use Rattle.rules.specs.Programs.{model_of};
 ghost use Rattle.rules.specs.Repeats.{first_again, given_again, repeated_in};
@@ -47,7 +47,7 @@ pub(crate) fn apply(
         o (row_model row.new)
         ≡ instruction_outcome (model_of site.now.program.now) (method_model site.now.method.now) (instruction_model instruction.now)
         (row_model row.old)) }
-    ensures kept { IfOk result (λ o. IsKept o (row_model row.old) (row_model row.new)) }
+    ensures kept { IfOk result (λ o. KeepsRow o (row_model row.old) (row_model row.new)) }
 {
     let here = Here {
         program: site.program,
@@ -99,7 +99,7 @@ fn new_channel(site: &Site<'_>, row: &mut Row, channel: Channel, next: usize) ->
         (row_model row.new)
         ≡ instruction_outcome (model_of site.now.program.now) (method_model site.now.method.now) (graphs.NewChannel channel next)
         (row_model row.old) }
-    ensures kept { IsKept result (row_model row.old) (row_model row.new) }
+    ensures kept { KeepsRow result (row_model row.old) (row_model row.new) }
 {
     let here = Here {
         program: site.program,
@@ -130,7 +130,7 @@ fn move_(site: &Site<'_>, row: &mut Row, target: Mention, source: Mention, next:
         (row_model row.new)
         ≡ instruction_outcome (model_of site.now.program.now) (method_model site.now.method.now) (Move target source next)
         (row_model row.old) }
-    ensures kept { IsKept result (row_model row.old) (row_model row.new) }
+    ensures kept { KeepsRow result (row_model row.old) (row_model row.new) }
 {
     let here = Here {
         program: site.program,
@@ -164,7 +164,7 @@ fn delete(site: &Site<'_>, row: &mut Row, freed: Mention, next: usize) -> Onward
         (row_model row.new)
         ≡ instruction_outcome (model_of site.now.program.now) (method_model site.now.method.now) (Delete freed next)
         (row_model row.old) }
-    ensures kept { IsKept result (row_model row.old) (row_model row.new) }
+    ensures kept { KeepsRow result (row_model row.old) (row_model row.new) }
 {
     let here = Here {
         program: site.program,
@@ -189,7 +189,7 @@ fn call(site: &Site<'_>, row: &mut Row, calling: &Calling) -> Onward
         ≡ instruction_outcome (model_of site.now.program.now) (method_model site.now.method.now)
         (instruction_model (Instr.Call calling.now))
         (row_model row.old) }
-    ensures kept { IsKept result (row_model row.old) (row_model row.new) }
+    ensures kept { KeepsRow result (row_model row.old) (row_model row.new) }
 {
     let here = Here {
         program: site.program,
@@ -222,7 +222,7 @@ fn start(site: &Site<'_>, row: &mut Row, starting: &Starting) -> Onward
         (row_model row.new)
         ≡ instruction_outcome (model_of site.now.program.now) (method_model site.now.method.now)
         (instruction_model (Instr.Start starting.now)) (row_model row.old) }
-    ensures kept { IsKept result (row_model row.old) (row_model row.new) }
+    ensures kept { KeepsRow result (row_model row.old) (row_model row.new) }
 {
     let here = Here {
         program: site.program,
@@ -241,7 +241,7 @@ fn start(site: &Site<'_>, row: &mut Row, starting: &Starting) -> Onward
 /// A condition. The row stays as it is, each way that it can go.
 fn branch(branches: Branches) -> Onward
     ensures outcome { (says : BreachModel → FindingModel) (row : List LeafModel) → onward_model says result row ≡ Goes (ways branches row) }
-    ensures kept { (row : List LeafModel) → IsKept result row row }
+    ensures kept { (row : List LeafModel) → KeepsRow result row row }
 {
     match branches {
         Branches::Either { inside, past } => Onward::Both(inside, past),

@@ -1,7 +1,7 @@
 -- The verdicts that were put so far, as they come one after another.
 use Rattle.std.specs.Prelude.{ℕ, ◌-◌, ◌≡◌, ◌≤◌, ◌<◌, Option, IsSomeAnd}
 use Rattle.analyse.specs.declared.verdict.Verdict.{Verdict}
-use Rattle.shelf.specs.Shelves.{IsJudged, IsOf, index_of, verdict_of}
+use Rattle.shelf.specs.Shelves.{IsRight, IsOf, index_of, verdict_of}
 use Rattle.shelf.specs.declared.receipt.Receipt.{Receipt}
 use Rattle.shelf.specs.declared.shelf.Shelf.{Shelf}
 use Rattle.shelf.specs.declared.so_far.SoFar.{SoFar}
@@ -23,17 +23,17 @@ abbrev pub indices_left : SoFar → ℕ
 indices_left so_far = so_far.rest.end - next_index so_far
 
 -- the receipt is of the shelf and reads the verdict; its index was not passed before, and is passed now
-pub record IsNext (old : SoFar) (verdict : Verdict) (new : SoFar) (receipt : Receipt) : Type 0 where
+pub record IsNextReceipt (old : SoFar) (verdict : Verdict) (new : SoFar) (receipt : Receipt) : Type 0 where
   pub of_shelf : IsOf receipt (shelf_of old)
   pub reads : verdict_of receipt ≡ verdict
   pub unseen : next_index old ≤ index_of receipt
   pub passed : index_of receipt < next_index new
 
 -- what comes is a verdict that was put: its receipt is there. And it is the verdict of its method
-pub record Gives (old : SoFar) (verdict : Verdict) (new : SoFar) : Type 0 where
-  pub put : IsSomeAnd (last_of new) (IsNext old verdict new)
-  pub judged : IsJudged verdict
+pub record GivesVerdict (old : SoFar) (verdict : Verdict) (new : SoFar) : Type 0 where
+  pub put : IsSomeAnd (last_of new) (IsNextReceipt old verdict new)
+  pub judged : IsRight verdict
 
 -- nothing comes, since no index is left, and what came last is still that
-abbrev pub Ends : SoFar → SoFar → Type 0
-Ends old new = (indices_left new ≡ 0) × (last_of new ≡ last_of old)
+abbrev pub ComesToEnd : SoFar → SoFar → Type 0
+ComesToEnd old new = (indices_left new ≡ 0) × (last_of new ≡ last_of old)

@@ -30,12 +30,12 @@ impl<'a> SoFar<'a> {
 }
 
 impl<'a> Iterator for SoFar<'a> {
-    ghost use Rattle.shelf.specs.SoFar.{Ends, Gives, indices_left, shelf_of};
+    ghost use Rattle.shelf.specs.SoFar.{ComesToEnd, GivesVerdict, indices_left, shelf_of};
 
     type Item = &'a Verdict;
 
     ghost next_gives = { λ old item new. (shelf_of new ≡ shelf_of old)
-        × MatchOption item (Ends old new) (λ verdict. Gives old verdict.now new) };
+        × MatchOption item (ComesToEnd old new) (λ verdict. GivesVerdict old verdict.now new) };
 
     ghost remaining = { λ so_far. at_most (indices_left so_far) };
 

@@ -8,7 +8,7 @@ use Rattle.program.specs.Parts.{contract_parts, ContractModel, contract_model}
 use Rattle.program.specs.declared.contract.Contract.{Contract}
 use Rattle.contracts.specs.Sounds.{sound_parts}
 use Rattle.contracts.specs.declared.sound.Sound.{Sound}
-use Rattle.singcheck.specs.Answers.{AreBounds, IsBoundsLine}
+use Rattle.singcheck.specs.Answers.{IsBoundsReport, IsBoundsLine}
 use Rattle.singcheck.specs.Lines.{ok_line}
 use Rattle.singcheck.specs.Stages.{AddsLine, IsClean}
 use Rattle.singcheck.specs.declared.stages.Clean.{Clean}
@@ -59,7 +59,7 @@ paired_is (c ∷ cs) (s ∷ ss) e =
     ap (λ p. p ∷ paired cs ss) first ∙ ap (λ l. contract_model c ∷ l) (paired_is cs ss rest)
 
 -- all lines have been added, and then the number of the contracts
-pub bounds_are : (text : List ℕ) (clean : Clean) (n : ℕ) (old new : List ℕ) → IsClean text clean → length clean.resolved.contracts.items ≤ n → AddsLines (take n (paired clean.resolved.contracts.items clean.sounds.items)) old → new ≡ old ++ ok_line (length clean.resolved.contracts.items) → AreBounds text new
+pub bounds_are : (text : List ℕ) (clean : Clean) (n : ℕ) (old new : List ℕ) → IsClean text clean → length clean.resolved.contracts.items ≤ n → AddsLines (take n (paired clean.resolved.contracts.items clean.sounds.items)) old → new ≡ old ++ ok_line (length clean.resolved.contracts.items) → IsBoundsReport text new
 bounds_are text clean n old new is end so_far e =
     let all = map contract_model clean.resolved.contracts.items in
     let size = length-map clean.resolved.contracts.items contract_model in

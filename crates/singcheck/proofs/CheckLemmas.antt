@@ -14,7 +14,7 @@ use Rattle.singcheck.specs.Answers.{AreFindings}
 use Rattle.singcheck.specs.Checks.{AreCheckFindings, OfMethods, Checks, HasProgram, IsWrong}
 use Rattle.singcheck.specs.Lines.{clear_line}
 use Rattle.rules.specs.Programs.{model_of}
-use Rattle.singcheck.specs.Named.{AreBrokenOf, AreNamed, HasNames, IsBuilt, IsBuiltIn}
+use Rattle.singcheck.specs.Named.{AreBrokenOf, AreNamed, HasCleanNames, IsBuilt, IsBuiltIn}
 use Rattle.singcheck.specs.declared.programs.Built.{Built}
 use Rattle.singcheck.specs.declared.programs.Built.TheVariants as built
 use Rattle.singcheck.specs.Reports.{IsReport}
@@ -34,7 +34,7 @@ reported_ok text found are (Ok r) told is = reported_is text r.bytes.items r.sta
 reported_ok text found are (Err fault) told is = tt
 
 -- what is wrong with the contracts of a text
-pub unsound_named : (text : List ℕ) (items : List ItemTree) (p : ProgramModel) (found : List FindingModel) → HasNames text items p → AreBroken p.contracts found → AreFindings text found
+pub unsound_named : (text : List ℕ) (items : List ItemTree) (p : ProgramModel) (found : List FindingModel) → HasCleanNames text items p → AreBroken p.contracts found → AreFindings text found
 unsound_named text items p found names broken = unsound text p.contracts found (record { items = items; parsed = names.parsed; clean = names.clean; are = names.contracts }) broken
 
 -- what is wrong with the contracts of a text
@@ -42,7 +42,7 @@ pub broken_findings : (text : List ℕ) (contracts : List ContractModel) (found 
 broken_findings text contracts found are = unsound text contracts found are.resolved are.broken
 
 -- where they are sound, this is the program of the text
-abbrev pub has_program : (text : List ℕ) (items : List ItemTree) (p : ProgramModel) → HasNames text items p → All (λ c. IsSound c.parts) p.contracts → HasProgram text p
+abbrev pub has_program : (text : List ℕ) (items : List ItemTree) (p : ProgramModel) → HasCleanNames text items p → All (λ c. IsSound c.parts) p.contracts → HasProgram text p
 has_program text items p names sound = record {
   items = items;
   program = record { parsed = names.parsed; clean = names.clean; are = names.contracts; sound = sound };

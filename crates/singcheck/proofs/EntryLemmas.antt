@@ -8,7 +8,7 @@ use Rattle.std.specs.Cmp.Lexicographic.{pointwise, same_text, other_text}
 use Rattle.std.specs.List.{enumerate_from, flat_map}
 use Rattle.program.specs.Lists.{Each}
 use Rattle.declarations.specs.ItemMistakes.{methods_in}
-use Rattle.declarations.specs.Program.{Program}
+use Rattle.declarations.specs.Program.{ProgramText}
 use Rattle.resolving.specs.Methods.{item_told, method_told}
 use Rattle.tree.specs.Trees.{DefinitionTree, Contract, Struct, Class, ItemTree}
 use Rattle.singcheck.specs.Replays.{IsFirstAt, full_name, method_names, names_in}
@@ -116,12 +116,12 @@ looked_only names name None n l f = absurd (none_first names name n l.none f)
 looked_only names name (Some k) n l f = ap Some (first_once names name k n l.some f)
 
 -- each method has a name
-named_in : (p : Program) (n : ℕ) (d : DefinitionTree) → length (names_in p.text d) ≡ length (map (method_told p n) (methods_in d))
+named_in : (p : ProgramText) (n : ℕ) (d : DefinitionTree) → length (names_in p.text d) ≡ length (map (method_told p n) (methods_in d))
 named_in p n (Contract c) = refl
 named_in p n (Struct s) = refl
 named_in p n (Class c) = length-map c.methods (full_name p.text c.name) ∙ sym (length-map c.methods (method_told p n))
 
-pub all_named : (p : Program) (n : ℕ) (items : List ItemTree) → length (method_names p.text items) ≡ length (flat_map (item_told p) (enumerate_from n items))
+pub all_named : (p : ProgramText) (n : ℕ) (items : List ItemTree) → length (method_names p.text items) ≡ length (flat_map (item_told p) (enumerate_from n items))
 all_named p n [] = refl
 all_named p n (i ∷ items) =
     length-append (names_in p.text i.definition) (method_names p.text items) ∙ ap₂ (λ a b. a + b) (named_in p n i.definition) (all_named p (n + 1) items)

@@ -25,7 +25,7 @@ use Rattle.names.specs.Findings.{program_findings}
 use Rattle.tree.specs.Trees.{ItemTree}
 use Rattle.singcheck.specs.Remarked.{HasFault, IsMistake}
 use Rattle.singcheck.specs.Checks.{HasProgram, IsWrong}
-use Rattle.singcheck.specs.Explains.{AreExplained, Bare, ByContract, ByFault, ByMistake, ByTokens, Explains, IsExplainedText, IsExplainedIn, IsNoted, IsShownIn, explained_bytes, explained_lines}
+use Rattle.singcheck.specs.Explains.{AreExplained, Bare, ByContract, ByFault, ByMistake, ByTokens, Explains, IsExplainedText, IsExplainedIn, IsExplainedFinding, IsShownIn, explained_bytes, explained_lines}
 use Rattle.singcheck.specs.Lines.{clear_line, count_line, finding_line, trace_line}
 use Rattle.singcheck.specs.Named.{AreBrokenOf}
 use Rattle.singcheck.specs.Unexpected.{IsAskedUnexpected}
@@ -58,7 +58,7 @@ explains_before named text found are (Ok r) told is = subst (Explains named text
   are = are;
   listed = map bare told.listed;
   same = subst (AreExactly (Contains found)) (sym (bare_view told.listed)) told.same;
-  each = All-map (IsNoted named text) bare told.listed (λ k d lt. Bare refl);
+  each = All-map (IsExplainedFinding named text) bare told.listed (λ k d lt. Bare refl);
   ordered = subst (IsStrictlySortedBy report_cmp) (sym (bare_view told.listed)) told.ordered;
   is = told.is ∙ ap (λ b. b ++ count_line (length told.listed)) (sym (bare_lines told.listed)) ∙ ap (λ n. flat_map explained_lines (map bare told.listed) ++ count_line n) (sym (length-map told.listed bare));
 }))
@@ -73,8 +73,8 @@ explains_noted named text bytes found listed all same among ordered bytes_are = 
   are = subst (AreFindings text) (explained_view found) all.are;
   listed = map explained_model listed;
   same = subst (AreExactly (Contains (map (λ (e : Explained). finding_model e.finding) found))) (sym (explained_view listed)) (record { right = λ f h. (same f).0 h; all = λ f h. (same f).1 h });
-  each = All-map (IsNoted named text) explained_model listed
-      (All-weaker (Contains listed) (λ (e : Explained). IsNoted named text (explained_model e)) (λ e h. All-contains (λ (x : ExplainedModel). IsNoted named text x) (map explained_model found) (explained_model e) all.each (contains_map explained_model found e (among e h))) listed (All-contains_itself listed));
+  each = All-map (IsExplainedFinding named text) explained_model listed
+      (All-weaker (Contains listed) (λ (e : Explained). IsExplainedFinding named text (explained_model e)) (λ e h. All-contains (λ (x : ExplainedModel). IsExplainedFinding named text x) (map explained_model found) (explained_model e) all.each (contains_map explained_model found e (among e h))) listed (All-contains_itself listed));
   ordered = subst (IsStrictlySortedBy report_cmp) (sym (explained_view listed)) ordered;
   is = bytes_are;
 })
@@ -85,14 +85,14 @@ syntax_explained named text e is =
     let u = is.unexpected in
     record {
       are = OfSyntax (record { tokens = u.tokens; lexed = u.lexed; number = u.number; wrong = u.wrong; are = ap (λ f. f ∷ []) u.finding });
-      each = All-cons (IsNoted named text) (explained_model e) [] (ByTokens is) (All-nil (IsNoted named text));
+      each = All-cons (IsExplainedFinding named text) (explained_model e) [] (ByTokens is) (All-nil (IsExplainedFinding named text));
     }
 
 -- a fault of the text
 pub fault_explained : (named : Option Place) (text : List ℕ) (e : Explained) → HasFault named text (explained_model e) → AreExplained named text (explained_model e ∷ [])
 fault_explained named text e is = record {
   are = OfText (record { fault = is.fault; first = is.first; are = is.finding });
-  each = All-cons (IsNoted named text) (explained_model e) [] (ByFault is) (All-nil (IsNoted named text));
+  each = All-cons (IsExplainedFinding named text) (explained_model e) [] (ByFault is) (All-nil (IsExplainedFinding named text));
 }
 
 -- all mistakes in the names of the text
@@ -105,7 +105,7 @@ names_explained named text items found parsed all each = λ some. record {
     some = λ none. some (no_view found (sym (explained_view found) ∙ none));
     are = subst (AreExactly (Contains (program_findings (record { text = text; items = items })))) (sym (explained_view found ∙ all)) (record { right = λ f h. h; all = λ f h. h });
   });
-  each = All-map (IsNoted named text) explained_model found (All-weaker (λ (e : Explained). IsMistake named (record { text = text; items = items }) (explained_model e)) (λ (e : Explained). IsNoted named text (explained_model e)) (λ e h. ByMistake (record { items = items; parsed = parsed; is = h })) found each);
+  each = All-map (IsExplainedFinding named text) explained_model found (All-weaker (λ (e : Explained). IsMistake named (record { text = text; items = items }) (explained_model e)) (λ (e : Explained). IsExplainedFinding named text (explained_model e)) (λ e h. ByMistake (record { items = items; parsed = parsed; is = h })) found each);
 }
   where
     no_view : (xs : List Explained) → map (λ (e : Explained). finding_model e.finding) xs ≡ [] → map explained_model xs ≡ []
@@ -117,7 +117,7 @@ pub contracts_explained : (named : Option Place) (text : List ℕ) (contracts : 
     → All (λ e. IsShownIn named contracts (explained_model e)) found → AreExplained named text (map explained_model found)
 contracts_explained named text contracts some found is are each = record {
   are = subst (AreFindings text) (sym (explained_view found)) (unsound text contracts (map (λ e. finding_model e.finding) found) is.resolved (record { some = some_found some found is.broken.some is.broken.are are; are = are }));
-  each = All-map (IsNoted named text) explained_model found (All-weaker (λ (e : Explained). IsShownIn named contracts (explained_model e)) (λ (e : Explained). IsNoted named text (explained_model e)) (λ e h. ByContract contracts is.resolved h) found each);
+  each = All-map (IsExplainedFinding named text) explained_model found (All-weaker (λ (e : Explained). IsShownIn named contracts (explained_model e)) (λ (e : Explained). IsExplainedFinding named text (explained_model e)) (λ e h. ByContract contracts is.resolved h) found each);
 }
   where
     some_found : (fs : List FindingModel) (es : List Explained) → fs ≢ [] → AreExactly (IsBroken contracts) fs → AreExactly (IsBroken contracts) (map (λ (e : Explained). finding_model e.finding) es) → map (λ (e : Explained). finding_model e.finding) es ≢ []

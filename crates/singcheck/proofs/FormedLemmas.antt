@@ -4,7 +4,7 @@ use Rattle.std.specs.Prelude.{All, slice_get}
 use Rattle.std.proofs.lemmas.List.Elements.{All-head, All-tail}
 use Rattle.tree.specs.Trees.{contracts_of}
 use Rattle.names.specs.Findings.{program_mistakes}
-use Rattle.declarations.specs.Program.{Program}
+use Rattle.declarations.specs.Program.{ProgramText}
 use Rattle.declarations.specs.Resolution.{resolved_contracts}
 use Rattle.program.specs.Lists.{Each}
 use Rattle.program.specs.Methods.{MethodModel}
@@ -22,12 +22,12 @@ use Rattle.singcheck.specs.Checks.{HasProgram}
 
 -- what the crates below say of programs with nothing wrong in their names
 pub record CleanPrograms : Type 0 where
-  pub whole : (p : Program) → program_mistakes p ≡ [] → All (λ (c : ContractModel). IsWhole c.parts) (resolved_contracts p.text (contracts_of p.items))
-  pub formed : (p : Program) → program_mistakes p ≡ [] → AreWellFormed (resolved_contracts p.text (contracts_of p.items)) (messages_told p) (structs_told p) (methods_told p)
-  pub bare : (p : Program) → Each IsBare (methods_told p)
+  pub whole : (p : ProgramText) → program_mistakes p ≡ [] → All (λ (c : ContractModel). IsWhole c.parts) (resolved_contracts p.text (contracts_of p.items))
+  pub formed : (p : ProgramText) → program_mistakes p ≡ [] → AreWellFormed (resolved_contracts p.text (contracts_of p.items)) (messages_told p) (structs_told p) (methods_told p)
+  pub bare : (p : ProgramText) → Each IsBare (methods_told p)
 
 -- the items of a text whose program this is, with the text
-abbrev of_items : (text : List ℕ) (p : ProgramModel) → HasProgram text p → Program
+abbrev of_items : (text : List ℕ) (p : ProgramModel) → HasProgram text p → ProgramText
 of_items text p has = record { text = text; items = has.items }
 
 pub formed_of : CleanPrograms → (text : List ℕ) (p : ProgramModel) → HasProgram text p → AreWellFormed p.contracts p.messages p.structs p.methods

@@ -8,34 +8,34 @@ use Rattle.program.specs.Programs.{ProgramModel}
 use Rattle.program.specs.declared.types.Side.{Side}
 use Rattle.program.specs.declared.types.Side.TheVariants.{Exp, Imp}
 use Rattle.names.specs.Findings.{program_mistakes}
-use Rattle.declarations.specs.Program.{Program}
+use Rattle.declarations.specs.Program.{ProgramText}
 use Rattle.declarations.specs.Resolution.{resolved_contracts}
 use Rattle.contracts.specs.Bounds.{IsBound, sign_to}
 use Rattle.contracts.specs.Conditions.{IsSound}
-use Rattle.machine.specs.Outcomes.{Bounds}
+use Rattle.machine.specs.Outcomes.{QueueBounds}
 use Rattle.machine.specs.Runs.{AreBounds}
 use Rattle.singcheck.specs.Checks.{HasProgram}
 
 -- what the crates below say of contracts
 pub record Bounded : Type 0 where
-  pub whole : (p : Program) → program_mistakes p ≡ [] → All (λ (c : ContractModel). IsWhole c.parts) (resolved_contracts p.text (contracts_of p.items))
+  pub whole : (p : ProgramText) → program_mistakes p ≡ [] → All (λ (c : ContractModel). IsWhole c.parts) (resolved_contracts p.text (contracts_of p.items))
   pub bounded : (parts : Parts) → IsWhole parts → IsSound parts → (side : Side) → ((n : ℕ) → IsBound parts.edges parts.first (sign_to side) n → ⊥) → ⊥
 
 -- these are the bounds of contracts, which stand in a row
-record BoundsOf (contracts : List ContractModel) (bound : Bounds) : Type 0 where
+record BoundsOf (contracts : List ContractModel) (bound : QueueBounds) : Type 0 where
   pub are : (n : ℕ) (c : ContractModel) (side : Side) → slice_get contracts n ≡ Some c → IsBound c.parts.edges c.parts.first (sign_to side) (bound n side)
   pub past : (n : ℕ) (side : Side) → length contracts ≤ n → bound n side ≡ 0
 
-abbrev none_bounds : Bounds
+abbrev none_bounds : QueueBounds
 none_bounds n side = 0
 
 -- the bounds of one contract more, in front of others
-abbrev front : ℕ → ℕ → Bounds → Bounds
+abbrev front : ℕ → ℕ → QueueBounds → QueueBounds
 front to_imp to_exp bound zero Imp = to_imp
 front to_imp to_exp bound zero Exp = to_exp
 front to_imp to_exp bound (suc n) side = bound n side
 
-in_front : (c : ContractModel) (cs : List ContractModel) (to_imp to_exp : ℕ) (bound : Bounds) → IsBound c.parts.edges c.parts.first (sign_to Imp) to_imp → IsBound c.parts.edges c.parts.first (sign_to Exp) to_exp → BoundsOf cs bound → BoundsOf (c ∷ cs) (front to_imp to_exp bound)
+in_front : (c : ContractModel) (cs : List ContractModel) (to_imp to_exp : ℕ) (bound : QueueBounds) → IsBound c.parts.edges c.parts.first (sign_to Imp) to_imp → IsBound c.parts.edges c.parts.first (sign_to Exp) to_exp → BoundsOf cs bound → BoundsOf (c ∷ cs) (front to_imp to_exp bound)
 in_front c cs to_imp to_exp bound imp exp of = record { are = are; past = past }
   where
     are : (n : ℕ) (x : ContractModel) (side : Side) → slice_get (c ∷ cs) n ≡ Some x → IsBound x.parts.edges x.parts.first (sign_to side) (front to_imp to_exp bound n side)
@@ -47,7 +47,7 @@ in_front c cs to_imp to_exp bound imp exp of = record { are = are; past = past }
     past zero side le = absurd (omega (arith, le))
     past (suc n) side le = of.past n side (omega (arith, le))
 
-bounds_of : Bounded → (contracts : List ContractModel) → All (λ c. IsWhole c.parts) contracts → All (λ c. IsSound c.parts) contracts → ((bound : Bounds) → BoundsOf contracts bound → ⊥) → ⊥
+bounds_of : Bounded → (contracts : List ContractModel) → All (λ c. IsWhole c.parts) contracts → All (λ c. IsSound c.parts) contracts → ((bound : QueueBounds) → BoundsOf contracts bound → ⊥) → ⊥
 bounds_of laws [] whole sound none = none none_bounds (record { are = λ n c side there. absurd (cc); past = λ n side le. refl })
 bounds_of laws (c ∷ cs) whole sound none =
     let are_whole = λ (x : ContractModel). IsWhole x.parts in
@@ -56,7 +56,7 @@ bounds_of laws (c ∷ cs) whole sound none =
     one Imp (λ to_imp imp. one Exp (λ to_exp exp.
     bounds_of laws cs (All-tail are_whole c cs whole) (All-tail are_sound c cs sound) (λ bound of. none (front to_imp to_exp bound) (in_front c cs to_imp to_exp bound imp exp of))))
 
-pub has_bounds : Bounded → (text : List ℕ) (p : ProgramModel) → HasProgram text p → ((bound : Bounds) → AreBounds p bound → ⊥) → ⊥
+pub has_bounds : Bounded → (text : List ℕ) (p : ProgramModel) → HasProgram text p → ((bound : QueueBounds) → AreBounds p bound → ⊥) → ⊥
 has_bounds laws text p has none =
     let whole = subst (All (λ c. IsWhole c.parts)) (sym has.program.are) (laws.whole (record { text = text; items = has.items }) has.program.clean) in
     bounds_of laws p.contracts whole has.program.sound (λ bound of. none bound (record { are = of.are; past = of.past }))

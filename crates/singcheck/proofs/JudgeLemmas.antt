@@ -12,7 +12,7 @@ use Rattle.contracts.specs.Conditions.{AreExactly, IsSound}
 use Rattle.contracts.specs.Sounds.{sound_parts}
 use Rattle.contracts.specs.declared.sound.Sound.{Sound}
 use Rattle.singcheck.specs.Answers.{IsBroken}
-use Rattle.singcheck.specs.Stages.{Judges, Keeps, Adds, AddsAll, AreBroken, AreJudged}
+use Rattle.singcheck.specs.Stages.{JudgesContract, Keeps, Adds, AddsAll, AreBroken, AreJudged}
 use Rattle.singcheck.specs.declared.soundness.Judging.{Judging}
 
 -- the parts at a place are those of the contract there
@@ -25,7 +25,7 @@ parts_at (x ∷ xs) zero parts c e f =
 parts_at (x ∷ xs) (suc i) parts c e f = parts_at xs i parts c e f
 
 -- a sound contract's parts are those that it was made of
-pub keeps_is : (c : ContractModel) (parts : Parts) (old new : Judging) (sound : Sound) → c.parts ≡ parts → IsSound parts → sound_parts sound ≡ parts → new.sounds.items ≡ old.sounds.items ++ sound ∷ [] → new.findings.items ≡ old.findings.items → Judges c old new
+pub keeps_is : (c : ContractModel) (parts : Parts) (old new : Judging) (sound : Sound) → c.parts ≡ parts → IsSound parts → sound_parts sound ≡ parts → new.sounds.items ≡ old.sounds.items ++ sound ∷ [] → new.findings.items ≡ old.findings.items → JudgesContract c old new
 keeps_is c parts old new sound same is its e f = Keeps (record {
   sound = subst IsSound (sym same) is;
   kept = ap (map sound_parts) e ∙ map-append sound_parts old.sounds.items (sound ∷ []) ∙ ap (λ p. map sound_parts old.sounds.items ++ p ∷ []) (its ∙ sym same);
@@ -33,9 +33,9 @@ keeps_is c parts old new sound same is its e f = Keeps (record {
 })
 
 -- all that is wrong with a contract was added
-pub adds_is : (c : ContractModel) (some parts : Parts) (old new : Judging) → c.parts ≡ some → c.parts ≡ parts → (f : FindingModel) × conditions.IsFault some f → AddsAll parts old.findings.items new.findings.items → Judges c old new
+pub adds_is : (c : ContractModel) (some parts : Parts) (old new : Judging) → c.parts ≡ some → c.parts ≡ parts → (f : FindingModel) × conditions.IsFlaw some f → AddsAll parts old.findings.items new.findings.items → JudgesContract c old new
 adds_is c some parts old new first same broken all = Adds (record {
-  broken = (broken.0, subst (λ p. conditions.IsFault p broken.0) (sym first) broken.1);
+  broken = (broken.0, subst (λ p. conditions.IsFlaw p broken.0) (sym first) broken.1);
   all = subst (λ p. AddsAll p old.findings.items new.findings.items) (sym same) all;
 })
 
@@ -43,7 +43,7 @@ pub none_of : (f : FindingModel) → Contains [] f → ⊥
 none_of f c = let below = c.1 in omega arith
 
 -- what is wrong with some contracts, and with one more
-pub broken_more : (contracts : List ContractModel) (c : ContractModel) (old more new : List FindingModel) → AreExactly (IsBroken contracts) old → AreExactly (conditions.IsFault c.parts) more → new ≡ old ++ more → AreExactly (IsBroken (contracts ++ c ∷ [])) new
+pub broken_more : (contracts : List ContractModel) (c : ContractModel) (old more new : List FindingModel) → AreExactly (IsBroken contracts) old → AreExactly (conditions.IsFlaw c.parts) more → new ≡ old ++ more → AreExactly (IsBroken (contracts ++ c ∷ [])) new
 broken_more contracts c old more new so_far here added = record {
   right = λ f h. ⊎_elim
       (λ earlier. let r = so_far.right f earlier in (r.0, Contains-append_left contracts (c ∷ []) r.0 r.1, r.2))
@@ -51,12 +51,12 @@ broken_more contracts c old more new so_far here added = record {
       (Contains-append_cases old more f (subst (λ l. Contains l f) added h));
   all = λ f b. subst (λ l. Contains l f) (sym added) (⊎_elim
       (λ h. Contains-append_left old more f (so_far.all f (b.0, h, b.2)))
-      (λ e. Contains-append_right old more f (here.all f (subst (λ x. conditions.IsFault x.parts f) (sym e) b.2)))
+      (λ e. Contains-append_right old more f (here.all f (subst (λ x. conditions.IsFlaw x.parts f) (sym e) b.2)))
       (Contains-push_cases contracts c b.0 b.1));
 }
 
 -- one more contract has been judged
-pub judged_more : (contracts : List ContractModel) (c : ContractModel) (old new : Judging) → AreJudged contracts old → Judges c old new → AreJudged (contracts ++ c ∷ []) new
+pub judged_more : (contracts : List ContractModel) (c : ContractModel) (old new : Judging) → AreJudged contracts old → JudgesContract c old new → AreJudged (contracts ++ c ∷ []) new
 judged_more contracts c old new so_far (Keeps k) = record {
   exactly = record {
     right = λ f h.
@@ -64,7 +64,7 @@ judged_more contracts c old new so_far (Keeps k) = record {
         (r.0, Contains-append_left contracts (c ∷ []) r.0 r.1, r.2);
     all = λ f b. subst (λ l. Contains (map finding_model l) f) (sym k.same) (⊎_elim
         (λ h. so_far.exactly.all f (b.0, h, b.2))
-        (λ e. absurd (k.sound f (subst (λ x. conditions.IsFault x.parts f) (sym e) b.2)))
+        (λ e. absurd (k.sound f (subst (λ x. conditions.IsFlaw x.parts f) (sym e) b.2)))
         (Contains-push_cases contracts c b.0 b.1));
   };
   kept = λ e. k.kept ∙ ap (λ l. l ++ c.parts ∷ []) (so_far.kept (sym k.same ∙ e)) ∙ sym (map-append (λ (x : ContractModel). x.parts) contracts (c ∷ []));
@@ -82,12 +82,12 @@ at_turn [] n lt = absurd (omega (arith, lt))
 at_turn (x ∷ xs) zero lt = (x, refl, refl)
 at_turn (x ∷ xs) (suc n) lt = let r = at_turn xs n (omega arith) in (r.0, r.1, ap (λ l. x ∷ l) r.2)
 
-pub judged_turn : (all : List ContractModel) (n : ℕ) (old new : Judging) → n < length all → AreJudged (take n all) old → ((c : ContractModel) → slice_get all n ≡ Some c → Judges c old new) → AreJudged (take (n + 1) all) new
+pub judged_turn : (all : List ContractModel) (n : ℕ) (old new : Judging) → n < length all → AreJudged (take n all) old → ((c : ContractModel) → slice_get all n ≡ Some c → JudgesContract c old new) → AreJudged (take (n + 1) all) new
 judged_turn all n old new lt so_far judges =
     let r = at_turn all n lt in
     rw add-one (subst (λ l. AreJudged l new) (sym r.2) (judged_more (take n all) r.0 old new so_far (judges r.0 r.1)))
 
-pub broken_turn : (all : List ContractModel) (n : ℕ) (old more new : List FindingModel) → n < length all → AreExactly (IsBroken (take n all)) old → ((c : ContractModel) → slice_get all n ≡ Some c → AreExactly (conditions.IsFault c.parts) more) → new ≡ old ++ more → AreExactly (IsBroken (take (n + 1) all)) new
+pub broken_turn : (all : List ContractModel) (n : ℕ) (old more new : List FindingModel) → n < length all → AreExactly (IsBroken (take n all)) old → ((c : ContractModel) → slice_get all n ≡ Some c → AreExactly (conditions.IsFlaw c.parts) more) → new ≡ old ++ more → AreExactly (IsBroken (take (n + 1) all)) new
 broken_turn all n old more new lt so_far here added =
     let r = at_turn all n lt in
     rw add-one (subst (λ l. AreExactly (IsBroken l) new) (sym r.2) (broken_more (take n all) r.0 old more new so_far (here r.0 r.1) added))

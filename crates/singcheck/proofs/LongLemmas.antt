@@ -17,7 +17,7 @@ use Rattle.devices.specs.declared.reading.TheConstants.{MAX_READ}
 use Rattle.singcheck.specs.Answers.{AreFindings, OfText, OfSyntax, OfNames, OfContracts, Answers}
 use Rattle.singcheck.specs.Checks.{AreCheckFindings, Before, OfMethods, Checks}
 use Rattle.traces.specs.Explained.{ExplainedModel}
-use Rattle.singcheck.specs.Explains.{Bare, ByContract, ByFault, ByMistake, ByTokens, Explains, IsNoted}
+use Rattle.singcheck.specs.Explains.{Bare, ByContract, ByFault, ByMistake, ByTokens, Explains, IsExplainedFinding}
 
 -- these texts are too long, and so is each front of them that is read
 pub record AreLong (text other : List ℕ) : Type 0 where
@@ -59,7 +59,7 @@ checks_long : (text other bytes : List ℕ) (status : Status) → AreLong text o
 checks_long text other bytes Empty long told = no_program text long.one told.has.program.parsed.tokens told.has.program.parsed.lexed
 checks_long text other bytes Found long told = record { found = told.found; are = checked_long text other told.found long told.are; told = told.told }
 
-noted_long : (named : Option Place) (text other : List ℕ) → AreLong text other → (e : ExplainedModel) → IsNoted named text e → IsNoted named other e
+noted_long : (named : Option Place) (text other : List ℕ) → AreLong text other → (e : ExplainedModel) → IsExplainedFinding named text e → IsExplainedFinding named other e
 noted_long named text other long e (Bare none) = Bare none
 noted_long named text other long e (ByTokens is) = no_program text long.one is.unexpected.tokens is.unexpected.lexed
 noted_long named text other long e (ByFault is) = ByFault (record { fault = is.fault; first = fault_long text other is.fault long is.first; finding = is.finding; lines = is.lines })
@@ -74,7 +74,7 @@ explains_long named text other bytes Found long told = elim told [
     are = findings_long text other before.found long before.are;
     listed = before.listed;
     same = before.same;
-    each = All-weaker (IsNoted named text) (IsNoted named other) (noted_long named text other long) before.listed before.each;
+    each = All-weaker (IsExplainedFinding named text) (IsExplainedFinding named other) (noted_long named text other long) before.listed before.each;
     ordered = before.ordered;
     is = before.is;
   })

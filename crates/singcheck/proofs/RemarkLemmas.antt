@@ -7,7 +7,7 @@ use Rattle.std.proofs.lemmas.Option.{get_or_from_slice_get, slice_get-get_or}
 use Rattle.source.specs.Findings.{finding_model}
 use Rattle.source.specs.declared.place.Place.{Place}
 use Rattle.declarations.specs.Mistakes.{finding_in}
-use Rattle.declarations.specs.Program.{Program}
+use Rattle.declarations.specs.Program.{ProgramText}
 use Rattle.declarations.specs.declared.mistake.Mistake.{Mistake}
 use Rattle.names.specs.Findings.{program_findings, program_mistakes}
 use Rattle.traces.specs.Explained.{explained_model}
@@ -16,15 +16,15 @@ use Rattle.traces.specs.declared.line.Explained.{Explained}
 use Rattle.singcheck.specs.Remarked.{IsMistake, remark_lines, remark_within}
 
 -- the first so many mistakes are explained
-pub record Remarked (named : Option Place) (p : Program) (mistakes : List Mistake) (n : ℕ) (found : List Explained) : Type 0 where
+pub record Remarked (named : Option Place) (p : ProgramText) (mistakes : List Mistake) (n : ℕ) (found : List Explained) : Type 0 where
   pub view : map (λ e. finding_model e.finding) found ≡ map (finding_in p.text) (take n mistakes)
   pub each : All (λ e. IsMistake named p (explained_model e)) found
 
-pub remarked_none : (named : Option Place) (p : Program) (mistakes : List Mistake) (found : List Explained) → found ≡ [] → Remarked named p mistakes 0 found
+pub remarked_none : (named : Option Place) (p : ProgramText) (mistakes : List Mistake) (found : List Explained) → found ≡ [] → Remarked named p mistakes 0 found
 remarked_none named p mistakes [] none = record { view = refl; each = All-nil (λ (e : Explained). IsMistake named p (explained_model e)) }
 remarked_none named p mistakes (x ∷ found) none = cc
 
-pub remarked_more : (named : Option Place) (p : Program) (mistakes : List Mistake) (n : ℕ) (d : Mistake) (within : Bool) (found : List Explained) (e : Explained) → n < length mistakes → mistakes ≡ program_mistakes p
+pub remarked_more : (named : Option Place) (p : ProgramText) (mistakes : List Mistake) (n : ℕ) (d : Mistake) (within : Bool) (found : List Explained) (e : Explained) → n < length mistakes → mistakes ≡ program_mistakes p
     → finding_model e.finding ≡ finding_in p.text (get_or mistakes n d) → map line_model e.lines.items ≡ remark_lines named e.finding.place (remark_within within p (get_or mistakes n d)) → Remarked named p mistakes n found
     → Remarked named p mistakes (n + 1) (found ++ e ∷ [])
 remarked_more named p mistakes n d within found e lt all finding lines so =
@@ -38,6 +38,6 @@ remarked_more named p mistakes n d within found e lt all finding lines so =
           (record { mistake = m; within = within; among = subst (λ l. Contains l m) all (n, lt, get_or_from_slice_get mistakes n m m (slice_get-get_or mistakes n d lt)); finding = finding; lines = lines });
     }
 
-pub remarked_all : (named : Option Place) (p : Program) (mistakes : List Mistake) (n : ℕ) (found : List Explained) → length mistakes ≤ n → mistakes ≡ program_mistakes p → Remarked named p mistakes n found
+pub remarked_all : (named : Option Place) (p : ProgramText) (mistakes : List Mistake) (n : ℕ) (found : List Explained) → length mistakes ≤ n → mistakes ≡ program_mistakes p → Remarked named p mistakes n found
     → map (λ e. finding_model e.finding) found ≡ program_findings p
 remarked_all named p mistakes n found le all so = so.view ∙ ap (map (finding_in p.text)) (take_all n mistakes le ∙ all)

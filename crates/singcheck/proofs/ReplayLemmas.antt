@@ -11,9 +11,9 @@ use Rattle.program.specs.Programs.{ProgramModel}
 use Rattle.program.specs.WellFormed.{AreWellFormed}
 use Rattle.wellformed.specs.Bare.{IsBare}
 use Rattle.rules.specs.Programs.{is_entry}
-use Rattle.machine.specs.Outcomes.{Bounds}
+use Rattle.machine.specs.Outcomes.{QueueBounds}
 use Rattle.machine.specs.Replays.{EndsWith}
-use Rattle.machine.specs.Runs.{AreBounds, Leads, Run, begins, goes_on, moves, stays, start_of}
+use Rattle.machine.specs.Runs.{AreBounds, RunsTo, Run, begins, goes_on, moves, stays, start_of}
 use Rattle.machine.specs.World.{World}
 use Rattle.machine.specs.declared.halts.Event.{Event}
 use Rattle.machine.specs.declared.halts.Fault.{Fault}
@@ -22,13 +22,13 @@ use Rattle.machine.specs.declared.halts.Halt.TheVariants as halt
 use Rattle.sound.specs.Premises.{AreSound, IsEntry, NothingIsFound}
 use Rattle.sound.specs.Queues.{IsBounded}
 use Rattle.sound.specs.Safe.{IsSafe}
-use Rattle.devices.specs.Devices.{Begins}
+use Rattle.devices.specs.Devices.{TakesBeginning}
 use Rattle.devices.specs.Runs.{BeginsAnswer, Writes}
 use Rattle.devices.specs.declared.fault.Status.{Status}
 use Rattle.devices.specs.declared.fault.Status.TheVariants.{Found}
 use Rattle.devices.specs.declared.reading.TheConstants.{MAX_READ}
 use Rattle.singcheck.specs.Checks.{HasProgram, IsWrong}
-use Rattle.singcheck.specs.Entered.{Begins as BeginsWith}
+use Rattle.singcheck.specs.Entered.{MayBegin as BeginsWith}
 use Rattle.singcheck.specs.Replays.{HasSomeEntry, IsRan, LacksEntry, LacksSchedule, OfFindings, OfRun, Replays}
 use Rattle.singcheck.specs.Safety.{HasEmptyReport, Kept, ReplaysWithinBounds, Reported, RunsSafely}
 use Rattle.singcheck.specs.declared.limits.TheConstants.{MAX_SCHEDULE_READ}
@@ -58,7 +58,7 @@ replay_written entry (Some x) (Some l) w v text bytes status is answers done =
     writes_is (Replays entry l) (Some x) w v text bytes status MAX_READ (replays_of_front entry l) is answers done
 
 pub replay_begun : (entry : List ℕ) (a q w v : Option (List ℕ)) (text bytes : List ℕ) (status : Status)
-    → IfSome a (λ xs. text ≡ take MAX_READ xs) → IfSome q (λ lines. Replays entry lines text bytes status) → Begins w v bytes
+    → IfSome a (λ xs. text ≡ take MAX_READ xs) → IfSome q (λ lines. Replays entry lines text bytes status) → TakesBeginning w v bytes
     → IfSome a (λ xs. IfSome q (λ lines. BeginsAnswer (Replays entry lines) xs w v))
 replay_begun entry None q w v text bytes status is answers begun = tt
 replay_begun entry (Some x) None w v text bytes status is answers begun = tt
@@ -147,7 +147,7 @@ some_always None P all = tt
 some_always (Some x) P all = all x
 
 -- a world to which events lead is one of a run
-run_of : (p : ProgramModel) (bound : Bounds) (n : ℕ) (events : List Event) (w : World) → Leads p bound (start_of p n) events w
+run_of : (p : ProgramModel) (bound : QueueBounds) (n : ℕ) (events : List Event) (w : World) → RunsTo p bound (start_of p n) events w
     → Run p bound n w
 run_of p bound n events w stays = begins
 run_of p bound n events w (moves before v u e led moved) = goes_on v u e (run_of p bound n before v led) moved
@@ -183,11 +183,11 @@ entry_is p formed bare n is = entry_at p n (slice_get p.methods n) formed bare r
 
 -- the laws of runs: those of a program in which nothing is found, and those of every program
 abbrev pub AreSafeAlways : Type 0
-AreSafeAlways = (p : ProgramModel) (bound : Bounds) → AreWellFormed p.contracts p.messages p.structs p.methods → AreSound p → AreBounds p bound
+AreSafeAlways = (p : ProgramModel) (bound : QueueBounds) → AreWellFormed p.contracts p.messages p.structs p.methods → AreSound p → AreBounds p bound
     → NothingIsFound p → (n : ℕ) (w : World) → IsEntry p n → Run p bound n w → IsSafe p bound w
 
 abbrev pub AreBoundedAlways : Type 0
-AreBoundedAlways = (p : ProgramModel) (bound : Bounds) → AreWellFormed p.contracts p.messages p.structs p.methods → AreSound p → AreBounds p bound
+AreBoundedAlways = (p : ProgramModel) (bound : QueueBounds) → AreWellFormed p.contracts p.messages p.structs p.methods → AreSound p → AreBounds p bound
     → (n : ℕ) (w : World) → Run p bound n w → IsBounded p bound w
 
 -- what is known of the program of a text, and of runs
@@ -195,7 +195,7 @@ pub record KnownOf (text : List ℕ) : Type 0 where
   pub formed : (p : ProgramModel) → HasProgram text p → AreWellFormed p.contracts p.messages p.structs p.methods
   pub sound : (p : ProgramModel) → HasProgram text p → AreSound p
   pub bare : (p : ProgramModel) → HasProgram text p → Each IsBare p.methods
-  pub bounds : (p : ProgramModel) → HasProgram text p → ((bound : Bounds) → AreBounds p bound → ⊥) → ⊥
+  pub bounds : (p : ProgramModel) → HasProgram text p → ((bound : QueueBounds) → AreBounds p bound → ⊥) → ⊥
   pub one : (p q : ProgramModel) → HasProgram text p → HasProgram text q → p ≡ q
   pub safe : AreSafeAlways
   pub bounded : AreBoundedAlways
@@ -209,8 +209,8 @@ none_found text p known has empty =
 
 -- a run of a program whose entry the text has keeps the bounds, also one that begins with so many events of a replay
 bounded_run : (entry lines text bytes : List ℕ) (status : Status) → KnownOf text → (ran : IsRan entry lines text bytes status)
-    → (bound : Bounds) → AreBounds ran.program bound → (k : ℕ) (w : World)
-    → Leads ran.program bound (start_of ran.program ran.n) (take k ran.events) w → IsBounded ran.program bound w
+    → (bound : QueueBounds) → AreBounds ran.program bound → (k : ℕ) (w : World)
+    → RunsTo ran.program bound (start_of ran.program ran.n) (take k ran.events) w → IsBounded ran.program bound w
 bounded_run entry lines text bytes status known ran bound are k w led =
     let p = ran.program in
     let has = ran.entered.has in
@@ -218,7 +218,7 @@ bounded_run entry lines text bytes status known ran bound are k w led =
 
 -- what ends a replay is what an event comes to in its last world
 ends_at : (entry lines text bytes : List ℕ) (status : Status) (ran : IsRan entry lines text bytes status) (fault : Fault) (at : Place)
-    → ran.replayed.halt ≡ Some (halt.Fault fault at) → (bound : Bounds) → AreBounds ran.program bound
+    → ran.replayed.halt ≡ Some (halt.Fault fault at) → (bound : QueueBounds) → AreBounds ran.program bound
     → EndsWith ran.program bound ran.replayed.world ran.events ran.replayed.steps (Some (halt.Fault fault at))
 ends_at entry lines text bytes status ran fault at e bound are =
     subst (EndsWith ran.program bound ran.replayed.world ran.events ran.replayed.steps) e (ran.led bound are).ends

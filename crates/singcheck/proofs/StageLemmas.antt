@@ -6,16 +6,16 @@ use Rattle.source.specs.Findings.{FindingModel, finding_model}
 use Rattle.source.specs.declared.finding.Finding.{Finding}
 use Rattle.tree.specs.Trees.{ItemTree}
 use Rattle.program.specs.Parts.{ContractModel}
-use Rattle.declarations.specs.Program.{Program}
-use Rattle.names.specs.Resolving.{AreAll, Explains}
+use Rattle.declarations.specs.Program.{ProgramText}
+use Rattle.names.specs.Resolving.{AreAll, TellsMistakes}
 use Rattle.names.specs.declared.fault.NameFaults.{NameFaults}
 use Rattle.names.specs.declared.fault.NameFaults.TheVariants as faults
 use Rattle.singcheck.specs.Answers.{AreFindings, OfContracts, OfNames, IsProgram, IsResolved}
 use Rattle.singcheck.specs.Stages.{AreBroken}
 
 -- what a fault tells
-pub explained : (p : Program) (fault : NameFaults) (found : Vec Finding Global) → fault ≡ faults.Found found → Explains p fault → AreAll p found.items
-explained p fault found e told = subst (Explains p) e told
+pub explained : (p : ProgramText) (fault : NameFaults) (found : Vec Finding Global) → fault ≡ faults.Found found → TellsMistakes p fault → AreAll p found.items
+explained p fault found e told = subst (TellsMistakes p) e told
 
 -- what is wrong with its names
 pub misnamed : (text : List ℕ) (items : List ItemTree) (found : List Finding) → IsProgram text items → AreAll (record { text = text; items = items }) found → AreFindings text (map finding_model found)

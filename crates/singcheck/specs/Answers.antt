@@ -77,7 +77,7 @@ pub record IsResolved (text : List ℕ) (contracts : List ContractModel) : Type 
 
 -- a condition is broken in one of the contracts, which is this finding
 abbrev pub IsBroken : List ContractModel → FindingModel → Type 0
-IsBroken contracts f = (c : ContractModel) × Contains contracts c × conditions.IsFault c.parts f
+IsBroken contracts f = (c : ContractModel) × Contains contracts c × conditions.IsFlaw c.parts f
 
 -- conditions are broken in contracts of the program: all that is so
 pub record IsUnsound (text : List ℕ) (found : List FindingModel) : Type 0 where
@@ -108,7 +108,7 @@ pub record IsReported (text bytes : List ℕ) : Type 0 where
   pub told : IsReport found bytes
 
 -- the text has no findings, and the bytes are a line for each of its contracts in order, and then their number
-pub record AreBounds (text bytes : List ℕ) : Type 0 where
+pub record IsBoundsReport (text bytes : List ℕ) : Type 0 where
   pub contracts : List ContractModel
   pub resolved : IsResolved text contracts
   pub sound : All (λ c. IsSound c.parts) contracts
@@ -118,5 +118,5 @@ pub record AreBounds (text bytes : List ℕ) : Type 0 where
 
 -- what is written for a text, and the status of the run
 abbrev pub Answers : List ℕ → List ℕ → Status → Type 0
-Answers text bytes Empty = AreBounds text bytes
+Answers text bytes Empty = IsBoundsReport text bytes
 Answers text bytes Found = IsReported text bytes

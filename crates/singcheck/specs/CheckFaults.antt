@@ -16,10 +16,10 @@ abbrev pub slots_fit : ℕ → Bool
 slots_fit slots = leb 1 slots && leb slots MOST_SLOTS
 
 -- The workers are looked at first, then the slots, and then the text, of which no fault speaks.
-abbrev pub Explains : ℕ → ℕ → CheckFault → Type 0
-Explains workers slots Workers = workers_fit workers ≡ false
-Explains workers slots Slots = (workers_fit workers ≡ true) × (slots_fit slots ≡ false)
-Explains workers slots Memory = (workers_fit workers ≡ true) × (slots_fit slots ≡ true)
+abbrev pub ExplainsFault : ℕ → ℕ → CheckFault → Type 0
+ExplainsFault workers slots Workers = workers_fit workers ≡ false
+ExplainsFault workers slots Slots = (workers_fit workers ≡ true) × (slots_fit slots ≡ false)
+ExplainsFault workers slots Memory = (workers_fit workers ≡ true) × (slots_fit slots ≡ true)
 
 -- the same of the numbers alone
 abbrev pub AreUnfit : ℕ → ℕ → CheckFault → Type 0

@@ -2,7 +2,7 @@
 use Rattle.std.specs.Prelude.{◌≡◌, ℕ, List, Option, None, Some, IsSomeAnd, map, slice_get, string_bytes, true}
 use Rattle.program.specs.Programs.{ProgramModel}
 use Rattle.rules.specs.Programs.{is_entry, model_of}
-use Rattle.machine.specs.Outcomes.{Bounds}
+use Rattle.machine.specs.Outcomes.{QueueBounds}
 use Rattle.machine.specs.Runs.{AreBounds, Run}
 use Rattle.machine.specs.World.{World}
 use Rattle.sound.specs.Premises.{IsEntry, NothingIsFound}
@@ -16,13 +16,13 @@ use Rattle.singcheck.specs.Stages.{IsStage}
 use Rattle.singcheck.specs.declared.stage.Stage.{Stage}
 
 -- a run may begin with this method of a program
-abbrev pub Begins : ProgramModel → ℕ → Type 0
-Begins p n = IsSomeAnd (slice_get p.methods n) (λ m. is_entry m ≡ true)
+abbrev pub MayBegin : ProgramModel → ℕ → Type 0
+MayBegin p n = IsSomeAnd (slice_get p.methods n) (λ m. is_entry m ≡ true)
 
 -- where nothing is found in the methods of a program, its runs are safe
 abbrev pub AreCleanSafe : ProgramModel → Type 0
 AreCleanSafe p =
-    (bound : Bounds) → AreBounds p bound → NothingIsFound p → (n : ℕ) (w : World) → IsEntry p n → Run p bound n w → IsSafe p bound w
+    (bound : QueueBounds) → AreBounds p bound → NothingIsFound p → (n : ℕ) (w : World) → IsEntry p n → Run p bound n w → IsSafe p bound w
 
 -- this is what the text comes to, and the entry is its method
 pub record IsBegun (text entry : List ℕ) (b : Begun) : Type 0 where

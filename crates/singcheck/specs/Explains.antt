@@ -48,32 +48,32 @@ IsShownIn named contracts e = (c : ContractModel) × Contains contracts c × IsS
 
 -- It is found before the methods. It has no lines; or it is asked for, and is a token that is not expected; or it is a fault of the text
 -- or a mistake in its names, with what more is said of that; or edges of contracts of the text show it.
-pub data IsNoted (named : Option Place) (text : List ℕ) (e : ExplainedModel) : Type 0 where
-  Bare : e.lines ≡ [] → IsNoted named text e
-  ByTokens : IsAskedUnexpected named text e → IsNoted named text e
-  ByFault : HasFault named text e → IsNoted named text e
-  ByMistake : HasMistake named text e → IsNoted named text e
-  ByContract : (contracts : List ContractModel) → IsResolved text contracts → IsShownIn named contracts e → IsNoted named text e
+pub data IsExplainedFinding (named : Option Place) (text : List ℕ) (e : ExplainedModel) : Type 0 where
+  Bare : e.lines ≡ [] → IsExplainedFinding named text e
+  ByTokens : IsAskedUnexpected named text e → IsExplainedFinding named text e
+  ByFault : HasFault named text e → IsExplainedFinding named text e
+  ByMistake : HasMistake named text e → IsExplainedFinding named text e
+  ByContract : (contracts : List ContractModel) → IsResolved text contracts → IsShownIn named contracts e → IsExplainedFinding named text e
 
 -- something is wrong before the methods: all that the first stage with findings finds, in the order of a report, each finding once
-pub record AreNoted (named : Option Place) (text bytes : List ℕ) : Type 0 where
+pub record IsStageExplained (named : Option Place) (text bytes : List ℕ) : Type 0 where
   pub found : List FindingModel
   pub are : AreFindings text found
   pub listed : List ExplainedModel
   pub same : AreExactly (Contains found) (map (λ e. e.finding) listed)
-  pub each : All (IsNoted named text) listed
+  pub each : All (IsExplainedFinding named text) listed
   pub ordered : IsStrictlySortedBy report_cmp (map (λ e. e.finding) listed)
   pub is : bytes ≡ explained_bytes listed
 
 -- what `why` answers for a text, and the status
 abbrev pub Explains : Option Place → List ℕ → List ℕ → Status → Type 0
 Explains named text bytes Empty = IsClear text bytes
-Explains named text bytes Found = AreNoted named text bytes ⊎ AreReasons named text bytes
+Explains named text bytes Found = IsStageExplained named text bytes ⊎ AreReasons named text bytes
 
 -- For proofs within the crate: these are all findings of the first stage with some, each with its lines, in no order.
 pub record AreExplained (named : Option Place) (text : List ℕ) (es : List ExplainedModel) : Type 0 where
   pub are : AreFindings text (map (λ e. e.finding) es)
-  pub each : All (IsNoted named text) es
+  pub each : All (IsExplainedFinding named text) es
 
 -- and so where there are some
 abbrev pub IsExplainedText : Option Place → List ℕ → List ExplainedModel → Type 0

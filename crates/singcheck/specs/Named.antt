@@ -24,7 +24,7 @@ use Rattle.singcheck.specs.declared.programs.Named.{Named}
 use Rattle.singcheck.specs.declared.stage.Stage.{Stage}
 
 -- the text is a program of these items, nothing is wrong with its names, and this is what it comes to
-pub record HasNames (text : List ℕ) (items : List ItemTree) (p : ProgramModel) : Type 0 where
+pub record HasCleanNames (text : List ℕ) (items : List ItemTree) (p : ProgramModel) : Type 0 where
   pub parsed : IsProgram text items
   pub clean : program_mistakes (record { text = text; items = items }) ≡ []
   pub contracts : p.contracts ≡ resolved_contracts text (contracts_of items)
@@ -34,7 +34,7 @@ pub record HasNames (text : List ℕ) (items : List ItemTree) (p : ProgramModel)
 
 -- and this is known of it
 pub record AreNamed (text : List ℕ) (items : List ItemTree) (p : ProgramModel) : Type 0 where
-  pub names : HasNames text items p
+  pub names : HasCleanNames text items p
   pub whole : All (λ c. IsWhole c.parts) p.contracts
   pub room : length p.contracts < 2 ^ 32
   pub few : length p.methods ≤ MOST_METHODS

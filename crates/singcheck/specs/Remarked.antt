@@ -6,7 +6,7 @@ use Rattle.source.specs.declared.fault.TextFault.{TextFault}
 use Rattle.source.specs.declared.place.Place.{Place}
 use Rattle.tree.specs.Trees.{ItemTree}
 use Rattle.declarations.specs.Mistakes.{finding_in}
-use Rattle.declarations.specs.Program.{Program}
+use Rattle.declarations.specs.Program.{ProgramText}
 use Rattle.declarations.specs.declared.mistake.Mistake.{Mistake}
 use Rattle.declarations.specs.declared.mistake.Mistake.TheVariants as mistake
 use Rattle.names.specs.Findings.{program_mistakes}
@@ -24,12 +24,12 @@ abbrev pub remark_lines : Option Place → Place → Option RemarkModel → List
 remark_lines named place r = if is_asked named place then said_lines r else []
 
 -- what more is said of a mistake; of a name that nothing declares only where its nearest name is looked for
-abbrev pub remark_within : Bool → Program → Mistake → Option RemarkModel
+abbrev pub remark_within : Bool → ProgramText → Mistake → Option RemarkModel
 remark_within false p (mistake.Unknown name sort) = None
 remark_within within p m = remark_of p m
 
 -- one of all the mistakes in the names of the text: its finding, with what more is said of it
-pub record IsMistake (named : Option Place) (p : Program) (e : ExplainedModel) : Type 0 where
+pub record IsMistake (named : Option Place) (p : ProgramText) (e : ExplainedModel) : Type 0 where
   pub mistake : Mistake
   pub within : Bool
   pub among : Contains (program_mistakes p) mistake

@@ -8,7 +8,7 @@ use Rattle.tables.specs.Words.{word_at}
 use Rattle.program.specs.Lists.{Each}
 use Rattle.program.specs.Programs.{ProgramModel}
 use Rattle.rules.specs.Programs.{is_entry}
-use Rattle.machine.specs.Outcomes.{Bounds}
+use Rattle.machine.specs.Outcomes.{QueueBounds}
 use Rattle.machine.specs.Replays.{IsReplay, ReplayModel}
 use Rattle.machine.specs.Runs.{AreBounds}
 use Rattle.machine.specs.declared.halts.Event.{Event}
@@ -90,7 +90,7 @@ pub record IsRan (entry schedule text bytes : List ℕ) (status : Status) : Type
   pub events : List Event
   pub told : IsSchedule schedule events
   pub replayed : ReplayModel
-  pub led : (bound : Bounds) → AreBounds program bound → IsReplay program bound n events replayed
+  pub led : (bound : QueueBounds) → AreBounds program bound → IsReplay program bound n events replayed
   pub are : bytes
       ≡ replay_lines (record { program = program; structs = struct_names text entered.has.items }) events replayed.steps replayed.halt
       replayed.world

@@ -2,8 +2,8 @@
 use Rattle.std.specs.Prelude.{◌≡◌, ◌≢◌, ℕ, List, Some, take}
 use Rattle.source.specs.declared.place.Place.{Place}
 use Rattle.program.specs.Programs.{ProgramModel}
-use Rattle.machine.specs.Outcomes.{Bounds}
-use Rattle.machine.specs.Runs.{AreBounds, Leads, Run, start_of}
+use Rattle.machine.specs.Outcomes.{QueueBounds}
+use Rattle.machine.specs.Runs.{AreBounds, RunsTo, Run, start_of}
 use Rattle.machine.specs.World.{World}
 use Rattle.machine.specs.declared.halts.Fault.{Fault}
 use Rattle.machine.specs.declared.halts.Fault.TheVariants.{F6}
@@ -20,7 +20,7 @@ use Rattle.singcheck.specs.Replays.{IsRan}
 -- Every run of a program is safe, with whatever method it begins, and in whatever order its processes take turns. The queues have the
 -- bounds of their contracts.
 pub record RunsAreSafe (p : ProgramModel) : Type 0 where
-  pub each : (bound : Bounds) → AreBounds p bound → (n : ℕ) (w : World) → IsEntry p n → Run p bound n w → IsSafe p bound w
+  pub each : (bound : QueueBounds) → AreBounds p bound → (n : ℕ) (w : World) → IsEntry p n → Run p bound n w → IsSafe p bound w
 
 -- what the text comes to is safe in every run
 abbrev pub IsSafeText : List ℕ → Type 0
@@ -40,8 +40,8 @@ pub record RunsSafely (entry schedule text bytes : List ℕ) (status : Status) :
 pub record KeepsBounds (entry schedule text bytes : List ℕ) (status : Status) : Type 0 where
   pub ran : IsRan entry schedule text bytes status
   pub no_overflow : (at : Place) → ran.replayed.halt ≢ Some (halt.Fault F6 at)
-  pub bounded : (bound : Bounds) → AreBounds ran.program bound → (k : ℕ) (w : World)
-      → Leads ran.program bound (start_of ran.program ran.n) (take k ran.events) w → IsBounded ran.program bound w
+  pub bounded : (bound : QueueBounds) → AreBounds ran.program bound → (k : ℕ) (w : World)
+      → RunsTo ran.program bound (start_of ran.program ran.n) (take k ran.events) w → IsBounded ran.program bound w
 
 -- what `replay` answers, whatever `check` finds: the findings of the text before its methods, or a replay that keeps the bounds
 pub data ReplaysWithinBounds (entry schedule text bytes : List ℕ) (status : Status) : Type 0 where

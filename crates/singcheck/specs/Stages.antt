@@ -66,17 +66,17 @@ pub record KeepsSound (c : ContractModel) (old new : Judging) : Type 0 where
 -- all that is wrong with a contract of these parts is added
 pub record AddsAll (parts : Parts) (old new : List Finding) : Type 0 where
   pub more : List FindingModel
-  pub exactly : AreExactly (conditions.IsFault parts) more
+  pub exactly : AreExactly (conditions.IsFlaw parts) more
   pub added : map finding_model new ≡ map finding_model old ++ more
 
 -- something is wrong with a contract, and all of it is added
 pub record AddsFaults (c : ContractModel) (old new : Judging) : Type 0 where
-  pub broken : (f : FindingModel) × conditions.IsFault c.parts f
+  pub broken : (f : FindingModel) × conditions.IsFlaw c.parts f
   pub all : AddsAll c.parts old.findings.items new.findings.items
 
-pub data Judges (c : ContractModel) (old new : Judging) : Type 0 where
-  Keeps : KeepsSound c old new → Judges c old new
-  Adds : AddsFaults c old new → Judges c old new
+pub data JudgesContract (c : ContractModel) (old new : Judging) : Type 0 where
+  Keeps : KeepsSound c old new → JudgesContract c old new
+  Adds : AddsFaults c old new → JudgesContract c old new
 
 -- these contracts have been judged
 pub record AreJudged (contracts : List ContractModel) (judging : Judging) : Type 0 where

@@ -5,7 +5,7 @@ ghost use Rattle.std.specs.Io.KnownBytes.{Keeps};
 ghost use Rattle.contracts.specs.Sounds.{sound_parts};
 ghost use Rattle.devices.specs.RunFaults.{IsBoundsFault};
 ghost use Rattle.devices.specs.Runs.{Writes, BeginsAnswer, LeavesRest, TakesAtMost};
-ghost use Rattle.singcheck.specs.Answers.{Answers, AreBounds};
+ghost use Rattle.singcheck.specs.Answers.{Answers, IsBoundsReport};
 ghost use Rattle.singcheck.specs.Stages.{IsClean, AddsLine};
 
 use crate::lines::{add_bounds, add_contracts};
@@ -65,7 +65,7 @@ fn bounds_report(alloc: Global, text: &[u8]) -> Result<Report, Memory>
 
 /// A line for each contract, and then their number.
 fn bounds_lines(alloc: Global, clean: &Clean) -> Result<Vec<u8>, Memory>
-    ensures { IfOk result (λ bytes. (text : List ℕ) → IsClean text clean.now → AreBounds text bytes.items) }
+    ensures { IfOk result (λ bytes. (text : List ℕ) → IsClean text clean.now → IsBoundsReport text bytes.items) }
 {
     let mut answer = Vec::new(alloc);
     for (contract, sound) in clean.resolved.contracts.iter().zip(&clean.sounds) {

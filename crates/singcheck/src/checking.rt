@@ -4,7 +4,7 @@ ghost use Rattle.std.specs.Prelude.{◌≡◌, ◌<◌, ◌^◌, true, ℕ, map,
 ghost use Rattle.rules.specs.Programs.{model_of};
 ghost use Rattle.sound.specs.Premises.{NothingIsFound};
 ghost use Rattle.singcheck.specs.Checks.{Checks, HasProgram};
-ghost use Rattle.singcheck.specs.CheckFaults.{AreUnfit, Explains, workers_fit, slots_fit};
+ghost use Rattle.singcheck.specs.CheckFaults.{AreUnfit, ExplainsFault, workers_fit, slots_fit};
 ghost use Rattle.singcheck.specs.Safety.{IsSafeText};
 
 use crate::laws::one_program;
@@ -44,7 +44,7 @@ pub fn check<R: Threads + Wait + AllocGlobal + Sync, G: Gate>(
     ensures safe { IfOk result (λ r. r.status ≡ Status.Empty → IsSafeText text.now) }
     ensures workers { OnOk result (workers_fit workers ≡ true) }
     ensures slots { OnOk result (slots_fit slots ≡ true) }
-    ensures fault { IfErr result (Explains workers slots) }
+    ensures fault { IfErr result (ExplainsFault workers slots) }
 {
     judge_numbers(workers, slots)?;
     let shelf = Shelf::new(rt.alloc())?;
@@ -66,7 +66,7 @@ pub fn check_onto<R: Threads + Wait + AllocGlobal + Sync, G: Gate>(
     ensures safe { IfOk result (λ r. r.status ≡ Status.Empty → IsSafeText text.now) }
     ensures workers { OnOk result (workers_fit workers ≡ true) }
     ensures slots { OnOk result (slots_fit slots ≡ true) }
-    ensures fault { IfErr result (Explains workers slots) }
+    ensures fault { IfErr result (ExplainsFault workers slots) }
 {
     judge_numbers(workers, slots)?;
     let tools = Tools {

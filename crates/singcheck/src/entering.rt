@@ -5,8 +5,8 @@ ghost use Rattle.tree.specs.Trees.{program_tree};
 ghost use Rattle.contracts.specs.Conditions.{IsSound};
 ghost use Rattle.program.specs.declared.limits.TheConstants.{MOST_METHODS};
 ghost use Rattle.rules.specs.Programs.{model_of};
-ghost use Rattle.singcheck.specs.Entered.{Begins, ComesIn, IsEntered};
-ghost use Rattle.singcheck.specs.Named.{HasNames};
+ghost use Rattle.singcheck.specs.Entered.{MayBegin, ComesIn, IsEntered};
+ghost use Rattle.singcheck.specs.Named.{HasCleanNames};
 ghost use Rattle.singcheck.specs.Stages.{IsProgramOf};
 
 use crate::entries::{entry_index, struct_names};
@@ -72,7 +72,7 @@ fn enter_method(
     program: Program,
     entry: &[u8],
 ) -> Result<Option<Begun>, Memory>
-    requires program { HasNames text.now (program_tree tree.now) (model_of program) }
+    requires program { HasCleanNames text.now (program_tree tree.now) (model_of program) }
     requires sound { All (λ c. IsSound c.parts) (model_of program).contracts }
     requires few { length (model_of program).methods ≤ MOST_METHODS }
     ensures { IfOk result (ComesIn text.now entry.now) }
@@ -91,8 +91,8 @@ fn enter_method(
 /// The method at a place, if there is one and a run may begin with it.
 fn entry_of(program: &Program, index: Option<usize>) -> Option<MethodId>
     requires few { length (model_of program.now).methods < 2 ^ 32 }
-    ensures some { IfSome result (λ id. (index ≡ Some id.0) × Begins (model_of program.now) id.0) }
-    ensures none { IfNone result ((n : ℕ) → index ≡ Some n → ¬ Begins (model_of program.now) n) }
+    ensures some { IfSome result (λ id. (index ≡ Some id.0) × MayBegin (model_of program.now) id.0) }
+    ensures none { IfNone result ((n : ℕ) → index ≡ Some n → ¬ MayBegin (model_of program.now) n) }
 {
     let index = index?;
     if index >= program.methods().len() {

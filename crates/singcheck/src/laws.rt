@@ -1,7 +1,7 @@
 //! Laws of the answers: they hold of every text, whatever a run does.
 
 ghost use Rattle.std.specs.Prelude.{◌≡◌, ℕ, List};
-ghost use Rattle.machine.specs.Outcomes.{Bounds};
+ghost use Rattle.machine.specs.Outcomes.{QueueBounds};
 ghost use Rattle.machine.specs.Runs.{AreBounds};
 ghost use Rattle.machine.specs.declared.halts.Event.{Event};
 ghost use Rattle.replays.specs.Schedules.{IsSchedule};
@@ -103,7 +103,7 @@ pub fn each_program_is_well_formed()
 
 /// The contracts of what a text comes to have bounds: it is refuted that no bounds are theirs.
 pub fn each_program_has_bounds()
-    ensures { (text : List ℕ) (p : ProgramModel) → HasProgram text p → ((bound : Bounds) → AreBounds p bound → ⊥) → ⊥ }
+    ensures { (text : List ℕ) (p : ProgramModel) → HasProgram text p → ((bound : QueueBounds) → AreBounds p bound → ⊥) → ⊥ }
 {
     clean_contracts_are_whole();
     each_contract_is_judged();

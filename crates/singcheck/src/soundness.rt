@@ -2,7 +2,7 @@
 
 ghost use Rattle.std.specs.Prelude.{◌≡◌, ◌++◌, ◌<◌, ◌^◌, All, IfOk, OnOk, Some, length, map, slice_get};
 ghost use Rattle.program.specs.Parts.{ContractModel, IsWhole, contract_model};
-ghost use Rattle.singcheck.specs.Stages.{IsJudgement, Judges};
+ghost use Rattle.singcheck.specs.Stages.{IsJudgement, JudgesContract};
 
 use crate::stage::Stage;
 use contracts::{Judged, Sound, contract_at};
@@ -64,7 +64,7 @@ fn judge(
     requires whole { All (λ c. IsWhole c.parts) (map contract_model resolved.now.contracts.items) }
     ensures { OnOk result ((c : ContractModel)
         → slice_get (map contract_model resolved.now.contracts.items) id.0 ≡ Some c
-        → Judges c judging.old judging.new) }
+        → JudgesContract c judging.old judging.new) }
 {
     match Sound::judge(alloc, contract_at(resolved, id))? {
         Judged::Sound(sound) => judging.sounds.push(sound)?,

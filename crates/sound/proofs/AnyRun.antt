@@ -25,14 +25,14 @@ use Rattle.machine.specs.Blocks.{handed, is_own_still, new_block, owns_none, end
 use Rattle.machine.specs.Frames.{method_at, variables_of, type_at, payloads_claimed, address, addresses, choices, point_instruction}
 use Rattle.machine.specs.Machine.{outcome_of, outcome_in}
 use Rattle.machine.specs.Machine.{event_outcome}
-use Rattle.machine.specs.Outcomes.{Outcome, NoChoice, Bounds, tested}
+use Rattle.machine.specs.Outcomes.{Outcome, NoChoice, QueueBounds, tested}
 use Rattle.machine.specs.Runs.{Run, begins, goes_on}
 use Rattle.machine.specs.World.{no_type, MessageHeld, Block, Frame, World, block_at, stack_at, changed, read, owns, let_go}
 use Rattle.machine.specs.Heaps.{top}
 use Rattle.machine.specs.declared.worlds.Owner.TheVariants.{Inside}
 use Rattle.machine.specs.declared.halts.Event.{Event}
 use Rattle.machine.specs.declared.halts.Fault.TheVariants.{F1, F2, F3, F7}
-use Rattle.sound.specs.GraphFit.{AreGraphsFit, IsFit, Scope}
+use Rattle.sound.specs.GraphFit.{AreGraphsFit, IsFit, ScopeAt}
 use Rattle.sound.specs.Operands.{stateless}
 use Rattle.sound.specs.Queues.{IsBounded, IsLiveEnd}
 use Rattle.sound.proofs.Contracts.{sound_program}
@@ -64,7 +64,7 @@ pub record AreMadeWell (p : ProgramModel) : Type 0 where
   pub each : (n : ℕ) (m : MethodModel) (point : ℕ) (i : Instruction) → method_at p n ≡ Some m
       → slice_get (graph_of m).instructions point ≡ Some i → IsMadeWell p m i
 
-module _ (p : ProgramModel) (bound : Bounds) (w : World) (self : ℕ) (f : Frame) (rest : List Frame) (h : RunFits p w.blocks) where
+module _ (p : ProgramModel) (bound : QueueBounds) (w : World) (self : ℕ) (f : Frame) (rest : List Frame) (h : RunFits p w.blocks) where
   -- ---- Return
   returns_fine : (value : Option Mention) (fs : List Frame) → IsFine p (returns p bound w self f rest value fs)
   returns_fine value [] = one_test p (owns_none w.blocks self) F7 [] _ (λ e. tt) (λ e. h)
@@ -174,7 +174,7 @@ module _ (p : ProgramModel) (bound : Bounds) (w : World) (self : ℕ) (f : Frame
     instruction_fine (Stop place) choice fit = returns_fine None rest
 
 -- ---- runs
-module _ (always : HeldAlways) (longer : NeverLonger) (p : ProgramModel) (bound : Bounds) (sound : IsSoundProgram p bound)
+module _ (always : HeldAlways) (longer : NeverLonger) (p : ProgramModel) (bound : QueueBounds) (sound : IsSoundProgram p bound)
     (made_well : AreMadeWell p) where
   fine_at : (w : World) (e : Event) (f : Frame) (rest : List Frame) → RunFits p w.blocks → (x : Option MethodModel)
       → method_at p f.method ≡ x → IsFine p (outcome_of p bound w e f rest (point_instruction x f.point))
@@ -211,7 +211,7 @@ module _ (always : HeldAlways) (longer : NeverLonger) (p : ProgramModel) (bound 
   run_fits m v (goes_on w u e run moved) = subst (λ (o : Outcome). IsFine p o) moved (fine w e (run_fits m w run))
 
 -- a queue is no longer than its bound
-short : NeverLonger → (p : ProgramModel) (bound : Bounds) → IsSoundProgram p bound → (bs : List Block) → ChannelsFit p bs
+short : NeverLonger → (p : ProgramModel) (bound : QueueBounds) → IsSoundProgram p bound → (bs : List Block) → ChannelsFit p bs
     → (a c : ℕ) (side : Side) → IsLiveEnd bs a c side → length (block_at bs a).queue ≤ bound c side
 short longer p bound sound bs channels a c side live =
     let ch = channel_of p bs a c side channels live.there live.lives (ap stateless live.ty) in
@@ -223,7 +223,7 @@ short longer p bound sound bs channels a c side live =
     omega arith
 
 -- a graph that fits makes well
-fit_made : (p : ProgramModel) (m : MethodModel) (scope : Scope) (point : ℕ) (i : Instruction) → IsFit p m scope point i → IsMadeWell p m i
+fit_made : (p : ProgramModel) (m : MethodModel) (scope : ScopeAt) (point : ℕ) (i : Instruction) → IsFit p m scope point i → IsMadeWell p m i
 fit_made p m scope point (New v arguments next) fit =
     ap (λ (o : Option VariableModel). is_end (option_map_or (λ x. x.ty) o no_type)) fit.there ∙ fit.block
 fit_made p m scope point (NewChannel c next) fit = (fit.contract, fit.contract_there)
@@ -248,7 +248,7 @@ made_well p graphs = record {
 }
 
 -- in every run queues are walks, and no send passes the bound of a queue
-pub runs_are_bounded : HeldAlways → NeverLonger → (p : ProgramModel) (bound : Bounds)
+pub runs_are_bounded : HeldAlways → NeverLonger → (p : ProgramModel) (bound : QueueBounds)
     → AreWellFormed p.contracts p.messages p.structs p.methods → AreSound p → AreBounds p bound
     → (n : ℕ) (w : World) → Run p bound n w → IsBounded p bound w
 runs_are_bounded always longer p bound well sound bounds n w run =

@@ -12,7 +12,7 @@ use Rattle.program.specs.declared.number.StateId.{StateId}
 use Rattle.contracts.specs.Conditions.{IsSound}
 use Rattle.contracts.specs.Sounds.{sound_parts}
 use Rattle.contracts.specs.declared.sound.Sound.{Sound}
-use Rattle.machine.specs.Outcomes.{Bounds}
+use Rattle.machine.specs.Outcomes.{QueueBounds}
 use Rattle.machine.specs.Runs.{AreBounds}
 use Rattle.sound.specs.Premises.{AreSound}
 use Rattle.sound.proofs.Invariant.{IsSoundProgram}
@@ -86,7 +86,7 @@ all_sound p sounds same = record {
 }
 
 -- what is asked of contracts, as the proofs have it
-pub sound_program : (p : ProgramModel) (bound : Bounds) → AreSound p → AreBounds p bound → IsSoundProgram p bound
+pub sound_program : (p : ProgramModel) (bound : QueueBounds) → AreSound p → AreBounds p bound → IsSoundProgram p bound
 sound_program p bound sound bounds = record {
   whole = λ n c there. whole_of c.parts (sound.whole n c there);
   sound = sound.sound;

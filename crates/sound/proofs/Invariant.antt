@@ -22,8 +22,8 @@ use Rattle.contracts.specs.Bounds.{IsBound}
 use Rattle.contracts.specs.Conditions.{IsSound}
 use Rattle.program.specs.Parts.{IsWhole}
 pub use Rattle.machine.specs.Heaps.{one_if}
-use Rattle.machine.specs.Heaps.{IsHeld}
-use Rattle.machine.specs.Outcomes.{Bounds}
+use Rattle.machine.specs.Heaps.{FieldsHold}
+use Rattle.machine.specs.Outcomes.{QueueBounds}
 use Rattle.contracts.specs.TwoEnds.{Ends, Moves, begun}
 use Rattle.rules.specs.Arguments.{claimed}
 use Rattle.rules.specs.Endpoints.{brought, declared_leaf}
@@ -218,11 +218,11 @@ pub record ChannelsFit (p : ProgramModel) (bs : List Block) : Type 0 where
 pub record BlocksFit (p : ProgramModel) (bs : List Block) : Type 0 where
   pub channels : ChannelsFit p bs
   pub queues : (a x : ℕ) → in_queue x (block_at bs a).queue ≡ one_if (is_queue (block_at bs x).owner a)
-  pub held : IsHeld bs
+  pub held : FieldsHold bs
 
 -- ---- what is asked of contracts
 -- contracts that are sound, and bounds that no walk passes
-pub record IsSoundProgram (p : ProgramModel) (bound : Bounds) : Type 0 where
+pub record IsSoundProgram (p : ProgramModel) (bound : QueueBounds) : Type 0 where
   pub whole : (c : ℕ) (x : ContractModel) → slice_get p.contracts c ≡ Some x → IsWhole x.parts
   pub sound : (c : ℕ) (x : ContractModel) → slice_get p.contracts c ≡ Some x → IsSound x.parts
   pub bounds : (c : ℕ) (x : ContractModel) (side : Side) → slice_get p.contracts c ≡ Some x
@@ -235,7 +235,7 @@ pub record Holds (p : ProgramModel) (w : World) : Type 0 where
   pub own : (q a : ℕ) → held p a (stack_at w.processes q) ≡ one_if (owns w.blocks q a)
   pub queues : (a x : ℕ) → in_queue x (block_at w.blocks a).queue ≡ one_if (is_queue (block_at w.blocks x).owner a)
   pub brought : (a : ℕ) → AreBrought p w.blocks (block_at w.blocks a).queue
-  pub held : IsHeld w.blocks
+  pub held : FieldsHold w.blocks
   pub declared : FieldsDeclared p w.blocks
 
 pub blocks_fit : (p : ProgramModel) (w : World) → Holds p w → BlocksFit p w.blocks

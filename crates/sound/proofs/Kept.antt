@@ -22,7 +22,7 @@ use Rattle.rows.specs.declared.row.Leaf.TheVariants as leaf
 use Rattle.rows.specs.declared.row.Leaf.{Leaf}
 use Rattle.analyse.specs.Reach.{Reached}
 use Rattle.machine.specs.Frames.{method_at, instruction_at}
-use Rattle.machine.specs.Heaps.{IsHeld, occurs}
+use Rattle.machine.specs.Heaps.{FieldsHold, occurs}
 use Rattle.machine.specs.World.{MessageHeld, Block, Frame, World, block_at, stack_at, read, is_inside, is_queue, owns, cut_off, freed}
 use Rattle.sound.specs.Operands.{stateless}
 use Rattle.sound.proofs.Basics.{standing_read, process_apart, stack_there}
@@ -271,7 +271,7 @@ pub record SameFields (p : ProgramModel) (bs bs' : List Block) : Type 0 where
   pub fields : (a : ℕ) → a < length bs → freed bs' a ≡ false → (block_at bs' a).fields ≡ (block_at bs a).fields
 
 -- the fields of a block that was there are still as they are declared
-pub fields_kept : (p : ProgramModel) (bs bs' : List Block) (a : ℕ) → IsHeld bs → SameFields p bs bs' → FieldsDeclared p bs → a < length bs
+pub fields_kept : (p : ProgramModel) (bs bs' : List Block) (a : ℕ) → FieldsHold bs → SameFields p bs bs' → FieldsDeclared p bs → a < length bs
     → freed bs' a ≡ false → AreDeclared bs' (field_types p.structs (block_at bs' a).ty) (block_at bs' a).fields
 fields_kept p bs bs' a held same h within lives =
     subst (λ (k : HeapType). AreDeclared bs' (field_types p.structs k) (block_at bs' a).fields) (sym (same.types a within))
@@ -285,7 +285,7 @@ fields_kept p bs bs' a held same h within lives =
     (h a within (same.lives a within lives))))
 
 -- all of them, where there is no block more
-pub all_fields_kept : (p : ProgramModel) (bs bs' : List Block) → IsHeld bs → SameFields p bs bs' → length bs' ≡ length bs
+pub all_fields_kept : (p : ProgramModel) (bs bs' : List Block) → FieldsHold bs → SameFields p bs bs' → length bs' ≡ length bs
     → FieldsDeclared p bs → FieldsDeclared p bs'
 all_fields_kept p bs bs' held same long h a within lives = fields_kept p bs bs' a held same h (omega arith) lives
 
@@ -301,7 +301,7 @@ pub record GoesOn (p : ProgramModel) (w : World) (self : ℕ) (f : Frame) (m : M
   pub channels : ChannelsFit p bs'
   pub queues : (a x : ℕ) → in_queue x (block_at bs' a).queue ≡ one_if (is_queue (block_at bs' x).owner a)
   pub brought : (a : ℕ) → AreBrought p bs' (block_at bs' a).queue
-  pub held : IsHeld bs'
+  pub held : FieldsHold bs'
   pub declared : FieldsDeclared p bs'
 
 -- the frame at its next point

@@ -30,7 +30,7 @@ use Rattle.rules.specs.Endpoints.{brought, declared_leaf, fields_of, result_of, 
 use Rattle.rows.specs.Leaves.{is_something}
 use Rattle.rules.specs.Mentions.{is_lent, is_kept, has_something, given_back, is_not_lent, has_nothing, is_another}
 use Rattle.rules.specs.Outcomes.{Goes, Pair, refused}
-use Rattle.rows.specs.Rows.{leaf_at, given, is_owned}
+use Rattle.rows.specs.Rows.{leaf_at, leaf_or_nothing, is_owned}
 use Rattle.rules.specs.RuleTable.{exchanged, instruction_outcome, value_checks, back_checks}
 use Rattle.rules.specs.Scopes.{declared_between}
 use Rattle.rules.specs.Steps.{outcome, entry_of, method_entry, method_outcome, point_outcome, entry_leaf}
@@ -38,8 +38,8 @@ use Rattle.rules.specs.Switches.{bound_leaves, pair_at, received, closed, awaite
 use Rattle.rules.specs.Texts.{not_sent}
 use Rattle.rows.specs.declared.row.Leaf.TheVariants as leaf
 use Rattle.rows.specs.declared.row.Leaf.{Leaf}
-use Rattle.analyse.specs.Reach.{Leads, IsPath, Reached}
-use Rattle.sound.specs.GraphFit.{IsGraphFit, IsFit, Keeps, IsEntrance, IsBoundAt, AreBrought}
+use Rattle.analyse.specs.Reach.{StepsTo, IsPath, Reached}
+use Rattle.sound.specs.GraphFit.{IsGraphFit, IsFit, KeepsScope, IsEntrance, IsBoundAt, AreBrought}
 use Rattle.sound.proofs.Checks.{Passed, checked_passed, goes_same, leaf_set_other, not_refused, passed_left, row_set_still, row_still}
 use Rattle.sound.proofs.Checks.{something_is}
 use Rattle.sound.proofs.Lists.{each_all, each_append, each_contains, each_flat, each_map, not_false}
@@ -86,13 +86,13 @@ module _ (p : ProgramModel) (m : MethodModel) (scope : (point variable : ℕ) �
   abbrev NoneOut : Pair → Type 0
   NoneOut x = (v : ℕ) → scope x.0 v ≡ false → leaf_at x.1 v ≡ leaf.Nothing
 
-  keeps : (from to : ℕ) (row : List Leaf) (gone : List ℕ) → Keeps scope from to gone → NoneOut (from, row)
+  keeps : (from to : ℕ) (row : List Leaf) (gone : List ℕ) → KeepsScope scope from to gone → NoneOut (from, row)
       → ((v : ℕ) → is_among gone v ≡ true → leaf_at row v ≡ leaf.Nothing) → NoneOut (to, row)
   keeps from to row gone k h left v out =
       ⊎_elim (λ inside. ⊎_elim (λ still. absurd (true≢false still out)) (λ g. left v g) (k.each v inside)) (λ outside. h v outside)
       (cases_Bool (scope from v))
 
-  keeps_all : (from to : ℕ) (row : List Leaf) → Keeps scope from to [] → NoneOut (from, row) → NoneOut (to, row)
+  keeps_all : (from to : ℕ) (row : List Leaf) → KeepsScope scope from to [] → NoneOut (from, row) → NoneOut (to, row)
   keeps_all from to row k h = keeps from to row [] k h (λ v e. absurd (true≢false e refl))
 
   set_in : (to : ℕ) (row : List Leaf) (t : ℕ) (l : Leaf) → scope to t ≡ true → NoneOut (to, row) → NoneOut (to, set row t l)
@@ -105,7 +105,7 @@ module _ (p : ProgramModel) (m : MethodModel) (scope : (point variable : ℕ) �
   claimed_out to row arguments h v out = row_still row arguments v (h v out)
 
   -- a variable that has something is in scope, and stays there
-  owned_in : (from to v : ℕ) (row : List Leaf) → Keeps scope from to [] → NoneOut (from, row) → is_owned row v ≡ true → scope to v ≡ true
+  owned_in : (from to v : ℕ) (row : List Leaf) → KeepsScope scope from to [] → NoneOut (from, row) → is_owned row v ≡ true → scope to v ≡ true
   owned_in from to v row k h owned =
       ⊎_elim (λ inside. ⊎_elim (λ still. still) (λ g. absurd (true≢false g refl)) (k.each v inside))
       (λ out. absurd (true≢false owned (ap is_something (h v out)))) (cases_Bool (scope from v))
@@ -274,7 +274,7 @@ module _ (p : ProgramModel) (n : ℕ) (m : MethodModel) (g : IsGraphFit p m) (th
   point_in x None all at h e = subst (λ ps. Each (NoneOut p m g.scope) ps) (goes_same [] all e) tt
   point_in x (Some i) all at h e = step_in p m g.scope x.0 x.1 i all (g.fits x.0 i at) h e
 
-  leads_in : (x y : Pair) → NoneOut p m g.scope x → Leads (outcome p n) x y → NoneOut p m g.scope y
+  leads_in : (x y : Pair) → NoneOut p m g.scope x → StepsTo (outcome p n) x y → NoneOut p m g.scope y
   unfolding outcome
   leads_in x y h l =
       let e : point_outcome p m x.1 (slice_get (graph_of m).instructions x.0) ≡ Goes l.all =
@@ -286,7 +286,7 @@ module _ (p : ProgramModel) (n : ℕ) (m : MethodModel) (g : IsGraphFit p m) (th
   path_in (s ∷ steps) x y h path = path_in steps s y (leads_in x s h path.0) path.1
 
   begin_in : NoneOut p m g.scope ((graph_of m).first, map (λ v. entry_leaf v.role v.ty) m.variables)
-  begin_in v out = ap given (slice_get-map (λ (x : VariableModel). entry_leaf x.role x.ty) m.variables v)
+  begin_in v out = ap leaf_or_nothing (slice_get-map (λ (x : VariableModel). entry_leaf x.role x.ty) m.variables v)
       ∙ by (slice_get m.variables v) refl
     where
       local : (x : VariableModel) (r : Role) → x.role ≡ r → slice_get m.variables v ≡ Some x → entry_leaf r x.ty ≡ leaf.Nothing
@@ -295,7 +295,7 @@ module _ (p : ProgramModel) (n : ℕ) (m : MethodModel) (g : IsGraphFit p m) (th
       local x role.Claimed is at = absurd (true≢false (g.begins v x at (ap is_parameter is)) out)
 
       by : (o : Option VariableModel) → slice_get m.variables v ≡ o
-          → given (option_map (λ (x : VariableModel). entry_leaf x.role x.ty) o) ≡ leaf.Nothing
+          → leaf_or_nothing (option_map (λ (x : VariableModel). entry_leaf x.role x.ty) o) ≡ leaf.Nothing
       by None at = refl
       by (Some x) at = local x x.role refl at
 

@@ -19,7 +19,7 @@ use Rattle.program.specs.declared.statement.Mention.{Mention}
 use Rattle.flow.specs.Graphs as graph
 use Rattle.flow.specs.Lowering.{Lays, acts, both, called, forgets, made_new, one, reads, sent, started}
 use Rattle.rules.specs.Endpoints.{brought}
-use Rattle.sound.specs.GraphFit.{Keeps, Scope}
+use Rattle.sound.specs.GraphFit.{KeepsScope, ScopeAt}
 use Rattle.sound.proofs.Binding.{leads_in}
 use Rattle.sound.proofs.events.Branching.{keeps_within}
 use Rattle.sound.proofs.Laying.{LaysFit, OneScope, Within, both_fits, gone_fits, nothing_fits, one_fits}
@@ -43,16 +43,16 @@ module _ (p : ProgramModel) (m : MethodModel) (well : IsWellFormed p.contracts p
     at_continue = again;
   }
 
-  abbrev pub here_fits : Lays → Option VarId → Option VarId → (Scope → Type 0) → ℕ → ℕ → Type 0
+  abbrev pub here_fits : Lays → Option VarId → Option VarId → (ScopeAt → Type 0) → ℕ → ℕ → Type 0
   here_fits a before after Outside from next = LaysFit p m a (in_scope m before) (in_scope m after) Outside from next
 
   -- what a `break` and a `continue` ask of where they lead
-  abbrev pub Out : (exit again : Option VarId) (x a : ℕ) → Scope → Type 0
+  abbrev pub Out : (exit again : Option VarId) (x a : ℕ) → ScopeAt → Type 0
   Out exit again x a scope = Within (in_scope m exit) (scope x) × Within (in_scope m again) (scope a)
 
   -- from a point of this scope to one that has all of it
-  pub keeps_here : (scope : Scope) (from to : ℕ) (here : Option VarId) → scope from ≡ in_scope m here → Within (in_scope m here) (scope to)
-      → Keeps scope from to []
+  pub keeps_here : (scope : ScopeAt) (from to : ℕ) (here : Option VarId) → scope from ≡ in_scope m here → Within (in_scope m here) (scope to)
+      → KeepsScope scope from to []
   keeps_here scope from to here is w = keeps_within p m scope from to (in_scope m here) is w
 
   -- a variable of the scope, whose number is one of the method's
@@ -60,7 +60,7 @@ module _ (p : ProgramModel) (m : MethodModel) (well : IsWellFormed p.contracts p
       → in_scope m here v.0 ≡ true
   inside exit again here v short leads = leads_in m well.nested here v short leads
 
-  pub reads_fit : (ms : List Mention) (here : Option VarId) (Outside : Scope → Type 0) (from next : ℕ)
+  pub reads_fit : (ms : List Mention) (here : Option VarId) (Outside : ScopeAt → Type 0) (from next : ℕ)
       → here_fits (reads ms) here here Outside from next
   reads_fit [] here Outside from next = nothing_fits p m (in_scope m here) (in_scope m here) Outside from next (λ v e. e)
   reads_fit (u ∷ ms) here Outside from next =
@@ -70,7 +70,7 @@ module _ (p : ProgramModel) (m : MethodModel) (well : IsWellFormed p.contracts p
       (one_fits p m (graph.Use u) (in_scope m here) (in_scope m here) Outside (from + length rest.instructions) rest.entry
       (λ scope is w out. keeps_here scope (from + length rest.instructions) rest.entry here is w))
 
-  pub forgets_fit : (f : Option Forget) (here to : Option VarId) (Outside : Scope → Type 0) (from next : ℕ) → GoesBack here to f
+  pub forgets_fit : (f : Option Forget) (here to : Option VarId) (Outside : ScopeAt → Type 0) (from next : ℕ) → GoesBack here to f
       → Grown m to here → here_fits (forgets f) here to Outside from next
   forgets_fit None here to Outside from next back grown =
       nothing_fits p m (in_scope m here) (in_scope m to) Outside from next
@@ -170,14 +170,14 @@ module _ (p : ProgramModel) (m : MethodModel) (well : IsWellFormed p.contracts p
       })
 
   -- both in one scope
-  pub both_here : (a b : Lays) (here : Option VarId) (Outside : Scope → Type 0)
+  pub both_here : (a b : Lays) (here : Option VarId) (Outside : ScopeAt → Type 0)
       → ((from next : ℕ) → here_fits a here here Outside from next) → ((from next : ℕ) → here_fits b here here Outside from next)
       → (from next : ℕ) → here_fits (both a b) here here Outside from next
   both_here a b here Outside f g from next =
       both_fits p m a b (in_scope m here) (in_scope m here) (in_scope m here) Outside from next (g from next)
       (f (from + length (b from next).instructions) (b from next).entry)
 
-  pub new_fit : (n : NewModel) (exit again here : Option VarId) (Outside : Scope → Type 0) (from next : ℕ)
+  pub new_fit : (n : NewModel) (exit again here : Option VarId) (Outside : ScopeAt → Type 0) (from next : ℕ)
       → IsNew (around exit again here) n → here_fits (made_new n) here here Outside from next
   new_fit n exit again here Outside from next wf =
       let s = around exit again here in
@@ -205,7 +205,7 @@ module _ (p : ProgramModel) (m : MethodModel) (well : IsWellFormed p.contracts p
       let t = of_type (around exit again here) k v.variable taken in
       inside exit again here v.variable (slice_get_within m.variables v.variable.0 t.variable t.there) h
 
-  pub called_fit : (c : CallModel) (exit again here : Option VarId) (Outside : Scope → Type 0) (from next : ℕ)
+  pub called_fit : (c : CallModel) (exit again here : Option VarId) (Outside : ScopeAt → Type 0) (from next : ℕ)
       → IsSomeAnd (slice_get p.methods c.method.0) (IsCallOf (around exit again here) c)
       → here_fits (called c) here here Outside from next
   called_fit c exit again here Outside from next wf =
@@ -228,7 +228,7 @@ module _ (p : ProgramModel) (m : MethodModel) (well : IsWellFormed p.contracts p
       (reads_fit c.behind here Outside))
       from next
 
-  pub started_fit : (c : CallModel) (exit again here : Option VarId) (Outside : Scope → Type 0) (from next : ℕ)
+  pub started_fit : (c : CallModel) (exit again here : Option VarId) (Outside : ScopeAt → Type 0) (from next : ℕ)
       → ((n : ℕ) (callee : MethodModel) → slice_get p.methods n ≡ Some callee → callee.gives ≡ false → callee.result ≡ None)
       → IsSomeAnd (slice_get p.methods c.method.0) (IsStartOf (around exit again here) c)
       → here_fits (started c) here here Outside from next
@@ -247,7 +247,7 @@ module _ (p : ProgramModel) (m : MethodModel) (well : IsWellFormed p.contracts p
       }))
       from next
 
-  pub sent_fit : (x : SendModel) (exit again here : Option VarId) (Outside : Scope → Type 0) (from next : ℕ)
+  pub sent_fit : (x : SendModel) (exit again here : Option VarId) (Outside : ScopeAt → Type 0) (from next : ℕ)
       → IsSend (around exit again here) x → here_fits (sent x) here here Outside from next
   sent_fit x exit again here Outside from next wf =
       let s = around exit again here in

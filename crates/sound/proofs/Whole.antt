@@ -12,7 +12,7 @@ use Rattle.rules.specs.Steps.{outcome, entry_of}
 use Rattle.analyse.specs.Verdicts.{IsMethodVerdict}
 use Rattle.machine.specs.Frames.{method_at, instruction_at, point_instruction, choices}
 use Rattle.machine.specs.Machine.{outcome_of, outcome_in, event_outcome}
-use Rattle.machine.specs.Outcomes.{Outcome, NoChoice, Bounds}
+use Rattle.machine.specs.Outcomes.{Outcome, NoChoice, QueueBounds}
 use Rattle.machine.specs.Runs.{AreBounds, Run, begins, goes_on}
 use Rattle.machine.specs.World.{Block, Frame, World, block_at, stack_at, owns, read}
 use Rattle.machine.specs.declared.halts.Event.{Event}
@@ -24,7 +24,7 @@ use Rattle.sound.proofs.Trees.{graphs_fit}
 use Rattle.sound.specs.Safe.{FieldsOwn, IsSafe}
 use Rattle.program.specs.WellFormed.{field_types}
 use Rattle.program.specs.declared.types.HeapType.{HeapType}
-use Rattle.machine.specs.Heaps.{IsHeld}
+use Rattle.machine.specs.Heaps.{FieldsHold}
 use Rattle.machine.proofs.Chains.{is_inside_is}
 use Rattle.machine.proofs.Holding.{inside_not_process}
 use Rattle.sound.proofs.Lists.{each_map}
@@ -84,7 +84,7 @@ here p w self f rest i graphs none h is t below at =
       onward = λ all y e has. reached_more (outcome p f.method) (entry_of p f.method) (f.point, t.row) y all t.reached (same ∙ e) has;
     }
 
-good_instruction : HeldAlways → NeverLonger → (p : ProgramModel) (bound : Bounds) → IsSoundProgram p bound → AreGraphsFit p
+good_instruction : HeldAlways → NeverLonger → (p : ProgramModel) (bound : QueueBounds) → IsSoundProgram p bound → AreGraphsFit p
     → ((n : ℕ) (x : MethodModel) → method_at p n ≡ Some x → IsClean p n)
     → (w : World) (self choice : ℕ) (f : Frame) (rest : List Frame) (m : MethodModel) (i : Instruction)
     → Here p w self f rest m i → ((h : IsGraphFit p m) → IsFit p m h.scope f.point i) → IsGood p w (event_of p bound w self f rest i choice)
@@ -124,7 +124,7 @@ declared_long bs (k ∷ types) [] h = absurd h
 declared_long bs (k ∷ types) (x ∷ xs) h = ap suc (declared_long bs types xs h.1)
 
 -- fields that hold what is inside their block, and are as declared
-fields_own : (p : ProgramModel) (bs : List Block) → IsHeld bs → FieldsDeclared p bs → FieldsOwn p bs
+fields_own : (p : ProgramModel) (bs : List Block) → FieldsHold bs → FieldsDeclared p bs → FieldsOwn p bs
 fields_own p bs held were = record {
   full = λ a within lives. declared_long bs (field_types p.structs (block_at bs a).ty) (block_at bs a).fields (were a within lives);
   once = held.holds_are;
@@ -132,7 +132,7 @@ fields_own p bs held were = record {
 }
 
 -- every event of a world of which the invariant holds is good
-module _ (always : HeldAlways) (longer : NeverLonger) (p : ProgramModel) (bound : Bounds) (sound : IsSoundProgram p bound)
+module _ (always : HeldAlways) (longer : NeverLonger) (p : ProgramModel) (bound : QueueBounds) (sound : IsSoundProgram p bound)
     (graphs : AreGraphsFit p) (none : (n : ℕ) (m : MethodModel) → method_at p n ≡ Some m → IsClean p n) where
   good_at : (w : World) (e : Event) (f : Frame) (rest : List Frame) → Holds p w → stack_at w.processes e.process ≡ f ∷ rest
       → (t : TopFits p w.blocks f) → RestFits p w.blocks f rest → (x : Option Instruction) → instruction_at p f ≡ x
@@ -175,7 +175,7 @@ module _ (always : HeldAlways) (longer : NeverLonger) (p : ProgramModel) (bound 
   }
 
 -- where nothing is found, every run is safe
-pub empty_report_is_safe : HeldAlways → NeverLonger → (p : ProgramModel) (bound : Bounds)
+pub empty_report_is_safe : HeldAlways → NeverLonger → (p : ProgramModel) (bound : QueueBounds)
     → AreWellFormed p.contracts p.messages p.structs p.methods → AreSound p → AreBounds p bound → NothingIsFound p
     → (n : ℕ) (w : World) → IsEntry p n → Run p bound n w → IsSafe p bound w
 empty_report_is_safe always longer p bound well sound bounds nothing n w entry run =

@@ -22,17 +22,17 @@ use Rattle.flow.specs.Within.{goes_on}
 use Rattle.rules.specs.Endpoints.{brought}
 use Rattle.rules.specs.Mentions.{is_lent}
 use Rattle.rules.specs.Scopes.{declared_between}
-use Rattle.sound.specs.Operands.{AreApart, AreArguments, AreClaims, AreOfTypes, IsEndVariable, IsOfType, IsTakenBy}
+use Rattle.sound.specs.Operands.{AreDistinct, AreArguments, AreClaims, AreOfTypes, IsEndVariable, IsOfType, IsTakenBy}
 
 -- which variables are in scope at a point
-abbrev pub Scope : Type 0
-Scope = (point variable : ℕ) → Bool
+abbrev pub ScopeAt : Type 0
+ScopeAt = (point variable : ℕ) → Bool
 
 -- what is in scope at a point is in scope at another, or is among those that go
-pub record Keeps (scope : Scope) (from to : ℕ) (gone : List ℕ) : Type 0 where
+pub record KeepsScope (scope : ScopeAt) (from to : ℕ) (gone : List ℕ) : Type 0 where
   pub each : (v : ℕ) → scope from v ≡ true → (scope to v ≡ true) ⊎ (is_among gone v ≡ true)
 
-module _ (p : ProgramModel) (m : MethodModel) (scope : Scope) where
+module _ (p : ProgramModel) (m : MethodModel) (scope : ScopeAt) where
   -- a variable that a case binds comes into scope there, and is not lent
   pub record IsBoundAt (from to v : ℕ) : Type 0 where
     pub before : scope from v ≡ false
@@ -44,12 +44,12 @@ module _ (p : ProgramModel) (m : MethodModel) (scope : Scope) where
   AreBrought from Closed bound to = Unit {0}
   AreBrought from (Message id) bound to =
       AreOfTypes m.variables (brought p id.0) (map (λ v. v.0) bound)
-      × (AreApart (map (λ v. v.0) bound) × Each (λ v. IsBoundAt from to v.0) bound)
+      × (AreDistinct (map (λ v. v.0) bound) × Each (λ v. IsBoundAt from to v.0) bound)
 
   -- a case of a switch at a point
   pub record IsEntrance (point : ℕ) (c : EntranceModel) : Type 0 where
     pub binds : AreBrought point c.awaited c.targets c.next
-    pub keeps : Keeps scope point c.next []
+    pub keeps : KeepsScope scope point c.next []
 
   -- A switch: each of its endpoints is one, and has a case for its close.
   pub record IsSwitch (point : ℕ) (cases : List EntranceModel) : Type 0 where
@@ -64,7 +64,7 @@ module _ (p : ProgramModel) (m : MethodModel) (scope : Scope) where
     pub arguments_fit : AreArguments m.variables (parameters callee) arguments
     pub taken : IsTakenBy m.variables callee.result target
     pub in_scope : IfSome target (λ v. scope next v.variable.0 ≡ true)
-    pub keeps : Keeps scope point next []
+    pub keeps : KeepsScope scope point next []
 
   -- A start: what is started gives nothing, and claims what it is given.
   pub record IsStartFit (point method : ℕ) (arguments : List Argument) (next : ℕ) : Type 0 where
@@ -73,7 +73,7 @@ module _ (p : ProgramModel) (m : MethodModel) (scope : Scope) where
     pub arguments_fit : AreArguments m.variables (parameters callee) arguments
     pub void : callee.result ≡ None
     pub claims : AreClaims arguments
-    pub keeps : Keeps scope point next []
+    pub keeps : KeepsScope scope point next []
 
   -- A Return: it gives what the method gives, and its scope names all that is in scope there.
   pub record IsReturnFit (point : ℕ) (value : Option Mention) (last : Option VarId) : Type 0 where
@@ -87,7 +87,7 @@ module _ (p : ProgramModel) (m : MethodModel) (scope : Scope) where
     pub block : is_end variable.ty ≡ false
     pub types : AreOfTypes m.variables (field_types p.structs variable.ty) (map (λ x. x.variable.0) arguments)
     pub in_scope : scope next v ≡ true
-    pub keeps : Keeps scope point next []
+    pub keeps : KeepsScope scope point next []
 
   -- Exchange: the block of the holder has such a field, and what is given is of its type.
   pub record IsExchangeFit (point : ℕ) (e : stated.Exchange) (next : ℕ) : Type 0 where
@@ -97,7 +97,7 @@ module _ (p : ProgramModel) (m : MethodModel) (scope : Scope) where
     pub field_there : slice_get (field_types p.structs holder.ty) e.field ≡ Some ty
     pub given : IsOfType m.variables ty e.given.variable.0
     pub in_scope : scope next e.given.variable.0 ≡ true
-    pub keeps : Keeps scope point next []
+    pub keeps : KeepsScope scope point next []
 
   -- NewChannel: the contract is there, and the two variables are for its two ends.
   pub record IsChannelFit (point : ℕ) (c : Channel) (next : ℕ) : Type 0 where
@@ -110,7 +110,7 @@ module _ (p : ProgramModel) (m : MethodModel) (scope : Scope) where
     pub ends : are_ends c.contract.0 first.ty second.ty ≡ true
     pub first_scope : scope next c.first.variable.0 ≡ true
     pub second_scope : scope next c.second.variable.0 ≡ true
-    pub keeps : Keeps scope point next []
+    pub keeps : KeepsScope scope point next []
 
   -- a Move: both variables are of one type
   pub record IsMoveFit (point target source next : ℕ) : Type 0 where
@@ -118,30 +118,30 @@ module _ (p : ProgramModel) (m : MethodModel) (scope : Scope) where
     pub there : slice_get m.variables source ≡ Some variable
     pub ty : IsOfType m.variables variable.ty target
     pub in_scope : scope next target ≡ true
-    pub keeps : Keeps scope point next []
+    pub keeps : KeepsScope scope point next []
 
   -- a Send: along an endpoint, of what the message brings
   pub record IsSendFit (point e message : ℕ) (payloads : List Mention) (next : ℕ) : Type 0 where
     pub endpoint : IsEndVariable m.variables e
     pub types : AreOfTypes m.variables (brought p message) (map (λ x. x.variable.0) payloads)
-    pub keeps : Keeps scope point next []
+    pub keeps : KeepsScope scope point next []
 
   -- A Forget: it names what leaves the scope, and nothing of it is lent.
   pub record IsForgetFit (point : ℕ) (gone : List ℕ) (next : ℕ) : Type 0 where
-    pub keeps : Keeps scope point next gone
+    pub keeps : KeepsScope scope point next gone
     pub own : Each (λ v. is_lent m v ≡ false) gone
 
   -- an instruction at a point
   abbrev pub IsFit : ℕ → Instruction → Type 0
-  IsFit point (Use v next) = Keeps scope point next []
+  IsFit point (Use v next) = KeepsScope scope point next []
   IsFit point (New v arguments next) = IsNewFit point v.variable.0 arguments next
   IsFit point (Exchange e next) = IsExchangeFit point e next
   IsFit point (NewChannel c next) = IsChannelFit point c next
   IsFit point (Move v w next) = IsMoveFit point v.variable.0 w.variable.0 next
-  IsFit point (Delete v next) = Keeps scope point next []
+  IsFit point (Delete v next) = KeepsScope scope point next []
   IsFit point (Send place e message payloads next) = IsSendFit point e.variable.0 message.0 payloads next
   IsFit point (Switch place cases) = IsSwitch point cases
-  IsFit point (Branch place branches) = Each (λ to. Keeps scope point to []) (goes_on (Branch place branches))
+  IsFit point (Branch place branches) = Each (λ to. KeepsScope scope point to []) (goes_on (Branch place branches))
   IsFit point (Forget f next) = IsForgetFit point (declared_between m f.outer (Some f.last)) next
   IsFit point (Call place method arguments target next) = IsCallFit point method.0 arguments target next
   IsFit point (Start place method arguments next) = IsStartFit point method.0 arguments next
@@ -150,7 +150,7 @@ module _ (p : ProgramModel) (m : MethodModel) (scope : Scope) where
 
 -- a method's graph under some scopes; its parameters are in scope where it begins
 pub record IsGraphFit (p : ProgramModel) (m : MethodModel) : Type 0 where
-  pub scope : Scope
+  pub scope : ScopeAt
   pub begins : (v : ℕ) (x : VariableModel) → slice_get m.variables v ≡ Some x → is_parameter x.role ≡ true
       → scope (graph_of m).first v ≡ true
   pub fits : (point : ℕ) (i : Instruction) → slice_get (graph_of m).instructions point ≡ Some i → IsFit p m scope point i

@@ -8,7 +8,7 @@ use Rattle.program.specs.declared.types.Side.{Side}
 use Rattle.rules.specs.Mentions.{is_lent_role}
 use Rattle.machine.specs.Frames.{variables_of}
 use Rattle.machine.specs.Machine.{event_outcome}
-use Rattle.machine.specs.Outcomes.{Bounds, Faulty, Moved}
+use Rattle.machine.specs.Outcomes.{QueueBounds, Faulty, Moved}
 use Rattle.machine.specs.Heaps.{Rooted, occurs, one_if}
 use Rattle.machine.specs.World.{Block, Frame, World, block_at, cut_off, freed, is_inside, owns, read, stack_at}
 use Rattle.machine.specs.declared.halts.Event.{Event}
@@ -37,7 +37,7 @@ pub record FieldsOwn (p : ProgramModel) (blocks : List Block) : Type 0 where
   pub rooted : (x : ℕ) → Rooted blocks x
 
 -- What holds of a world, and of each event that may come next in it.
-pub record IsSafe (p : ProgramModel) (bound : Bounds) (w : World) : Type 0 where
+pub record IsSafe (p : ProgramModel) (bound : QueueBounds) (w : World) : Type 0 where
   -- no event is a fault
   pub no_fault : (e : Event) (fault : Fault) → event_outcome p bound w e ≢ Faulty fault
   -- the queue to each end that lives is a walk of its contract

@@ -4,7 +4,7 @@ ghost use Rattle.std.specs.Prelude.{◌≡◌, ℕ, map};
 ghost use Rattle.contracts.specs.Sounds.{sound_parts};
 ghost use Rattle.program.specs.Programs.{ProgramModel, contracts_model, program_model};
 ghost use Rattle.program.specs.WellFormed.{AreWellFormed};
-ghost use Rattle.machine.specs.Outcomes.{Bounds};
+ghost use Rattle.machine.specs.Outcomes.{QueueBounds};
 ghost use Rattle.machine.specs.Runs.{AreBounds, Run};
 ghost use Rattle.machine.specs.World.{World};
 ghost use Rattle.sound.specs.GraphFit.{AreGraphsFit};
@@ -25,7 +25,7 @@ pub fn graphs_fit()
 /// In every run of a program of sound contracts, whatever is found in its methods, each queue is a walk of its contract and keeps
 /// within its bound, and no send passes a bound.
 pub fn runs_are_bounded()
-    ensures { (p : ProgramModel) (bound : Bounds) → AreWellFormed p.contracts p.messages p.structs p.methods → AreSound p
+    ensures { (p : ProgramModel) (bound : QueueBounds) → AreWellFormed p.contracts p.messages p.structs p.methods → AreSound p
         → AreBounds p bound
         → (n : ℕ) (w : World) → Run p bound n w → IsBounded p bound w }
 {
@@ -36,7 +36,7 @@ pub fn runs_are_bounded()
 /// its contract, a process holds just what it owns, what is cut off stays so, and a process that has ended owns nothing. In a block that
 /// is not freed each field that owns holds a block; that block stands in no variable and in no other field, and none is inside itself.
 pub fn empty_report_is_safe()
-    ensures { (p : ProgramModel) (bound : Bounds) → AreWellFormed p.contracts p.messages p.structs p.methods → AreSound p
+    ensures { (p : ProgramModel) (bound : QueueBounds) → AreWellFormed p.contracts p.messages p.structs p.methods → AreSound p
         → AreBounds p bound
         → NothingIsFound p → (n : ℕ) (w : World) → IsEntry p n → Run p bound n w → IsSafe p bound w }
 {
@@ -45,7 +45,7 @@ pub fn empty_report_is_safe()
 
 /// All that `empty_report_is_safe` asks can be met at once: it is refuted that no program, bounds and method meet it.
 pub fn premises_can_be_met()
-    ensures { ((p : ProgramModel) (bound : Bounds) (n : ℕ) → AreWellFormed p.contracts p.messages p.structs p.methods → AreSound p
+    ensures { ((p : ProgramModel) (bound : QueueBounds) (n : ℕ) → AreWellFormed p.contracts p.messages p.structs p.methods → AreSound p
         → AreBounds p bound → NothingIsFound p → IsEntry p n → ⊥) → ⊥ }
 {}
 
@@ -53,7 +53,7 @@ pub fn premises_can_be_met()
 /// sound is kept by their types and asked of nobody.
 pub fn clean_methods_are_safe(methods: &Methods, sounds: &[Sound])
     requires sound { map sound_parts sounds.now ≡ map (λ c. c.parts) (contracts_model methods.now) }
-    ensures { (bound : Bounds) → AreBounds (program_model methods.now) bound → NothingIsFound (program_model methods.now)
+    ensures { (bound : QueueBounds) → AreBounds (program_model methods.now) bound → NothingIsFound (program_model methods.now)
         → (n : ℕ) (w : World) → IsEntry (program_model methods.now) n → Run (program_model methods.now) bound n w
         → IsSafe (program_model methods.now) bound w }
 {

@@ -78,11 +78,11 @@ pub record IsBelow (n : ℕ) (bucket : Bucket) : Type 0 where
   pub third : 2 < bucket.taken → bucket.third < n
 
 -- no seat is kept for a name that is still to come
-abbrev pub Behind : Table → Type 0
-Behind table =
+abbrev pub HasNoneToCome : Table → Type 0
+HasNoneToCome table =
     (name : List ℕ) → IfSome (slice_get table.buckets.items (home (length table.buckets.items) name)) (IsBelow (length table.names.items))
 
 -- a table that names were added to, and none was taken from
-pub record IsBuilt (all : List (List ℕ)) (table : Table) : Type 0 where
+pub record IsGrownTable (all : List (List ℕ)) (table : Table) : Type 0 where
   pub is : IsTable all table
-  pub behind : Behind table
+  pub behind : HasNoneToCome table

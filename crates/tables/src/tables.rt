@@ -6,7 +6,7 @@ ghost use Rattle.std.specs.Borrow.{Bor};
 ghost use Rattle.std.specs.Option.{option_or};
 ghost use Rattle.tables.specs.Firsts.{IsApart, first_of};
 ghost use Rattle.tables.specs.Seats.{mark_of, number_of};
-ghost use Rattle.tables.specs.Tables.{Behind, IsBuilt, IsTable, NoneOr};
+ghost use Rattle.tables.specs.Tables.{HasNoneToCome, IsGrownTable, IsTable, NoneOr};
 ghost use Rattle.tables.specs.Tables.{crowded_in, other_of, index_in, index_of, seated_by, seated_in};
 ghost use Rattle.tables.specs.Words.{words_at};
 
@@ -57,7 +57,7 @@ impl<'a> Table<'a> {
 
     /// The table of no names, with a bucket for each of so many.
     fn with_room(alloc: Global, names: usize) -> Result<Table<'a>, AllocError>
-        ensures { IfOk result (IsBuilt []) }
+        ensures { IfOk result (IsGrownTable []) }
     {
         let mut buckets = Vec::new(alloc);
         buckets.resize(names, Bucket::new())?;
@@ -71,7 +71,7 @@ impl<'a> Table<'a> {
 
     /// Enters a name behind the others. One that it has keeps its index.
     fn enter(&mut self, name: &'a [u8]) -> Result<(), AllocError>
-        ensures { (words : List (List ℕ)) → IsBuilt words self.old → OnOk result (IsBuilt (words ++ name.now ∷ []) self.new) }
+        ensures { (words : List (List ℕ)) → IsGrownTable words self.old → OnOk result (IsGrownTable (words ++ name.now ∷ []) self.new) }
     {
         let number = number_of(name);
         if self.find_numbered(name, number).is_some() {
@@ -111,7 +111,7 @@ impl<'a> Table<'a> {
     fn put(&mut self, name: &'a [u8], number: u32) -> Result<(), AllocError>
         ensures added { (words : List (List ℕ)) → number ≡ number_of name.now → IsTable words self.old → first_of words name.now ≡ None
             → OnOk result (IsTable (words ++ name.now ∷ []) self.new) }
-        ensures behind { Behind self.old → OnOk result (Behind self.new) }
+        ensures behind { HasNoneToCome self.old → OnOk result (HasNoneToCome self.new) }
         ensures kept { (words : List (List ℕ)) → IsTable words self.old → OnErr result (IsTable words self.new) }
     {
         let index = self.names.len();
@@ -141,7 +141,7 @@ impl<'a> Table<'a> {
             → seated_in names self.new.buckets.items q ≡ seated_in names self.old.buckets.items q }
         ensures full { (names : List (Bor (List ℕ))) (q : List ℕ) → result ≡ false
             → seated_in names self.new.buckets.items q ≡ seated_in names self.old.buckets.items q }
-        ensures behind { index + 1 ≤ length self.old.names.items → Behind self.old → Behind self.new }
+        ensures behind { index + 1 ≤ length self.old.names.items → HasNoneToCome self.old → HasNoneToCome self.new }
         ensures crowded { (q : List ℕ) → number ≡ number_of q → result ≡ false → crowded_in self.new.buckets.items q ≡ true }
         ensures uncrowded { (q : List ℕ) → crowded_in self.new.buckets.items q ≡ false → crowded_in self.old.buckets.items q ≡ false }
     {

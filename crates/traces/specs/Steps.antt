@@ -8,12 +8,12 @@ use Rattle.rows.specs.Rows.{row_model}
 use Rattle.source.specs.declared.place.Place.{Place}
 use Rattle.traces.specs.Lines.{LineModel, case_lines, line_model}
 use Rattle.traces.specs.declared.line.Line.{Line}
-use Rattle.traces.specs.declared.step.Step.{Step}
+use Rattle.traces.specs.declared.step.PathStep.{PathStep}
 
-abbrev pub step_before : Step → Pair
+abbrev pub step_before : PathStep → Pair
 step_before s = (s.point, row_model s.before.now)
 
-abbrev pub step_after : Step → Pair
+abbrev pub step_after : PathStep → Pair
 step_after s = (s.next, row_model s.after.now)
 
 -- where the first of some cases stands, if there is one

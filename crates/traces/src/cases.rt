@@ -11,7 +11,7 @@ ghost use Rattle.traces.specs.Steps.{HasCases, step_after, step_before};
 
 use crate::changes::leaf_of;
 use crate::line::{Line, line_of};
-use crate::step::Step;
+use crate::step::PathStep;
 use crate::teller::Teller;
 use flow::{Branches, Cases, Entrance, Instr};
 use program::{Awaited, Mention, VarId};
@@ -22,7 +22,7 @@ impl Teller<'_> {
     pub(crate) fn add_choice(
         &self,
         instr: &Instr,
-        step: &Step<'_>,
+        step: &PathStep<'_>,
         lines: &mut Vec<Line>,
     ) -> Result<Place, Memory>
         ensures lines { OnOk result (map line_model lines.new.items ≡ map line_model lines.old.items
@@ -71,7 +71,7 @@ impl Teller<'_> {
         &self,
         place: Place,
         cases: &Cases,
-        step: &Step<'_>,
+        step: &PathStep<'_>,
         lines: &mut Vec<Line>,
     ) -> Result<Place, Memory>
         ensures lines { OnOk result (map line_model lines.new.items ≡ map line_model lines.old.items
@@ -144,7 +144,7 @@ impl Teller<'_> {
 
     /// Whether a step led on by a case: it goes on there, the case's endpoint has what its message or close leaves, and the other
     /// endpoints have what they had.
-    fn came_by(&self, endpoints: &[Mention], step: &Step<'_>, case: &Entrance) -> bool
+    fn came_by(&self, endpoints: &[Mention], step: &PathStep<'_>, case: &Entrance) -> bool
         ensures { result ≡ told.came_by (model_of self.now.program.now) (method_model self.now.method.now) endpoints.now
             (step_before step.now) (step_after step.now) (entrance_model case.now) }
     {

@@ -12,7 +12,7 @@ ghost use Rattle.traces.specs.Lines.{line, line_model};
 ghost use Rattle.traces.specs.Steps.{step_after, step_before};
 
 use crate::line::{Line, line_of};
-use crate::step::Step;
+use crate::step::PathStep;
 use crate::teller::Teller;
 use flow::{Instr, Sending};
 use program::{Mention, VarId};
@@ -152,7 +152,7 @@ impl Teller<'_> {
         instr: &Instr,
         came: Place,
         watched: &[VarId],
-        step: &Step<'_>,
+        step: &PathStep<'_>,
         lines: &mut Vec<Line>,
     ) -> Result<(), Memory>
         ensures { OnOk result (map line_model lines.new.items ≡ map line_model lines.old.items

@@ -47,7 +47,7 @@ pub fn explain(
         All (λ e. IsExplainedIf named (model_of program.now) method.0 (explained_model e)) found.items) }
 {
     let found = trails_of(alloc, program, method, rows, worker)?;
-    let site = Site {
+    let site = ExplainingSite {
         alloc,
         program,
         method,
@@ -62,7 +62,7 @@ pub fn explain(
 
 /// What is explained: the failures of a method, whose rows stand in a table, or those of them at a place.
 #[derive(Clone, Copy)]
-struct Site<'a> {
+struct ExplainingSite<'a> {
     alloc: Global,
     program: &'a Program,
     method: MethodId,
@@ -70,7 +70,7 @@ struct Site<'a> {
     rows: &'a Rows,
 }
 
-impl Site<'_> {
+impl ExplainingSite<'_> {
     /// Where the name of the method stands.
     fn place(&self) -> Place
         requires there { self.now.method.0 < length (model_of self.now.program.now).methods }

@@ -15,7 +15,7 @@ ghost use Rattle.traces.specs.Lines.{line_model};
 ghost use Rattle.traces.specs.Steps.{step_after, step_before};
 
 use crate::line::Line;
-use crate::step::Step;
+use crate::step::PathStep;
 use crate::teller::Teller;
 use analyse::Worker;
 use flow::Instr;
@@ -41,7 +41,7 @@ impl Teller<'_> {
     fn add_step(
         &self,
         watched: &[VarId],
-        step: &Step<'_>,
+        step: &PathStep<'_>,
         lines: &mut Vec<Line>,
     ) -> Result<(), Memory>
         requires graph { graph_model self.now.graph.now ≡ graph_of (method_model self.now.method.now) }
@@ -72,12 +72,12 @@ impl Teller<'_> {
         requires differ { Differ (own_of worker.old) }
         requires seen { (pairs : List PairModel) × HasSeen worker.old pairs }
         requires some { 0 < length (pairs_of worker.old.seen) }
-        requires there { All (λ place. place < length (pairs_of worker.old.seen)) indices.now }
+        requires there { All (λ index. index < length (pairs_of worker.old.seen)) indices.now }
         ensures worker { IsWorkerOf rows.now worker.new }
         ensures differ { Differ (own_of worker.new) }
         ensures seen { (pairs : List PairModel) → HasSeen worker.old pairs → HasSeen worker.new pairs }
         ensures lines { IfOk result (λ lines. (pairs steps : List PairModel) (first : PairModel) → HasSeen worker.old pairs
-            → slice_get pairs 0 ≡ Some first → AllZip (λ place x. slice_get pairs place ≡ Some x) indices.now steps
+            → slice_get pairs 0 ≡ Some first → AllZip (λ index x. slice_get pairs index ≡ Some x) indices.now steps
             → map line_model lines.items ≡ told.start_lines (model_of self.now.program.now) (method_model self.now.method.now)
             (map (λ v. v.0) watched.now) first.1
             ++ told.path_lines (model_of self.now.program.now) (method_model self.now.method.now)
@@ -88,9 +88,9 @@ impl Teller<'_> {
         let mut lines = Vec::new(self.alloc);
         let mut point = worker.read_pair(rows, 0, &mut before)?;
         self.add_start(watched, &before, &mut lines)?;
-        for place in indices {
-            let next = worker.read_pair(rows, *place, &mut after)?;
-            let step = Step {
+        for index in indices {
+            let next = worker.read_pair(rows, *index, &mut after)?;
+            let step = PathStep {
                 point,
                 before: &before,
                 next,

@@ -24,7 +24,7 @@ pub(crate) struct Rings<'a> {
 
 /// A search breadth first: the states reached, in order, and the edge by which each was reached first.
 #[derive(Drop)]
-struct Search {
+struct BreadthSearch {
     reached: Vec<StateId>,
     by: BTreeMap<u32, usize>,
 }
@@ -48,7 +48,7 @@ impl<'a> Rings<'a> {
 
     /// The numbers of edges of the sign that lead round from a state to itself, along a shortest way, or none.
     pub(crate) fn around(&mut self, state: StateId, sign: Sign) -> Result<Vec<usize>, Memory> {
-        let mut search = Search {
+        let mut search = BreadthSearch {
             reached: Vec::new(self.alloc),
             by: BTreeMap::new(self.alloc),
         };
@@ -66,7 +66,12 @@ impl<'a> Rings<'a> {
     }
 
     /// Notes the states to which edges of the sign lead from a state, those that are new.
-    fn leave(&mut self, from: StateId, sign: Sign, search: &mut Search) -> Result<(), Memory> {
+    fn leave(
+        &mut self,
+        from: StateId,
+        sign: Sign,
+        search: &mut BreadthSearch,
+    ) -> Result<(), Memory> {
         let mut next = self.latest.get(&from.0).copied();
         while self.left > 0 {
             let Some(at) = next else {
@@ -86,7 +91,7 @@ impl<'a> Rings<'a> {
     }
 
     /// The edges by which a search came back to where it began.
-    fn way_round(&self, state: StateId, search: &Search) -> Result<Vec<usize>, Memory> {
+    fn way_round(&self, state: StateId, search: &BreadthSearch) -> Result<Vec<usize>, Memory> {
         let mut way = Vec::new(self.alloc);
         let mut to = state;
         for _ in 0..self.edges.len() {

@@ -11,14 +11,14 @@ use rules::Row;
 
 /// A step of a path: the point and the row from which it is taken, and those to which it leads.
 #[derive(Clone, Copy)]
-pub(crate) struct Step<'a> {
+pub(crate) struct PathStep<'a> {
     pub(crate) point: usize,
     pub(crate) before: &'a Row,
     pub(crate) next: usize,
     pub(crate) after: &'a Row,
 }
 
-impl Step<'_> {
+impl PathStep<'_> {
     /// Whether a variable has behind it what it had before.
     pub(crate) fn keeps(&self, variable: VarId) -> bool
         ensures { result ≡ keeps (row_model self.now.before.now) (row_model self.now.after.now) variable.0 }

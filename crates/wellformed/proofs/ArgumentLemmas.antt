@@ -9,7 +9,7 @@ use Rattle.tree.specs.declared.class.Parameter.{Parameter}
 use Rattle.tree.specs.declared.contract.MessageParameter.{MessageParameter}
 use Rattle.names.specs.Expressions.{type_of, place_of, held, whole_mistakes}
 use Rattle.declarations.specs.Types.{agree, alike, is_block, type_meant, type_unknown, unless}
-use Rattle.declarations.specs.Program.{Program}
+use Rattle.declarations.specs.Program.{ProgramText}
 use Rattle.names.specs.Shapes.{shape}
 use Rattle.names.specs.Values.{argument_mistakes, asked_mistakes, parameter_types}
 use Rattle.names.specs.Variables as names
@@ -22,7 +22,7 @@ use Rattle.program.specs.declared.method.Role.TheVariants as role
 use Rattle.program.specs.declared.statement.Mention.{Mention}
 use Rattle.resolving.specs.Brought.{held_listed, params_held}
 use Rattle.resolving.specs.Types.{type_held, state_in}
-use Rattle.resolving.specs.Locals.{Frame, mention, mention_of}
+use Rattle.resolving.specs.Locals.{LocalFrame, mention, mention_of}
 use Rattle.resolving.specs.Methods.{role_of}
 use Rattle.resolving.specs.Plain.{arguments, argument_reads, given, lone, payloads}
 use Rattle.resolving.specs.Reads.{reads, listed}
@@ -56,29 +56,29 @@ pub given_parameters : (s : Setting) (vs : List VariableModel) (headings : List 
 given_parameters s vs headings given is h = given_sequences s vs given (subst (λ x. GivenFor s x given) (sym is) h)
 
 -- a name alone that is a scalar is no variable of the exchange heap
-lone_of : (p : Program) (class : ℕ) (f : Frame) (e : ExpressionTree) (o : Option Span) → lone_name e ≡ o → lone p class f e ≡ option_and_then (mention p.text f.locals) o
+lone_of : (p : ProgramText) (class : ℕ) (f : LocalFrame) (e : ExpressionTree) (o : Option Span) → lone_name e ≡ o → lone p class f e ≡ option_and_then (mention p.text f.locals) o
 lone_of p class f e o is = ap (option_and_then (mention p.text f.locals)) is
 
-scalar_name : (p : Program) (class : ℕ) (vs : List VariableModel) (f : Frame) (g : names.Frame) → AreStanding p vs f g → (e : ExpressionTree) (o : Option Span) → lone_name e ≡ o
+scalar_name : (p : ProgramText) (class : ℕ) (vs : List VariableModel) (f : LocalFrame) (g : names.NameFrame) → AreStanding p vs f g → (e : ExpressionTree) (o : Option Span) → lone_name e ≡ o
     → whole_mistakes (scope_of p g) (shape e) ≡ [] → is_block (type_of (scope_of p g) (shape e)) ≡ false → lone p class f e ≡ None
 scalar_name p class vs f g standing e None is none scalar = lone_of p class f e None is
 scalar_name p class vs f g standing e (Some name) is none scalar =
     let shaped = lone_shape e name is in
     lone_of p class f e (Some name) is ∙ scalar_not_mentioned p vs f g name standing (subst (λ x. whole_mistakes (scope_of p g) x ≡ []) shaped none) (subst (λ x. is_block (type_of (scope_of p g) x) ≡ false) shaped scalar)
 
-pub scalar_lone : (p : Program) (class : ℕ) (vs : List VariableModel) (f : Frame) (g : names.Frame) → AreStanding p vs f g → (e : ExpressionTree)
+pub scalar_lone : (p : ProgramText) (class : ℕ) (vs : List VariableModel) (f : LocalFrame) (g : names.NameFrame) → AreStanding p vs f g → (e : ExpressionTree)
     → whole_mistakes (scope_of p g) (shape e) ≡ [] → is_block (type_of (scope_of p g) (shape e)) ≡ false → lone p class f e ≡ None
 scalar_lone p class vs f g standing e none scalar = scalar_name p class vs f g standing e (lone_name e) refl none scalar
 
 -- an expression of a type of the exchange heap is a variable that holds what the type says
-pub record IsGiven (p : Program) (class : ℕ) (s : Setting) (f : Frame) (g : names.Frame) (e : ExpressionTree) : Type 0 where
+pub record IsGiven (p : ProgramText) (class : ℕ) (s : Setting) (f : LocalFrame) (g : names.NameFrame) (e : ExpressionTree) : Type 0 where
   pub mention : Mention
   pub variable : VariableModel
   pub is : lone p class f e ≡ Some mention
   pub there : slice_get s.variables mention.variable.0 ≡ Some variable
   pub holds : IsHeld p (type_of (scope_of p g) (shape e)) variable.ty
 
-pub block_given : (p : Program) (class : ℕ) (s : Setting) (f : Frame) (g : names.Frame) → AreStanding p s.variables f g → (e : ExpressionTree)
+pub block_given : (p : ProgramText) (class : ℕ) (s : Setting) (f : LocalFrame) (g : names.NameFrame) → AreStanding p s.variables f g → (e : ExpressionTree)
     → whole_mistakes (scope_of p g) (shape e) ≡ [] → is_block (type_of (scope_of p g) (shape e)) ≡ true → IsGiven p class s f g e
 block_given p class s f g standing e none block =
     let l = block_lone p s.variables f g standing e none block in
@@ -95,11 +95,11 @@ pub holds_there : (s : Setting) (k : HeapType) (m : Mention) (v : VariableModel)
 holds_there s k m v there same = subst (λ o. IsSomeAnd o (λ x. same_type x.ty k ≡ true)) (sym there) same
 
 -- an expression of which a type is asked
-pub record IsAsked (p : Program) (g : names.Frame) (k : declared.ValueType.ValueType) (e : ExpressionTree) : Type 0 where
+pub record IsAsked (p : ProgramText) (g : names.NameFrame) (k : declared.ValueType.ValueType) (e : ExpressionTree) : Type 0 where
   pub whole : whole_mistakes (scope_of p g) (shape e) ≡ []
   pub like : alike (type_of (scope_of p g) (shape e)) k ≡ true
 
-pub asked_known : (p : Program) (vs : List VariableModel) (f : Frame) (g : names.Frame) → AreStanding p vs f g → (k : declared.ValueType.ValueType) (e : ExpressionTree) → IsKnown p k
+pub asked_known : (p : ProgramText) (vs : List VariableModel) (f : LocalFrame) (g : names.NameFrame) → AreStanding p vs f g → (k : declared.ValueType.ValueType) (e : ExpressionTree) → IsKnown p k
     → asked_mistakes (scope_of p g) k (shape e) ≡ [] → IsAsked p g k e
 asked_known p vs f g standing k e known none =
     let both = both_none (whole_mistakes (scope_of p g) (shape e)) (unless (agree (type_of (scope_of p g) (shape e)) k) (place_of (shape e)) _) none in
@@ -109,17 +109,17 @@ asked_known p vs f g standing k e known none =
     }
 
 -- a scalar for a scalar: nothing is given
-pub asked_scalar : (p : Program) (class : ℕ) (vs : List VariableModel) (f : Frame) (g : names.Frame) → AreStanding p vs f g → (k : declared.ValueType.ValueType) (e : ExpressionTree)
+pub asked_scalar : (p : ProgramText) (class : ℕ) (vs : List VariableModel) (f : LocalFrame) (g : names.NameFrame) → AreStanding p vs f g → (k : declared.ValueType.ValueType) (e : ExpressionTree)
     → IsAsked p g k e → is_block k ≡ false → lone p class f e ≡ None
 asked_scalar p class vs f g standing k e asked scalar = scalar_lone p class vs f g standing e asked.whole (alike_block (type_of (scope_of p g) (shape e)) k asked.like ∙ scalar)
 
 -- a block for a block: a variable that holds one of its type
-pub record IsBlockGiven (p : Program) (class : ℕ) (s : Setting) (f : Frame) (held : HeapType) (e : ExpressionTree) : Type 0 where
+pub record IsBlockGiven (p : ProgramText) (class : ℕ) (s : Setting) (f : LocalFrame) (held : HeapType) (e : ExpressionTree) : Type 0 where
   pub mention : Mention
   pub is : lone p class f e ≡ Some mention
   pub holds : Holds s held mention.variable
 
-pub asked_block : (p : Program) (class : ℕ) (s : Setting) (f : Frame) (g : names.Frame) → AreStanding p s.variables f g → (k : declared.ValueType.ValueType) (held : HeapType) (e : ExpressionTree)
+pub asked_block : (p : ProgramText) (class : ℕ) (s : Setting) (f : LocalFrame) (g : names.NameFrame) → AreStanding p s.variables f g → (k : declared.ValueType.ValueType) (held : HeapType) (e : ExpressionTree)
     → IsAsked p g k e → is_block k ≡ true → IsHeld p k held → IsBlockGiven p class s f held e
 asked_block p class s f g standing k held e asked block is =
     let given = block_given p class s f g standing e asked.whole (alike_block (type_of (scope_of p g) (shape e)) k asked.like ∙ block) in
@@ -133,7 +133,7 @@ claimed_role : (b : Bool) → b ≡ is_claimed (if b then role.Claimed else role
 claimed_role true = refl
 claimed_role false = refl
 
-given_with : (p : Program) (class : ℕ) (s : Setting) (f : Frame) (x : Parameter) (e : ExpressionTree) (o : Option HeapType) (m : Option Mention) (hs : List (HeapType × Role)) (gs : List Argument)
+given_with : (p : ProgramText) (class : ℕ) (s : Setting) (f : LocalFrame) (x : Parameter) (e : ExpressionTree) (o : Option HeapType) (m : Option Mention) (hs : List (HeapType × Role)) (gs : List Argument)
     → type_held p x.ty ≡ o → lone p class f e ≡ m → GivenFor s (option_map_or (λ k. (k, role_of x) ∷ []) o [] ++ hs) (given x m ++ gs)
     → GivenFor s (heading p x ++ hs) (given x (lone p class f e) ++ gs)
 given_with p class s f x e o m hs gs held lone_is h =
@@ -141,7 +141,7 @@ given_with p class s f x e o m hs gs held lone_is h =
     (subst (λ y. GivenFor s (option_map_or (λ k. (k, role_of x) ∷ []) o [] ++ hs) (given x y ++ gs)) (sym lone_is) h)
 
 -- what is given for one parameter, and then what is given for others
-one_given : (p : Program) (class : ℕ) (s : Setting) (f : Frame) (g : names.Frame) → AreStanding p s.variables f g → (x : Parameter) (e : ExpressionTree)
+one_given : (p : ProgramText) (class : ℕ) (s : Setting) (f : LocalFrame) (g : names.NameFrame) → AreStanding p s.variables f g → (x : Parameter) (e : ExpressionTree)
     → type_unknown p x.ty ≡ [] → IsAsked p g (type_meant p x.ty) e → (b : Bool) → is_block (type_meant p x.ty) ≡ b
     → (hs : List (HeapType × Role)) (gs : List Argument) → GivenFor s hs gs → GivenFor s (heading p x ++ hs) (given x (lone p class f e) ++ gs)
 one_given p class s f g standing x e known asked false scalar hs gs rest =
@@ -152,7 +152,7 @@ one_given p class s f g standing x e known asked true block hs gs rest =
     given_with p class s f x e (Some h.held) (Some b.mention) hs gs h.is b.is ((b.holds, claimed_role x.claims), rest)
 
 -- what is given for the parameters of a method
-pub arguments_given : (p : Program) (class : ℕ) (s : Setting) (f : Frame) (g : names.Frame) → AreStanding p s.variables f g → (params : List Parameter) (es : List ExpressionTree)
+pub arguments_given : (p : ProgramText) (class : ℕ) (s : Setting) (f : LocalFrame) (g : names.NameFrame) → AreStanding p s.variables f g → (params : List Parameter) (es : List ExpressionTree)
     → Each (λ x. type_unknown p x.ty ≡ []) params → length params ≡ length es → argument_mistakes (scope_of p g) (parameter_types p params) (map shape es) ≡ []
     → GivenFor s (flat_map (heading p) params) (arguments p class f params es)
 arguments_given p class s f g standing [] es known many none = tt
@@ -165,19 +165,19 @@ arguments_given p class s f g standing (x ∷ params) (e ∷ es) known many none
     one_given p class s f g standing x e known.0 asked (is_block k) refl (flat_map (heading p) params) (arguments p class f params es) rest
 
 -- what arguments read
-pub reads_mentioned : (p : Program) (class : ℕ) (s : Setting) (f : Frame) (g : names.Frame) → AreStanding p s.variables f g → (es : List ExpressionTree) → Each (IsMention s) (argument_reads p class f es)
+pub reads_mentioned : (p : ProgramText) (class : ℕ) (s : Setting) (f : LocalFrame) (g : names.NameFrame) → AreStanding p s.variables f g → (es : List ExpressionTree) → Each (IsMention s) (argument_reads p class f es)
 reads_mentioned p class s f g standing [] = tt
 reads_mentioned p class s f g standing (e ∷ es) = each_append (IsMention s) (reads p.text f.locals e) (argument_reads p class f es) (reads_within p s.variables f g standing e) (reads_mentioned p class s f g standing es)
 
 -- what is given for one parameter of a message, and then what is given for others
-payload_with : (p : Program) (class : ℕ) (s : Setting) (f : Frame) (x : MessageParameter) (e : ExpressionTree) (o : Option HeapType) (m : Option Mention) (ks : List HeapType) (ms : List Mention)
+payload_with : (p : ProgramText) (class : ℕ) (s : Setting) (f : LocalFrame) (x : MessageParameter) (e : ExpressionTree) (o : Option HeapType) (m : Option Mention) (ks : List HeapType) (ms : List Mention)
     → type_held p x.ty ≡ o → lone p class f e ≡ m → HoldAll s (held_listed o ++ ks) (map (λ y. y.variable) (listed m ++ ms))
     → HoldAll s (held_listed (type_held p x.ty) ++ ks) (map (λ y. y.variable) (listed (lone p class f e) ++ ms))
 payload_with p class s f x e o m ks ms held lone_is h =
     subst (λ y. HoldAll s (held_listed y ++ ks) (map (λ z. z.variable) (listed (lone p class f e) ++ ms))) (sym held)
     (subst (λ y. HoldAll s (held_listed o ++ ks) (map (λ z. z.variable) (listed y ++ ms))) (sym lone_is) h)
 
-one_payload : (p : Program) (class : ℕ) (s : Setting) (f : Frame) (g : names.Frame) → AreStanding p s.variables f g → (x : MessageParameter) (e : ExpressionTree)
+one_payload : (p : ProgramText) (class : ℕ) (s : Setting) (f : LocalFrame) (g : names.NameFrame) → AreStanding p s.variables f g → (x : MessageParameter) (e : ExpressionTree)
     → type_unknown p x.ty ≡ [] → IsAsked p g (type_meant p x.ty) e → (b : Bool) → is_block (type_meant p x.ty) ≡ b
     → (ks : List HeapType) (ms : List Mention) → HoldAll s ks (map (λ y. y.variable) ms) → HoldAll s (held_listed (type_held p x.ty) ++ ks) (map (λ y. y.variable) (listed (lone p class f e) ++ ms))
 one_payload p class s f g standing x e known asked false scalar ks ms rest =
@@ -188,7 +188,7 @@ one_payload p class s f g standing x e known asked true block ks ms rest =
     payload_with p class s f x e (Some h.held) (Some b.mention) ks ms h.is b.is (b.holds, rest)
 
 -- what is given for the parameters of a message
-pub payloads_given : (p : Program) (class : ℕ) (s : Setting) (f : Frame) (g : names.Frame) → AreStanding p s.variables f g → (params : List MessageParameter) (es : List ExpressionTree)
+pub payloads_given : (p : ProgramText) (class : ℕ) (s : Setting) (f : LocalFrame) (g : names.NameFrame) → AreStanding p s.variables f g → (params : List MessageParameter) (es : List ExpressionTree)
     → Each (λ x. type_unknown p x.ty ≡ []) params → length params ≡ length es → argument_mistakes (scope_of p g) (map (λ x. type_meant p x.ty) params) (map shape es) ≡ []
     → HoldAll s (params_held p params) (map (λ y. y.variable) (payloads p class f es))
 payloads_given p class s f g standing [] [] known many none = tt

@@ -12,7 +12,7 @@ use Rattle.declarations.specs.Types.{brought_type}
 use Rattle.declarations.specs.declared.mistake.Demand.TheVariants as demand
 use Rattle.declarations.specs.declared.mistake.Mismatch.TheVariants.{Given}
 use Rattle.declarations.specs.Types.{agree, is_heap, type_meant, type_unknown, unless}
-use Rattle.declarations.specs.Program.{Program}
+use Rattle.declarations.specs.Program.{ProgramText}
 use Rattle.names.specs.Variables as names
 use Rattle.names.specs.Variables.{declared_variable}
 use Rattle.declarations.specs.declared.value_type.ValueType.{ValueType}
@@ -22,7 +22,7 @@ use Rattle.program.specs.declared.method.Role.TheVariants.{Local}
 use Rattle.program.specs.declared.number.VarId.{VarId}
 use Rattle.resolving.specs.Binds.{bind_told, binds_told, bound_as, one_number}
 use Rattle.resolving.specs.Types.{heap_type, state_in, type_held}
-use Rattle.resolving.specs.Locals.{Frame, declared, next_number}
+use Rattle.resolving.specs.Locals.{LocalFrame, declared, next_number}
 use Rattle.program.specs.Lists.{Each}
 use Rattle.program.specs.Scopes.{LeadsOut, InTurn}
 use Rattle.wellformed.proofs.GrowthLemmas.{binds_grow, within_before}
@@ -33,13 +33,13 @@ use Rattle.wellformed.proofs.ScopeLemmas.{declared_inner, declared_local, declar
 use Rattle.wellformed.proofs.Standing.{AreStanding, Within, declares, last_of}
 
 -- what is bound comes into scope in turn
-pub record Binding (p : Program) (vs : List VariableModel) (f after : Frame) (behind : names.Frame) (bound : List VarId) : Type 0 where
+pub record Binding (p : ProgramText) (vs : List VariableModel) (f after : LocalFrame) (behind : names.NameFrame) (bound : List VarId) : Type 0 where
   pub standing : AreStanding p vs after behind
   pub inner : LeadsOut vs (last_of after) (last_of f)
   pub turn : InTurn vs (last_of f) bound (last_of after)
 
 -- what is bound behind a variable, with this one before it
-next_bound : (p : Program) (vs : List VariableModel) (name : Span) (ty : ValueType) (held : Option held.HeapType.HeapType) (f after : Frame) (behind : names.Frame) (bound : List VarId)
+next_bound : (p : ProgramText) (vs : List VariableModel) (name : Span) (ty : ValueType) (held : Option held.HeapType.HeapType) (f after : LocalFrame) (behind : names.NameFrame) (bound : List VarId)
     → Within vs (declares p.text name ty held Local f) → Binding p vs (declares p.text name ty held Local f) after behind bound → Binding p vs f after behind (one_number (next_number held f) ++ bound)
 next_bound p vs name ty None f after behind bound within rest = record { standing = rest.standing; inner = rest.inner; turn = rest.turn }
 next_bound p vs name ty (Some held) f after behind bound within rest =
@@ -50,14 +50,14 @@ next_bound p vs name ty (Some held) f after behind bound within rest =
       turn = (declared_local p vs name ty held f within, rest.turn);
     }
 
-bind_bound : (p : Program) (vs : List VariableModel) (param : Option MessageParameter) (name : Span) (ty : Option type_nodes.Type.Type) (f after : Frame) (behind : names.Frame) (bound : List VarId)
+bind_bound : (p : ProgramText) (vs : List VariableModel) (param : Option MessageParameter) (name : Span) (ty : Option type_nodes.Type.Type) (f after : LocalFrame) (behind : names.NameFrame) (bound : List VarId)
     → Within vs (declared p.text (bound_as p param name ty) f) → Binding p vs (declared p.text (bound_as p param name ty) f) after behind bound
     → Binding p vs f after behind (one_number (next_number (bound_as p param name ty).held f) ++ bound)
 bind_bound p vs param name (Some t) f after behind bound within rest = next_bound p vs name (type_meant p t) (type_held p t) f after behind bound within rest
 bind_bound p vs param name None f after behind bound within rest = next_bound p vs name (brought_type p param) (heap_type p (brought_type p param) None) f after behind bound within rest
 
 -- A name that a case binds comes into scope. What the message brings for it counts where it is of the exchange heap.
-bind_stands : (p : Program) (vs : List VariableModel) (x : MessageParameter) (name : Span) (ty : Option type_nodes.Type.Type) (f : Frame) (g : names.Frame)
+bind_stands : (p : ProgramText) (vs : List VariableModel) (x : MessageParameter) (name : Span) (ty : Option type_nodes.Type.Type) (f : LocalFrame) (g : names.NameFrame)
     → type_unknown p x.ty ≡ [] → AreStanding p vs f g → Within vs (declared p.text (bound_as p (Some x) name ty) f) → (typed_turn p (Some x) name ty g).found ≡ []
     → AreStanding p vs (declared p.text (bound_as p (Some x) name ty) f) (typed_turn p (Some x) name ty g).frame
 bind_stands p vs x name (Some t) f g brought standing within none =
@@ -71,7 +71,7 @@ bind_stands p vs x name None f g brought standing within none =
     let known = type_known p x.ty brought in
     declared_stands p vs name (type_meant p x.ty) (heap_type p (type_meant p x.ty) None) Local (is_heap x.ty) f g (heap_block p x.ty brought) known (held_as p (type_meant p x.ty) None known) standing within none
 
-pub binds_stand : (p : Program) (vs : List VariableModel) (params : List MessageParameter) (binds : List made.Bind.Bind) (f : Frame) (g : names.Frame)
+pub binds_stand : (p : ProgramText) (vs : List VariableModel) (params : List MessageParameter) (binds : List made.Bind.Bind) (f : LocalFrame) (g : names.NameFrame)
     → AreStanding p vs f g → Within vs (binds_told p params binds f).frame → Each (λ x. type_unknown p x.ty ≡ []) params → length params ≡ length binds
     → (binds_turn p params binds g).found ≡ []
     → Binding p vs f (binds_told p params binds f).frame (binds_turn p params binds g).frame (binds_told p params binds f).what

@@ -13,7 +13,7 @@ use Rattle.declarations.specs.declared.mistake.Mistake.TheVariants.{Unknown}
 use Rattle.declarations.specs.declared.mistake.NameSort.TheVariants as sort
 use Rattle.declarations.specs.declared.mistake.Mismatch.TheVariants.{Given}
 use Rattle.declarations.specs.Types.{unless}
-use Rattle.declarations.specs.Program.{Program, Numbered, as_class, class_named, item_at}
+use Rattle.declarations.specs.Program.{ProgramText, Numbered, as_class, class_named, item_at}
 use Rattle.names.specs.Shapes.{shape}
 use Rattle.names.specs.Values.{demand_of, result_type, argument_mistakes, call_mistakes, class_mistakes, class_meant, front_mistakes, is_alone, member_mistakes, method_mistakes, number_of_arguments, parameter_types, result_fits, start_mistakes}
 use Rattle.declarations.specs.Named.{method_named}
@@ -22,7 +22,7 @@ use Rattle.names.specs.Variables.{variable_named}
 use Rattle.program.specs.declared.statement.Mention.{Mention}
 use Rattle.resolving.specs.Callees.{callee, front_callee, member_callee}
 use Rattle.resolving.specs.Types.{result_held}
-use Rattle.resolving.specs.Locals.{Local, Frame, local_named}
+use Rattle.resolving.specs.Locals.{Local, LocalFrame, local_named}
 use Rattle.resolving.specs.Messages.{contract_of, end_contract, message_sent}
 use Rattle.resolving.specs.Methods.{method_told}
 use Rattle.resolving.specs.Plain.{call_of, send_told, sent, sent_by}
@@ -38,7 +38,7 @@ use Rattle.wellformed.proofs.SendLemmas.{SendsMessage, local_call}
 use Rattle.wellformed.proofs.Standing.{Around, AreStanding, IsKnown, IsMethod, heading, named, scope_of}
 
 -- a call that names a method, among whose arguments nothing is wrong, and which is so
-pub record CallsMethod (p : Program) (class : ℕ) (f : Frame) (g : names.Frame) (Is : MethodTree → Type 0) (c : CallTree) : Type 0 where
+pub record CallsMethod (p : ProgramText) (class : ℕ) (f : LocalFrame) (g : names.NameFrame) (Is : MethodTree → Type 0) (c : CallTree) : Type 0 where
   pub method : MethodTree
   pub number : ℕ
   pub is : callee p class f.locals c ≡ Some (record { number = number; method = method })
@@ -49,12 +49,12 @@ pub record CallsMethod (p : Program) (class : ℕ) (f : Frame) (g : names.Frame)
   pub no_send : send_told p class f c ≡ None
 
 -- what is known of a method that a call in this role names
-record Fitting (p : Program) (g : names.Frame) (m : MethodTree) (Is : MethodTree → Type 0) (es : List ExpressionTree) : Type 0 where
+record Fitting (p : ProgramText) (g : names.NameFrame) (m : MethodTree) (Is : MethodTree → Type 0) (es : List ExpressionTree) : Type 0 where
   pub many : length m.params ≡ length es
   pub given : argument_mistakes (scope_of p g) (parameter_types p m.params) (map shape es) ≡ []
   pub fits : Is m
 
-fitting : (p : Program) (g : names.Frame) (front : Option Span) (role : _) (name : Span) (m : MethodTree) (es : List ExpressionTree) (Is : MethodTree → Type 0)
+fitting : (p : ProgramText) (g : names.NameFrame) (front : Option Span) (role : _) (name : Span) (m : MethodTree) (es : List ExpressionTree) (Is : MethodTree → Type 0)
     → ((n : MethodTree) → start_mistakes n role name ≡ [] → (F : Option tree.Type.Type → Bool) → ((r : Option tree.Type.Type) → F r ≡ result_fits p r role) → F n.result ≡ true → Is n)
     → method_mistakes (scope_of p g) (Some m) front role name (map shape es) ≡ [] → Fitting p g m Is es
 fitting p g front role name m es Is fits none =
@@ -73,7 +73,7 @@ fitting p g front role name m es Is fits none =
     }
 
 -- a call by one name
-own_call : (p : Program) (class : ℕ) (t : ClassTree) (f : Frame) (g : names.Frame) (role : _) (c : CallTree) (Is : MethodTree → Type 0)
+own_call : (p : ProgramText) (class : ℕ) (t : ClassTree) (f : LocalFrame) (g : names.NameFrame) (role : _) (c : CallTree) (Is : MethodTree → Type 0)
     → ((n : MethodTree) → start_mistakes n role c.name ≡ [] → (F : Option tree.Type.Type → Bool) → ((r : Option tree.Type.Type) → F r ≡ result_fits p r role) → F n.result ≡ true → Is n) → item_at as_class p class ≡ Some (class, t) → c.member ≡ None
     → (o : Option MethodTree) → method_named p.text t c.name ≡ o → method_mistakes (scope_of p g) o None role c.name (map shape c.arguments) ≡ [] → CallsMethod p class f g Is c
 own_call p class t f g role c Is fits there member None found none = cc
@@ -91,11 +91,11 @@ own_call p class t f g role c Is fits there member (Some m) found none =
       no_send = ap (option_and_then (sent_by p class f c)) member;
     }
 
-no_end : (p : Program) (locals : List Local) (name : Span) → local_named p.text locals name ≡ None → end_contract p locals name ≡ None
+no_end : (p : ProgramText) (locals : List Local) (name : Span) → local_named p.text locals name ≡ None → end_contract p locals name ≡ None
 no_end p locals name free = ap (option_and_then (λ v. contract_of v.ty)) free
 
 -- a call by the name of a class and one of a method in it
-class_call : (p : Program) (class : ℕ) (f : Frame) (g : names.Frame) (role : _) (c : CallTree) (word : Span) (Is : MethodTree → Type 0)
+class_call : (p : ProgramText) (class : ℕ) (f : LocalFrame) (g : names.NameFrame) (role : _) (c : CallTree) (word : Span) (Is : MethodTree → Type 0)
     → ((n : MethodTree) → start_mistakes n role word ≡ [] → (F : Option tree.Type.Type → Bool) → ((r : Option tree.Type.Type) → F r ≡ result_fits p r role) → F n.result ≡ true → Is n) → c.member ≡ Some word → local_named p.text f.locals c.name ≡ None
     → (n : ℕ) (t : ClassTree) → class_named p c.name ≡ Some (n, t)
     → (o : Option MethodTree) → method_named p.text t word ≡ o → method_mistakes (scope_of p g) o (Some c.name) role word (map shape c.arguments) ≡ [] → CallsMethod p class f g Is c
@@ -114,17 +114,17 @@ class_call p class f g role c word Is fits member free n t there (Some m) found 
       no_send = ap (option_and_then (sent_by p class f c)) member ∙ ap (λ o. option_and_then (sent p class f c word) (option_and_then (λ k. message_sent p k word) o)) (no_end p f.locals c.name free);
     }
 
-named_call : (p : Program) (class : ℕ) (f : Frame) (g : names.Frame) (role : _) (c : CallTree) (word : Span) (Is : MethodTree → Type 0)
+named_call : (p : ProgramText) (class : ℕ) (f : LocalFrame) (g : names.NameFrame) (role : _) (c : CallTree) (word : Span) (Is : MethodTree → Type 0)
     → ((n : MethodTree) → start_mistakes n role word ≡ [] → (F : Option tree.Type.Type → Bool) → ((r : Option tree.Type.Type) → F r ≡ result_fits p r role) → F n.result ≡ true → Is n) → c.member ≡ Some word → local_named p.text f.locals c.name ≡ None
     → (o : Option (Numbered ClassTree)) → class_named p c.name ≡ o → class_mistakes (scope_of p g) (class_meant o) role c.name word (map shape c.arguments) ≡ [] → CallsMethod p class f g Is c
 named_call p class f g role c word Is fits member free None there none = cc
 named_call p class f g role c word Is fits member free (Some x) there none = class_call p class f g role c word Is fits member free x.0 x.1 there (method_named p.text x.1 word) refl none
 
 -- What a call with which nothing is wrong means: a method that is as its role asks, or a send, which stands alone.
-abbrev Means : Program → ℕ → Setting → Frame → names.Frame → (MethodTree → Type 0) → Bool → CallTree → Type 0
+abbrev Means : ProgramText → ℕ → Setting → LocalFrame → names.NameFrame → (MethodTree → Type 0) → Bool → CallTree → Type 0
 Means p class s f g Is alone c = CallsMethod p class f g Is c ⊎ ((alone ≡ true) × SendsMessage p class s f c)
 
-member_means : (p : Program) (t : ClassTree) (class : ℕ) (result : Option tree.Type.Type) (s : Setting) (f : Frame) (g : names.Frame) (role : _) (c : CallTree) (word : Span) (Is : MethodTree → Type 0)
+member_means : (p : ProgramText) (t : ClassTree) (class : ℕ) (result : Option tree.Type.Type) (s : Setting) (f : LocalFrame) (g : names.NameFrame) (role : _) (c : CallTree) (word : Span) (Is : MethodTree → Type 0)
     → ((n : MethodTree) (name : Span) → start_mistakes n role name ≡ [] → (F : Option tree.Type.Type → Bool) → ((r : Option tree.Type.Type) → F r ≡ result_fits p r role) → F n.result ≡ true → Is n) → Around p t class result s
     → AreStanding p s.variables f g → c.member ≡ Some word → (o : Option Local) → local_named p.text f.locals c.name ≡ o → member_mistakes (scope_of p g) (option_map named o) role c.name word (map shape c.arguments) ≡ []
     → Means p class s f g Is (is_alone role) c
@@ -136,7 +136,7 @@ member_means p t class result s f g role c word Is fits around standing member (
     let known = subst (IsKnown p) (ap held meant_is) (held_known p s.variables f g c.name standing found) in
     inr (local_call p t class result s f g role c word around standing member l local meant_is known l.ty refl none)
 
-front_means : (p : Program) (t : ClassTree) (class : ℕ) (result : Option tree.Type.Type) (s : Setting) (f : Frame) (g : names.Frame) (role : _) (c : CallTree) (Is : MethodTree → Type 0)
+front_means : (p : ProgramText) (t : ClassTree) (class : ℕ) (result : Option tree.Type.Type) (s : Setting) (f : LocalFrame) (g : names.NameFrame) (role : _) (c : CallTree) (Is : MethodTree → Type 0)
     → ((n : MethodTree) (name : Span) → start_mistakes n role name ≡ [] → (F : Option tree.Type.Type → Bool) → ((r : Option tree.Type.Type) → F r ≡ result_fits p r role) → F n.result ≡ true → Is n) → Around p t class result s
     → AreStanding p s.variables f g → (o : Option Span) → c.member ≡ o → front_mistakes (record { scope = scope_of p g; class = t }) role o c.name (map shape c.arguments) ≡ [] → Means p class s f g Is (is_alone role) c
 front_means p t class result s f g role c Is fits around standing None member none =
@@ -145,13 +145,13 @@ front_means p t class result s f g role c Is fits around standing (Some word) me
     let meant_is = ap (λ vs. variable_named p.text vs c.name) (sym standing.same) ∙ same_named p.text f.locals c.name in
     member_means p t class result s f g role c word Is fits around standing member (local_named p.text f.locals c.name) refl (subst (λ o. member_mistakes (scope_of p g) o role c.name word (map shape c.arguments) ≡ []) meant_is none)
 
-pub call_means : (p : Program) (t : ClassTree) (class : ℕ) (result : Option tree.Type.Type) (s : Setting) (f : Frame) (g : names.Frame) (role : _) (c : CallTree) → Around p t class result s
+pub call_means : (p : ProgramText) (t : ClassTree) (class : ℕ) (result : Option tree.Type.Type) (s : Setting) (f : LocalFrame) (g : names.NameFrame) (role : _) (c : CallTree) → Around p t class result s
     → AreStanding p s.variables f g → call_mistakes (record { scope = scope_of p g; class = t }) role c ≡ []
     → (Is : MethodTree → Type 0) → ((n : MethodTree) (name : Span) → start_mistakes n role name ≡ [] → (F : Option tree.Type.Type → Bool) → ((r : Option tree.Type.Type) → F r ≡ result_fits p r role) → F n.result ≡ true → Is n) → Means p class s f g Is (is_alone role) c
 call_means p t class result s f g role c around standing none Is fits = front_means p t class result s f g role c Is fits around standing c.member refl none
 
 -- a call of a method whose result is taken so
-pub call_of_fits : (p : Program) (t : ClassTree) (class : ℕ) (result : Option tree.Type.Type) (s : Setting) (f : Frame) (g : names.Frame) (c : CallTree) (target : Option Mention) (behind : List Mention) (Is : MethodTree → Type 0)
+pub call_of_fits : (p : ProgramText) (t : ClassTree) (class : ℕ) (result : Option tree.Type.Type) (s : Setting) (f : LocalFrame) (g : names.NameFrame) (c : CallTree) (target : Option Mention) (behind : List Mention) (Is : MethodTree → Type 0)
     → Around p t class result s → AreStanding p s.variables f g → (x : CallsMethod p class f g Is c) → IsTarget s (result_held p x.method.result) target → Each (IsMention s) behind
     → IsCallOf s (call_of p class f c target behind (record { number = x.number; method = x.method })) (method_told p x.told.class x.method)
 call_of_fits p t class result s f g c target behind Is around standing x taken mentioned = record {
@@ -163,11 +163,11 @@ call_of_fits p t class result s f g c target behind Is around standing x taken m
 }
 
 -- the method of that number
-pub method_there : (p : Program) (t : ClassTree) (class : ℕ) (result : Option tree.Type.Type) (s : Setting) (m : MethodTree) (number : ℕ) → Around p t class result s → (is : IsMethod p m number)
+pub method_there : (p : ProgramText) (t : ClassTree) (class : ℕ) (result : Option tree.Type.Type) (s : Setting) (m : MethodTree) (number : ℕ) → Around p t class result s → (is : IsMethod p m number)
     → slice_get s.methods number ≡ Some (method_told p is.class m)
 method_there p t class result s m number around is = ap (λ ms. slice_get ms number) around.methods_are ∙ is.told
 
-pub call_fits : (p : Program) (t : ClassTree) (class : ℕ) (result : Option tree.Type.Type) (s : Setting) (f : Frame) (g : names.Frame) (c : CallTree) (target : Option Mention) (behind : List Mention) (Is : MethodTree → Type 0)
+pub call_fits : (p : ProgramText) (t : ClassTree) (class : ℕ) (result : Option tree.Type.Type) (s : Setting) (f : LocalFrame) (g : names.NameFrame) (c : CallTree) (target : Option Mention) (behind : List Mention) (Is : MethodTree → Type 0)
     → Around p t class result s → AreStanding p s.variables f g → (x : CallsMethod p class f g Is c) → IsTarget s (result_held p x.method.result) target → Each (IsMention s) behind
     → IsSomeAnd (slice_get s.methods x.number) (IsCallOf s (call_of p class f c target behind (record { number = x.number; method = x.method })))
 call_fits p t class result s f g c target behind Is around standing x taken mentioned =

@@ -15,13 +15,13 @@ use Rattle.names.specs.Expressions.{InScope, held, meant, variable_mistakes}
 use Rattle.tables.specs.Firsts.{first_of}
 use Rattle.declarations.specs.declared.mistake.Mistake.{Mistake}
 use Rattle.declarations.specs.declared.mistake.Mistake.TheVariants.{LacksClosed}
-use Rattle.declarations.specs.Program.{Program}
+use Rattle.declarations.specs.Program.{ProgramText}
 use Rattle.names.specs.Variables as names
 use Rattle.tables.specs.Words.{same_word, word_at, words_at}
 use Rattle.declarations.specs.declared.value_type.ValueType.{ValueType}
 use Rattle.declarations.specs.declared.value_type.ValueType.TheVariants as ty
 use Rattle.program.specs.Methods.{VariableModel}
-use Rattle.resolving.specs.Locals.{Frame, Local, mention_of}
+use Rattle.resolving.specs.Locals.{LocalFrame, Local, mention_of}
 use Rattle.resolving.specs.Told.{Staying, behind_case, case_endpoint, case_told, cases_told}
 use Rattle.program.specs.Lists.{Each, is_among}
 use Rattle.program.specs.WellFormed.{endpoints, closes}
@@ -30,21 +30,21 @@ use Rattle.wellformed.proofs.ListLemmas.{both_none, each_append}
 use Rattle.wellformed.proofs.Standing.{AreStanding, IsKnown, scope_of}
 
 -- nothing is wrong with the heads of cases, behind these others of the same switch
-abbrev pub HeadsClean : Program → names.Frame → List Head → List Head → List Head → Type 0
+abbrev pub HeadsClean : ProgramText → names.NameFrame → List Head → List Head → List Head → Type 0
 HeadsClean p g all before [] = Unit {0}
 HeadsClean p g all before (h ∷ heads) = (head_mistakes (scope_of p g) all before h ≡ []) × HeadsClean p g all (before ++ h ∷ []) heads
 
 -- that depends on what is in scope alone
-heads_kept : (p : Program) (g h : names.Frame) (all before heads : List Head) → scope_of p g ≡ scope_of p h → HeadsClean p g all before heads → HeadsClean p h all before heads
+heads_kept : (p : ProgramText) (g h : names.NameFrame) (all before heads : List Head) → scope_of p g ≡ scope_of p h → HeadsClean p g all before heads → HeadsClean p h all before heads
 heads_kept p g h all before [] same clean = tt
 heads_kept p g h all before (x ∷ heads) same clean = (subst (λ s. head_mistakes s all before x ≡ []) same clean.0, heads_kept p g h all (before ++ x ∷ []) heads same clean.1)
 
 -- so it is where nothing is wrong with the cases
-pub heads_clean : (m : Surroundings) (all before : List Head) (cases : CaseTrees) (f : names.Frame) → (cases_turn m all before cases f).found ≡ [] → HeadsClean m.program f all before (heads_of cases)
+pub heads_clean : (m : Surroundings) (all before : List Head) (cases : CaseTrees) (f : names.NameFrame) → (cases_turn m all before cases f).found ≡ [] → HeadsClean m.program f all before (heads_of cases)
 heads_clean m all before NoCase f none = tt
 heads_clean m all before (MoreCases (Case word endpoint awaited left binds statements) cases) f none =
     let h : Head = record { endpoint = endpoint; awaited = awaited; binds = binds } in
-    let here : names.Turn = case_turn m all before (Case word endpoint awaited left binds statements) f in
+    let here : names.CheckedPiece = case_turn m all before (Case word endpoint awaited left binds statements) f in
     let parts = both_none here.found (cases_turn m all (before ++ h ∷ []) cases here.frame).found none in (
       (both_none (head_mistakes (scope_in m f) all before h) _ parts.0).0,
       heads_kept m.program here.frame f all (before ++ h ∷ []) (heads_of cases) refl (heads_clean m all (before ++ h ∷ []) cases here.frame parts.1),
@@ -77,7 +77,7 @@ other_wrong k h (Message word) none = cc
 other_wrong k h (Closed word) none = cc
 
 -- a head with which nothing is wrong names an endpoint, and this does not lack its close
-no_lack : (p : Program) (s : InScope) (all before : List Head) (h : Head) (k : ValueType) → IsKnown p k → type_head_mistakes s all before k h ≡ [] → lack_mistakes s all before h ≡ []
+no_lack : (p : ProgramText) (s : InScope) (all before : List Head) (h : Head) (k : ValueType) → IsKnown p k → type_head_mistakes s all before k h ≡ [] → lack_mistakes s all before h ≡ []
 no_lack p s all before h (ty.Endpoint end n) known none = (both_none (endpoint_head_mistakes s before (ty.Endpoint end n) end h) (lack_mistakes s all before h) none).1
 no_lack p s all before h (ty.Scalar t) known none = absurd (other_wrong (ty.Scalar t) h h.awaited none)
 no_lack p s all before h (ty.Array element) known none = absurd (other_wrong (ty.Array element) h h.awaited none)
@@ -89,7 +89,7 @@ nothing_lacks : (b : Bool) (x : Mistake) → (if b then [] else x ∷ []) ≡ []
 nothing_lacks true x none = refl
 nothing_lacks false x none = cc
 
-heads_close : (p : Program) (vs : List VariableModel) (f : Frame) (g : names.Frame) (all before heads : List Head) → AreStanding p vs f g → Each (HasClose p.text all) before
+heads_close : (p : ProgramText) (vs : List VariableModel) (f : LocalFrame) (g : names.NameFrame) (all before heads : List Head) → AreStanding p vs f g → Each (HasClose p.text all) before
     → HeadsClean p g all before heads → Each (HasClose p.text all) heads
 heads_close p vs f g all before [] standing close clean = tt
 heads_close p vs f g all before (h ∷ heads) standing close clean =
@@ -103,7 +103,7 @@ heads_close p vs f g all before (h ∷ heads) standing close clean =
     (here, heads_close p vs f g all (before ++ h ∷ []) heads standing (each_append (HasClose p.text all) before (h ∷ []) close (here, tt)) clean.1)
 
 -- the number of the endpoint of a case
-abbrev end_number : Program → Frame → Span → ℕ
+abbrev end_number : ProgramText → LocalFrame → Span → ℕ
 end_number p f name = (case_endpoint p f name).variable.0
 
 abbrev number_written : List ℕ → List Local → List ℕ → Option ℕ
@@ -114,7 +114,7 @@ number_alone name None = refl
 number_alone name (Some n) = refl
 
 -- names that are written alike have one number
-same_number : (p : Program) (f : Frame) (a b : Span) → word_at p.text a ≡ word_at p.text b → end_number p f a ≡ end_number p f b
+same_number : (p : ProgramText) (f : LocalFrame) (a b : Span) → word_at p.text a ≡ word_at p.text b → end_number p f a ≡ end_number p f b
 same_number p f a b same =
     number_alone a (number_written p.text f.locals (word_at p.text a))
     ∙ ap (λ w. option_map_or (λ n. n) (number_written p.text f.locals w) 0) same
@@ -125,14 +125,14 @@ not_here true b is = is
 not_here false b is = is
 
 -- where a head awaits the close of an endpoint, the case for its close is there
-close_there : (p : Program) (class : ℕ) (stays : Staying) (cases : CaseTrees) (close : Place) (f : Frame) (name : Span) → awaits_closed p.text name (heads_of cases) ≡ true
+close_there : (p : ProgramText) (class : ℕ) (stays : Staying) (cases : CaseTrees) (close : Place) (f : LocalFrame) (name : Span) → awaits_closed p.text name (heads_of cases) ≡ true
     → is_among (closes (cases_told p class stays cases close f).what) (end_number p f name) ≡ true
 close_there p class stays NoCase close f name awaits = cc
 close_there p class stays (MoreCases (Case word endpoint (Message m) left binds statements) cases) close f name awaits =
     close_there p class stays cases close (case_told p class stays (behind_case cases close) (Case word endpoint (Message m) left binds statements) f).frame name
     (not_here (same_name p.text endpoint name) (awaits_closed p.text name (heads_of cases)) awaits)
 close_there p class stays (MoreCases (Case word endpoint (Closed w) left binds statements) cases) close f name awaits =
-    let behind : Frame = (case_told p class stays (behind_case cases close) (Case word endpoint (Closed w) left binds statements) f).frame in
+    let behind : LocalFrame = (case_told p class stays (behind_case cases close) (Case word endpoint (Closed w) left binds statements) f).frame in
     let others : List ℕ = closes (cases_told p class stays cases close behind).what in
     ⊎_elim
     (λ here. or_left (end_number p f endpoint == end_number p f name) (is_among others (end_number p f name))
@@ -140,7 +140,7 @@ close_there p class stays (MoreCases (Case word endpoint (Closed w) left binds s
     (λ later. or_right (end_number p f endpoint == end_number p f name) (is_among others (end_number p f name)) (close_there p class stays cases close behind name later))
     (or_cases (same_name p.text endpoint name && true) (awaits_closed p.text name (heads_of cases)) awaits)
 
-ends_close : (p : Program) (class : ℕ) (stays : Staying) (cases : CaseTrees) (close : Place) (f : Frame) (all : List Head) (numbers : List ℕ)
+ends_close : (p : ProgramText) (class : ℕ) (stays : Staying) (cases : CaseTrees) (close : Place) (f : LocalFrame) (all : List Head) (numbers : List ℕ)
     → ((name : Span) → awaits_closed p.text name all ≡ true → is_among numbers (end_number p f name) ≡ true) → Each (HasClose p.text all) (heads_of cases)
     → Each (λ e. is_among numbers e ≡ true) (endpoints (cases_told p class stays cases close f).what)
 ends_close p class stays NoCase close f all numbers there each = tt
@@ -150,7 +150,7 @@ ends_close p class stays (MoreCases (Case word endpoint awaited left binds state
 )
 
 -- then each endpoint has a case for its close
-pub all_close : (p : Program) (class : ℕ) (vs : List VariableModel) (stays : Staying) (first : CaseTree) (cases : CaseTrees) (close : Place) (f : Frame) (g : names.Frame) → AreStanding p vs f g
+pub all_close : (p : ProgramText) (class : ℕ) (vs : List VariableModel) (stays : Staying) (first : CaseTree) (cases : CaseTrees) (close : Place) (f : LocalFrame) (g : names.NameFrame) → AreStanding p vs f g
     → HeadsClean p g (head_of first ∷ heads_of cases) [] (head_of first ∷ heads_of cases)
     → Each (λ e. is_among (closes (cases_told p class stays (MoreCases first cases) close f).what) e ≡ true) (endpoints (cases_told p class stays (MoreCases first cases) close f).what)
 all_close p class vs stays first cases close f g standing clean =

@@ -12,7 +12,7 @@ use Rattle.names.specs.Bodies.{channel_mistakes, ends_mistakes, is_end_of, new_e
 use Rattle.names.specs.Expressions.{held, meant, variable_mistakes}
 use Rattle.declarations.specs.Types.{is_block, is_silent, unless}
 use Rattle.program.specs.Types.{same_side}
-use Rattle.declarations.specs.Program.{Numbered, Program}
+use Rattle.declarations.specs.Program.{Numbered, ProgramText}
 use Rattle.declarations.specs.Program as items
 use Rattle.names.specs.Variables as names
 use Rattle.declarations.specs.declared.value_type as declared
@@ -21,7 +21,7 @@ use Rattle.program.specs.declared.types.HeapType.{HeapType}
 use Rattle.program.specs.declared.types.HeapType.TheVariants.{Endpoint}
 use Rattle.program.specs.declared.statement.Action.TheVariants as does
 use Rattle.resolving.specs.Types.{contract_named, contract_number, number_at}
-use Rattle.resolving.specs.Locals.{number_of, Frame, mention, mention_of}
+use Rattle.resolving.specs.Locals.{number_of, LocalFrame, mention, mention_of}
 use Rattle.resolving.specs.Plain.{channel, channel_of, ends_of}
 use Rattle.program.specs.Scopes.{IsInScope}
 use Rattle.program.specs.WellFormed.{IsAction, Setting, are_ends}
@@ -38,7 +38,7 @@ record IsEndType (n : ℕ) (k : declared.ValueType.ValueType) : Type 0 where
   pub side : Side
   pub is : k ≡ ty.Endpoint side n
 
-end_type : (p : Program) (n : ℕ) (k : declared.ValueType.ValueType) → IsKnown p k → (is_silent k || is_end_of n k) ≡ true → IsEndType n k
+end_type : (p : ProgramText) (n : ℕ) (k : declared.ValueType.ValueType) → IsKnown p k → (is_silent k || is_end_of n k) ≡ true → IsEndType n k
 end_type p n (ty.Endpoint side m) known fits = record { side = side; is = ap (λ x. ty.Endpoint side x) (sym (eqb-true n m fits)) }
 end_type p n (ty.Scalar x) known fits = cc
 end_type p n (ty.Array x) known fits = cc
@@ -60,7 +60,7 @@ right_of false true c quiet h = h
 right_of false false c quiet h = cc
 
 -- two variables that hold ends of a contract, and not the same one
-ends_fit : (p : Program) (n : ℕ) (a b : Side) (x y : HeapType) → HoldsEnd p n a x → HoldsEnd p n b y → not (is_end_of n (ty.Endpoint a n) && same_end (ty.Endpoint a n) (ty.Endpoint b n)) ≡ true
+ends_fit : (p : ProgramText) (n : ℕ) (a b : Side) (x y : HeapType) → HoldsEnd p n a x → HoldsEnd p n b y → not (is_end_of n (ty.Endpoint a n) && same_end (ty.Endpoint a n) (ty.Endpoint b n)) ≡ true
     → are_ends (contract_number p n).0 x y ≡ true
 ends_fit p n a b x y left right differ =
     let k = contract_number p n in
@@ -69,13 +69,13 @@ ends_fit p n a b x y left right differ =
     subst (λ z. are_ends k.0 z y ≡ true) (sym left.is) (subst (λ z. are_ends k.0 (Endpoint k a left.state) z ≡ true) (sym right.is) ends)
 
 -- the contract of an end that is known
-channel_contract : (p : Program) (contract : Span) (c : Numbered ContractTree) (side : Side) → items.contract_named p contract ≡ Some c → IsKnown p (ty.Endpoint side c.0) → contract_named p contract ≡ Some (contract_number p c.0)
+channel_contract : (p : ProgramText) (contract : Span) (c : Numbered ContractTree) (side : Side) → items.contract_named p contract ≡ Some c → IsKnown p (ty.Endpoint side c.0) → contract_named p contract ≡ Some (contract_number p c.0)
 channel_contract p contract c side named known =
     let has : HasContract p c.0 = contract_known p c.0 side known in
     let at = contract_is_at p c.0 has.tree has.is in
     ap (λ o. option_and_then (number_at p) (option_map (λ x. x.0) o)) named ∙ ap (option_map (λ x. contract_number p c.0)) at.is
 
-found_fits : (p : Program) (class : ℕ) (s : Setting) (f : Frame) (g : names.Frame) (n : made.NewChannel.NewChannel) (c : Numbered ContractTree) → items.contract_named p n.contract ≡ Some c
+found_fits : (p : ProgramText) (class : ℕ) (s : Setting) (f : LocalFrame) (g : names.NameFrame) (n : made.NewChannel.NewChannel) (c : Numbered ContractTree) → items.contract_named p n.contract ≡ Some c
     → s.scope ≡ last_of f → AreStanding p s.variables f g → variable_mistakes (scope_of p g) n.first ≡ [] → variable_mistakes (scope_of p g) n.second ≡ []
     → ends_mistakes c.0 (held (meant (scope_of p g) n.first)) (held (meant (scope_of p g) n.second)) n.first n.second ≡ [] → IsAction s (channel p class f n)
 found_fits p class s f g n c named here standing first second none =
@@ -107,14 +107,14 @@ found_fits p class s f g n c named here standing first second none =
           (subst (λ o. IsSomeAnd o (λ y. are_ends (contract_number p c.0).0 v.variable.ty y.ty ≡ true)) (sym w.there) ends),
     )
 
-named_fits : (p : Program) (class : ℕ) (s : Setting) (f : Frame) (g : names.Frame) (n : made.NewChannel.NewChannel) (o : Option (Numbered ContractTree)) → items.contract_named p n.contract ≡ o
+named_fits : (p : ProgramText) (class : ℕ) (s : Setting) (f : LocalFrame) (g : names.NameFrame) (n : made.NewChannel.NewChannel) (o : Option (Numbered ContractTree)) → items.contract_named p n.contract ≡ o
     → s.scope ≡ last_of f → AreStanding p s.variables f g → variable_mistakes (scope_of p g) n.first ≡ [] → variable_mistakes (scope_of p g) n.second ≡ []
     → new_ends_mistakes (scope_of p g) o n.contract n.first n.second ≡ [] → IsAction s (channel p class f n)
 named_fits p class s f g n None named here standing first second none = cc
 named_fits p class s f g n (Some c) named here standing first second none = found_fits p class s f g n c named here standing first second none
 
 -- a new channel
-pub channel_fits : (p : Program) (t : ClassTree) (class : ℕ) (result : Option type_nodes.Type.Type) (s : Setting) (f : Frame) (g : names.Frame) (n : made.NewChannel.NewChannel)
+pub channel_fits : (p : ProgramText) (t : ClassTree) (class : ℕ) (result : Option type_nodes.Type.Type) (s : Setting) (f : LocalFrame) (g : names.NameFrame) (n : made.NewChannel.NewChannel)
     → Around p t class result s → s.scope ≡ last_of f → AreStanding p s.variables f g → channel_mistakes (scope_of p g) n.contract n.first n.second ≡ [] → IsAction s (channel p class f n)
 channel_fits p t class result s f g n around here standing none =
     let named = items.contract_named p n.contract in

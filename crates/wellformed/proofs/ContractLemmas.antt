@@ -11,7 +11,7 @@ use Rattle.declarations.specs.Declarations.{messages_of, names_of_messages, stat
 use Rattle.tables.specs.Firsts.{first_of}
 use Rattle.program.specs.Parts.{StateModel, ContractModel}
 use Rattle.declarations.specs.Indices.{message_at, message_index, state_index}
-use Rattle.declarations.specs.Program.{Program, as_contract, item_at}
+use Rattle.declarations.specs.Program.{ProgramText, as_contract, item_at}
 use Rattle.declarations.specs.Resolution.{each_behind, message_count, messages_from, named_state, numbered_message, numbered_state, resolved_contract, state_count}
 use Rattle.declarations.specs.Named.{message_written, sent_message}
 use Rattle.tables.specs.Words.{same_word, word_at, words_at}
@@ -70,13 +70,13 @@ counted_there (i ∷ items) zero m y is = defined_here i.definition m y (contrac
 counted_there (i ∷ items) (suc n) m y is = passed_over i.definition (contracts_of (take n items)) (contracts_of items) ∙ counted_there items n m y is
 
 -- the contract that is the item at this place, with its names resolved
-pub record IsContractAt (p : Program) (n : ℕ) (c : ContractTree) : Type 0 where
+pub record IsContractAt (p : ProgramText) (n : ℕ) (c : ContractTree) : Type 0 where
   pub before : List ContractTree
   pub rest : List ContractTree
   pub split : contracts_of p.items ≡ before ++ c ∷ rest
   pub is : contract_at p n ≡ Some (seen p.text before c)
 
-pub contract_is_at : (p : Program) (n : ℕ) (c : ContractTree) → item_at as_contract p n ≡ Some (n, c) → IsContractAt p n c
+pub contract_is_at : (p : ProgramText) (n : ℕ) (c : ContractTree) → item_at as_contract p n ≡ Some (n, c) → IsContractAt p n c
 contract_is_at p n c there =
     let at : Adds (seen p.text) (contracts_of p.items) c (contract_at p n) = added_at (seen p.text) [] (contracts_of p.items) (contracts_before p.items n) c (counted_there p.items n n (n, c) there) in
     record { before = at.before; rest = at.rest; split = at.split; is = at.is }
@@ -93,18 +93,18 @@ state_placed : (r : ContractModel) (o : Option ℕ) → IsStateOf r r.parts.firs
 state_placed r None first = first
 state_placed r (Some place) first = state_at r place (slice_get r.parts.states place) refl first
 
-state_meant : (p : Program) (n : ℕ) (r : ContractModel) (state : Option Span) → IsStateOf r r.parts.first → IsStateOf r (state_of p n r state)
+state_meant : (p : ProgramText) (n : ℕ) (r : ContractModel) (state : Option Span) → IsStateOf r r.parts.first → IsStateOf r (state_of p n r state)
 state_meant p n r None first = first
 state_meant p n r (Some name) first = state_placed r (state_index p n name) first
 
 -- the state of an endpoint's type is one of its contract
-pub state_there : (p : Program) (n : ℕ) (r : ContractModel) (state : Option Span) → contract_at p n ≡ Some r → IsStateOf r (state_of p n r state)
+pub state_there : (p : ProgramText) (n : ℕ) (r : ContractModel) (state : Option Span) → contract_at p n ≡ Some r → IsStateOf r (state_of p n r state)
 state_there p n r state is =
     let added : AddedBy (seen p.text) r = added_by (seen p.text) [] (contracts_of p.items) (contracts_before p.items n) r is in
     state_meant p n r state (subst (λ c. IsStateOf c c.parts.first) (sym added.is) (first_state_of p.text added.before added.by))
 
 -- a look-up answers this message of the contract, with its number
-pub record AnswersMessage (p : Program) (n : ℕ) (o : Option Meant) (m : MessageTree) : Type 0 where
+pub record AnswersMessage (p : ProgramText) (n : ℕ) (o : Option Meant) (m : MessageTree) : Type 0 where
   pub meant : Meant
   pub is : o ≡ Some meant
   pub message : meant.message ≡ m
@@ -112,7 +112,7 @@ pub record AnswersMessage (p : Program) (n : ℕ) (o : Option Meant) (m : Messag
   pub brings : slice_get (messages_told p) meant.id.0 ≡ Some (brought p m)
 
 -- what it brings stands at its number
-brought_there : (p : Program) (n k : ℕ) (c : ContractTree) (m : MessageTree) → (at : IsContractAt p n c) → slice_get (messages_of c) k ≡ Some m
+brought_there : (p : ProgramText) (n k : ℕ) (c : ContractTree) (m : MessageTree) → (at : IsContractAt p n c) → slice_get (messages_of c) k ≡ Some m
     → slice_get (messages_told p) (message_count at.before + k) ≡ Some (brought p m)
 brought_there p n k c m at there =
     let rest = flat_map messages_of at.rest in
@@ -137,7 +137,7 @@ numbered_at text first (x ∷ messages) (suc k) m is =
 abbrev meant_as : MessageTree → MessageId → Meant
 meant_as m id = record { id = id; message = m }
 
-message_is_there : (p : Program) (n : ℕ) (c : ContractTree) (k : ℕ) (m : MessageTree) → item_at as_contract p n ≡ Some (n, c) → slice_get (messages_of c) k ≡ Some m → AnswersMessage p n (message_there p n k) m
+message_is_there : (p : ProgramText) (n : ℕ) (c : ContractTree) (k : ℕ) (m : MessageTree) → item_at as_contract p n ≡ Some (n, c) → slice_get (messages_of c) k ≡ Some m → AnswersMessage p n (message_there p n k) m
 message_is_there p n c k m there at =
     let contract : IsContractAt p n c = contract_is_at p n c there in
     let first = message_count contract.before in
@@ -156,28 +156,28 @@ message_is_there p n c k m there at =
       brings = brought_there p n k c m contract at;
     }
 
-message_placed : (p : Program) (n : ℕ) (c : ContractTree) (o : Option ℕ) (m : MessageTree) → item_at as_contract p n ≡ Some (n, c) → option_and_then (slice_get (messages_of c)) o ≡ Some m
+message_placed : (p : ProgramText) (n : ℕ) (c : ContractTree) (o : Option ℕ) (m : MessageTree) → item_at as_contract p n ≡ Some (n, c) → option_and_then (slice_get (messages_of c)) o ≡ Some m
     → AnswersMessage p n (option_and_then (message_there p n) o) m
 message_placed p n c None m there is = cc
 message_placed p n c (Some k) m there is = message_is_there p n c k m there is
 
-message_found : (p : Program) (n : ℕ) (c : ContractTree) (word : List ℕ) (m : MessageTree) → item_at as_contract p n ≡ Some (n, c) → message_written p.text c word ≡ Some m
+message_found : (p : ProgramText) (n : ℕ) (c : ContractTree) (word : List ℕ) (m : MessageTree) → item_at as_contract p n ≡ Some (n, c) → message_written p.text c word ≡ Some m
     → AnswersMessage p n (option_and_then (message_there p n) (message_index p n word)) m
 message_found p n c word m there written =
     subst (λ o. AnswersMessage p n (option_and_then (message_there p n) o) m)
     (sym (ap (option_and_then (λ x. first_of (words_at p.text (names_of_messages (messages_of x.1))) word)) there))
     (message_placed p n c (first_of (words_at p.text (names_of_messages (messages_of c))) word) m there written)
 
-pub message_awaited : (p : Program) (n : ℕ) (c : ContractTree) (name : Span) (m : MessageTree) → item_at as_contract p n ≡ Some (n, c)
+pub message_awaited : (p : ProgramText) (n : ℕ) (c : ContractTree) (name : Span) (m : MessageTree) → item_at as_contract p n ≡ Some (n, c)
     → message_written p.text c (word_at p.text name) ≡ Some m → AnswersMessage p n (message_named p n name) m
 message_awaited p n c name m there written = message_found p n c (word_at p.text name) m there written
 
-message_begun : (p : Program) (n : ℕ) (c : ContractTree) (word : List ℕ) (m : MessageTree) (b : Bool) → item_at as_contract p n ≡ Some (n, c) → (if b then message_written p.text c word else None) ≡ Some m
+message_begun : (p : ProgramText) (n : ℕ) (c : ContractTree) (word : List ℕ) (m : MessageTree) (b : Bool) → item_at as_contract p n ≡ Some (n, c) → (if b then message_written p.text c word else None) ≡ Some m
     → AnswersMessage p n (option_and_then (message_there p n) (if b then message_index p n word else None)) m
 message_begun p n c word m true there sent = message_found p n c word m there sent
 message_begun p n c word m false there sent = cc
 
-pub message_given : (p : Program) (n : ℕ) (c : ContractTree) (word : Span) (m : MessageTree) → item_at as_contract p n ≡ Some (n, c)
+pub message_given : (p : ProgramText) (n : ℕ) (c : ContractTree) (word : Span) (m : MessageTree) → item_at as_contract p n ≡ Some (n, c)
     → sent_message p.text c (word_at p.text word) ≡ Some m → AnswersMessage p n (message_sent p n word) m
 message_given p n c word m there sent =
     message_begun p n c (drop 4 (word_at p.text word)) m (same_word (take 4 (word_at p.text word)) (codes "Send")) there sent

@@ -15,7 +15,7 @@ use Rattle.declarations.specs.declared.mistake.NameSort.TheVariants as sort
 use Rattle.declarations.specs.declared.mistake.Demand.TheVariants as demand
 use Rattle.declarations.specs.declared.mistake.Mismatch.TheVariants.{Given}
 use Rattle.declarations.specs.Types.{agree, is_block, is_silent, type_meant, type_unknown, unless}
-use Rattle.declarations.specs.Program.{Program, as_struct, item_at}
+use Rattle.declarations.specs.Program.{ProgramText, as_struct, item_at}
 use Rattle.names.specs.Variables as names
 use Rattle.declarations.specs.declared.value_type as declared
 use Rattle.declarations.specs.declared.value_type.ValueType.TheVariants as ty
@@ -29,7 +29,7 @@ use Rattle.program.specs.declared.statement.Mention.{Mention}
 use Rattle.resolving.specs.Counts.{structs_before}
 use Rattle.resolving.specs.Fields.{field_number, fields_held, owning_before, structs_told}
 use Rattle.resolving.specs.Types.{state_in}
-use Rattle.resolving.specs.Locals.{Frame, Local, local_named, mention, mention_of, number_of}
+use Rattle.resolving.specs.Locals.{LocalFrame, Local, local_named, mention, mention_of, number_of}
 use Rattle.resolving.specs.Plain.{exchange_by, exchange_found, exchange_of, exchanged}
 use Rattle.wellformed.proofs.FieldLemmas.{field_at, fields_clean, types_of_struct}
 use Rattle.wellformed.proofs.FindingLemmas.{none_said, unless_none}
@@ -40,7 +40,7 @@ use Rattle.wellformed.proofs.PlaceLemmas.{each_there}
 use Rattle.wellformed.proofs.Standing.{Around, AreStanding, IsHeld, IsKnown, last_of, scope_of}
 
 -- a field that owns: where it stands in its struct, and what it holds
-record IsField (p : Program) (s : StructTree) (field : Span) : Type 0 where
+record IsField (p : ProgramText) (s : StructTree) (field : Span) : Type 0 where
   place : ℕ
   tree : Field
   first : first_among p.text (map (λ (f : Field). f.name) s.fields) field ≡ Some place
@@ -49,7 +49,7 @@ record IsField (p : Program) (s : StructTree) (field : Span) : Type 0 where
   known : IsKnown p (type_meant p tree.ty)
 
 -- the field of a name
-named_field : (p : Program) (g : names.Frame) (s : StructTree) (field : Span) (place : Option ℕ) (f : Option Field) → Each (λ x. type_unknown p x.ty ≡ []) s.fields
+named_field : (p : ProgramText) (g : names.NameFrame) (s : StructTree) (field : Span) (place : Option ℕ) (f : Option Field) → Each (λ x. type_unknown p x.ty ≡ []) s.fields
     → first_among p.text (map (λ (x : Field). x.name) s.fields) field ≡ place → option_and_then (slice_get s.fields) place ≡ f → is_some f ≡ true
     → (is_silent (struct_field_type (scope_of p g) f) || is_block (struct_field_type (scope_of p g) f)) ≡ true → IsField p s field
 named_field p g s field None f known first at there fits = cc
@@ -60,7 +60,7 @@ named_field p g s field (Some k) (Some f) known first at there fits =
     record { place = k; tree = f; first = first; at = at; holding = block_holds p (type_meant p f.ty) (state_in f.ty) sure block; known = sure }
 
 -- so where nothing is wrong with what is exchanged, the variable before the dot has a pointer, and the field owns
-record IsHolder (p : Program) (g : names.Frame) (k : declared.ValueType.ValueType) (field : Span) : Type 0 where
+record IsHolder (p : ProgramText) (g : names.NameFrame) (k : declared.ValueType.ValueType) (field : Span) : Type 0 where
   number : ℕ
   tree : StructTree
   is : k ≡ ty.Pointer number
@@ -68,10 +68,10 @@ record IsHolder (p : Program) (g : names.Frame) (k : declared.ValueType.ValueTyp
   of : IsField p tree field
   exchanged : exchanged_type (scope_of p g) k field ≡ type_meant p of.tree.ty
 
-struct_field : (p : Program) (g : names.Frame) (s : StructTree) (field : Span) (f : IsField p s field) → option_and_then (slice_get s.fields) (first_among p.text (map (λ (x : Field). x.name) s.fields) field) ≡ Some f.tree
+struct_field : (p : ProgramText) (g : names.NameFrame) (s : StructTree) (field : Span) (f : IsField p s field) → option_and_then (slice_get s.fields) (first_among p.text (map (λ (x : Field). x.name) s.fields) field) ≡ Some f.tree
 struct_field p g s field f = ap (option_and_then (slice_get s.fields)) f.first ∙ f.at
 
-pointer_holder : (p : Program) (g : names.Frame) (n : ℕ) (name field : Span) → (clean : (s : StructTree) → item_at as_struct p n ≡ Some (n, s) → Each (λ f. type_unknown p f.ty ≡ []) s.fields)
+pointer_holder : (p : ProgramText) (g : names.NameFrame) (n : ℕ) (name field : Span) → (clean : (s : StructTree) → item_at as_struct p n ≡ Some (n, s) → Each (λ f. type_unknown p f.ty ≡ []) s.fields)
     → IsKnown p (ty.Pointer n) → field_mistakes (scope_of p g) (ty.Pointer n) name field ≡ []
     → (is_silent (field_type (scope_of p g) (ty.Pointer n) field) || is_block (field_type (scope_of p g) (ty.Pointer n) field)) ≡ true → IsHolder p g (ty.Pointer n) field
 pointer_holder p g n name field clean known none fits =
@@ -92,7 +92,7 @@ pointer_holder p g n name field clean known none fits =
       exchanged = type_is ∙ ap (struct_field_type (scope_of p g)) (struct_field p g s field f);
     }
 
-holder_is : (p : Program) (g : names.Frame) (k : declared.ValueType.ValueType) (name field : Span) → (clean : (n : ℕ) (s : StructTree) → item_at as_struct p n ≡ Some (n, s) → Each (λ f. type_unknown p f.ty ≡ []) s.fields)
+holder_is : (p : ProgramText) (g : names.NameFrame) (k : declared.ValueType.ValueType) (name field : Span) → (clean : (n : ℕ) (s : StructTree) → item_at as_struct p n ≡ Some (n, s) → Each (λ f. type_unknown p f.ty ≡ []) s.fields)
     → IsKnown p k → holder_mistakes (scope_of p g) k name field ≡ [] → IsHolder p g k field
 holder_is p g (ty.Pointer n) name field clean known none =
     let x = exchanged_type (scope_of p g) (ty.Pointer n) field in
@@ -105,19 +105,19 @@ holder_is p g ty.Missing name field clean known none = absurd known
 holder_is p g ty.Unknown name field clean known none = absurd known
 
 -- the number of the field, and what its struct has there
-field_numbered : (p : Program) (n : ℕ) (s : StructTree) (field : Span) (f : IsField p s field) → item_at as_struct p n ≡ Some (n, s)
+field_numbered : (p : ProgramText) (n : ℕ) (s : StructTree) (field : Span) (f : IsField p s field) → item_at as_struct p n ≡ Some (n, s)
     → field_number p (ty.Pointer n) field ≡ Some (length (fields_held p (take f.place s.fields)))
 field_numbered p n s field f there =
     ap (option_and_then (owning_before p field)) there ∙ ap (option_map (λ k. length (fields_held p (take k s.fields)))) f.first
 
-held_there : (p : Program) (n : ℕ) (s : StructTree) (field : Span) (f : IsField p s field) → item_at as_struct p n ≡ Some (n, s)
+held_there : (p : ProgramText) (n : ℕ) (s : StructTree) (field : Span) (f : IsField p s field) → item_at as_struct p n ≡ Some (n, s)
     → slice_get (field_types (structs_told p) (struct_of (structs_before p.items n))) (length (fields_held p (take f.place s.fields))) ≡ Some f.holding.held
 held_there p n s field f there =
     ap (λ ks. slice_get ks (length (fields_held p (take f.place s.fields)))) (types_of_struct p n s there)
     ∙ field_at p s.fields f.place f.tree f.holding.held f.at f.holding.is
 
 -- what holds something is of the exchange heap
-held_block : (p : Program) (t : type_nodes.Type.Type) → Holding p (type_meant p t) (state_in t) → is_block (type_meant p t) ≡ true
+held_block : (p : ProgramText) (t : type_nodes.Type.Type) → Holding p (type_meant p t) (state_in t) → is_block (type_meant p t) ≡ true
 held_block p t h = by (is_block (type_meant p t)) refl
   where
     by : (b : Bool) → is_block (type_meant p t) ≡ b → is_block (type_meant p t) ≡ true
@@ -128,7 +128,7 @@ held_block p t h = by (is_block (type_meant p t)) refl
         absurd (cc)
 
 -- what an exchange comes to
-exchange_is : (p : Program) (class : ℕ) (f : Frame) (g : names.Frame) (vs : List VariableModel) (e : made.Exchange.Exchange) → AreStanding p vs f g → variable_mistakes (scope_of p g) e.holder ≡ [] → (n number : ℕ)
+exchange_is : (p : ProgramText) (class : ℕ) (f : LocalFrame) (g : names.NameFrame) (vs : List VariableModel) (e : made.Exchange.Exchange) → AreStanding p vs f g → variable_mistakes (scope_of p g) e.holder ≡ [] → (n number : ℕ)
     → held (meant (scope_of p g) e.holder) ≡ ty.Pointer n → field_number p (ty.Pointer n) e.field ≡ Some number → (v w : Mention) → mention p.text f.locals e.holder ≡ Some v → mention p.text f.locals e.given ≡ Some w
     → exchange_found p class f e ≡ Some (exchange_of p class f e number v w)
 exchange_is p class f g vs e standing none n number is numbered v w holder given =
@@ -142,7 +142,7 @@ exchange_is p class f g vs e standing none n number is numbered v w holder given
     ∙ ap (option_map (exchange_of p class f e number v)) given
 
 -- an exchange of a variable and of what a field holds, which are of one type
-action_fits : (p : Program) (class : ℕ) (s : Setting) (f : Frame) (e : made.Exchange.Exchange) (number : ℕ) (inside : HeapType) (v w : ℕ) (x y : VariableModel)
+action_fits : (p : ProgramText) (class : ℕ) (s : Setting) (f : LocalFrame) (e : made.Exchange.Exchange) (number : ℕ) (inside : HeapType) (v w : ℕ) (x y : VariableModel)
     → exchange_found p class f e ≡ Some (exchange_of p class f e number (mention_of e.holder v) (mention_of e.given w)) → slice_get s.variables v ≡ Some x → slice_get s.variables w ≡ Some y
     → IsInScope s.variables s.scope (number_of w) → slice_get (field_types s.structs x.ty) number ≡ Some inside → same_type y.ty inside ≡ true → IsAction s (exchanged p class f e)
 action_fits p class s f e number inside v w x y found holder given scope types same =
@@ -153,7 +153,7 @@ action_fits p class s f e number inside v w x y found holder given scope types s
     )
 
 -- an exchange
-pub exchange_fits : (p : Program) (t : ClassTree) (class : ℕ) (result : Option type_nodes.Type.Type) (s : Setting) (f : Frame) (g : names.Frame) (e : made.Exchange.Exchange)
+pub exchange_fits : (p : ProgramText) (t : ClassTree) (class : ℕ) (result : Option type_nodes.Type.Type) (s : Setting) (f : LocalFrame) (g : names.NameFrame) (e : made.Exchange.Exchange)
     → Around p t class result s → s.scope ≡ last_of f → AreStanding p s.variables f g → exchange_mistakes (scope_of p g) e ≡ [] → IsAction s (exchanged p class f e)
 exchange_fits p t class result s f g e around here standing none =
     let k = held (meant (scope_of p g) e.holder) in

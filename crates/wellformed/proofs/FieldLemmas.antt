@@ -20,7 +20,7 @@ use Rattle.declarations.specs.Types.{is_heap, type_meant, type_unknown}
 use Rattle.declarations.proofs.ReadyLemmas.{not_past}
 use Rattle.declarations.specs.Listed.{past_limit, twice_among}
 use Rattle.declarations.specs.ItemMistakes.{struct_mistakes}
-use Rattle.declarations.specs.Program.{Program, as_struct, item_at}
+use Rattle.declarations.specs.Program.{ProgramText, as_struct, item_at}
 use Rattle.declarations.specs.Resolution.{resolved_contracts}
 use Rattle.declarations.specs.Owning.{owning_fields}
 use Rattle.declarations.specs.declared.value_type as names
@@ -40,16 +40,16 @@ use Rattle.wellformed.proofs.PlaceLemmas.{each_none, slice_behind}
 use Rattle.wellformed.proofs.ProgramLemmas.{item_clean, items_clean}
 
 -- what is wrong with the types of the fields of a struct
-abbrev pub types_unknown : Program → List Field → List Mistake
+abbrev pub types_unknown : ProgramText → List Field → List Mistake
 types_unknown p fields = flat_map (λ f. type_unknown p f.ty) fields
 
 -- nothing is wrong with the structs among items
-struct_none : (p : Program) (d : DefinitionTree) → definition_mistakes p d ≡ [] → Each (λ s. struct_mistakes p s ≡ []) (struct_among d)
+struct_none : (p : ProgramText) (d : DefinitionTree) → definition_mistakes p d ≡ [] → Each (λ s. struct_mistakes p s ≡ []) (struct_among d)
 struct_none p (trees.Contract c) none = tt
 struct_none p (trees.Struct s) none = (none, tt)
 struct_none p (trees.Class c) none = tt
 
-structs_none : (p : Program) (items : List ItemTree) → flat_map (λ i. definition_mistakes p i.definition) items ≡ []
+structs_none : (p : ProgramText) (items : List ItemTree) → flat_map (λ i. definition_mistakes p i.definition) items ≡ []
     → Each (λ s. struct_mistakes p s ≡ []) (structs_of items)
 structs_none p [] none = tt
 structs_none p (i ∷ items) none =
@@ -57,11 +57,11 @@ structs_none p (i ∷ items) none =
     each_append (λ s. struct_mistakes p s ≡ []) (struct_among i.definition) (structs_of items) (struct_none p i.definition both.0) (structs_none p items both.1)
 
 -- a struct with which nothing is wrong has few fields that own, and their types are known
-record IsStruct (p : Program) (s : StructTree) : Type 0 where
+record IsStruct (p : ProgramText) (s : StructTree) : Type 0 where
   known : Each (λ f. type_unknown p f.ty ≡ []) s.fields
   few : length (owning_fields s) ≤ MOST_FIELDS
 
-struct_is : (p : Program) (s : StructTree) → struct_mistakes p s ≡ [] → IsStruct p s
+struct_is : (p : ProgramText) (s : StructTree) → struct_mistakes p s ≡ [] → IsStruct p s
 struct_is p s none =
     let names = map (λ (f : Field). f.name) (owning_fields s) in
     let behind = both_none (twice_among p.text (map (λ (f : Field). f.name) s.fields)) (types_unknown p s.fields ++ past_limit limit.Fields names) none in
@@ -77,7 +77,7 @@ listed_few : (o : Option held.HeapType.HeapType) (n m : ℕ) → n ≤ m → len
 listed_few None n m le = omega (arith, le)
 listed_few (Some h) n m le = omega (arith, le)
 
-held_few : (p : Program) (fields : List Field) → length (fields_held p fields) ≤ length (filter (λ f. is_heap f.ty) fields)
+held_few : (p : ProgramText) (fields : List Field) → length (fields_held p fields) ≤ length (filter (λ f. is_heap f.ty) fields)
 held_few p [] = omega arith
 held_few p (f ∷ fields) = by f.access f.ty f.name (held_few p fields)
   where
@@ -89,12 +89,12 @@ held_few p (f ∷ fields) = by f.access f.ty f.name (held_few p fields)
         omega (arith, more, length-append (held_listed (type_held p (type.Heap h))) (fields_held p fields))
 
 -- what a struct has in its fields that own stands for something
-held_types : (p : Program) (fields : List Field) → Each (IsType (resolved_contracts p.text (contracts_of p.items))) (fields_held p fields)
+held_types : (p : ProgramText) (fields : List Field) → Each (IsType (resolved_contracts p.text (contracts_of p.items))) (fields_held p fields)
 held_types p [] = tt
 held_types p (f ∷ fields) = each_append (IsType (resolved_contracts p.text (contracts_of p.items))) (held_listed (type_held p f.ty)) (fields_held p fields)
     (types_meant p f.ty (type_held p f.ty) refl) (held_types p fields)
 
-structs_types : (p : Program) (structs : List StructTree) → Each (λ s. struct_mistakes p s ≡ []) structs
+structs_types : (p : ProgramText) (structs : List StructTree) → Each (λ s. struct_mistakes p s ≡ []) structs
     → Each (AreFields (resolved_contracts p.text (contracts_of p.items))) (map (λ s. fields_held p s.fields) structs)
 structs_types p [] none = tt
 structs_types p (s ∷ structs) none =
@@ -102,11 +102,11 @@ structs_types p (s ∷ structs) none =
     let few = is.few in
     (record { few = omega (arith, few, held_few p s.fields); types_are = held_types p s.fields }, structs_types p structs none.1)
 
-pub fields_types : (p : Program) → program_mistakes p ≡ [] → Each (AreFields (resolved_contracts p.text (contracts_of p.items))) (structs_told p)
+pub fields_types : (p : ProgramText) → program_mistakes p ≡ [] → Each (AreFields (resolved_contracts p.text (contracts_of p.items))) (structs_told p)
 fields_types p clean = structs_types p (structs_of p.items) (structs_none p p.items (items_clean p clean))
 
 -- the types of the fields of a struct are known
-pub fields_clean : (p : Program) (n : ℕ) (s : StructTree) → program_mistakes p ≡ [] → item_at as_struct p n ≡ Some (n, s)
+pub fields_clean : (p : ProgramText) (n : ℕ) (s : StructTree) → program_mistakes p ≡ [] → item_at as_struct p n ≡ Some (n, s)
     → Each (λ f. type_unknown p f.ty ≡ []) s.fields
 fields_clean p n s clean there =
     let is = struct_is p s (item_clean p n (trees.Struct s) clean (struct_item p n s there)) in
@@ -125,7 +125,7 @@ struct_there (j ∷ items) (suc n) i s there is =
     ap (slice_get (own ++ structs_of items)) on ∙ slice_behind own (structs_of items) (structs_before items n) ∙ struct_there items n i s there is
 
 -- what a struct has in its fields that own, by its number
-pub types_of_struct : (p : Program) (n : ℕ) (s : StructTree) → item_at as_struct p n ≡ Some (n, s)
+pub types_of_struct : (p : ProgramText) (n : ℕ) (s : StructTree) → item_at as_struct p n ≡ Some (n, s)
     → field_types (structs_told p) (struct_of (structs_before p.items n)) ≡ fields_held p s.fields
 types_of_struct p n s there =
     let d : Declares (slice_get p.items n) (trees.Struct s) = struct_item p n s there in
@@ -140,7 +140,7 @@ as_param f = record { ty = f.ty; name = f.name }
 abbrev pub as_params : StructTree → List MessageParameter
 as_params s = map as_param (owning_fields s)
 
-pub params_are : (p : Program) (fields : List Field) → params_held p (map as_param (filter (λ f. is_heap f.ty) fields)) ≡ fields_held p fields
+pub params_are : (p : ProgramText) (fields : List Field) → params_held p (map as_param (filter (λ f. is_heap f.ty) fields)) ≡ fields_held p fields
 params_are p [] = refl
 params_are p (f ∷ fields) = by f.access f.ty f.name (params_are p fields)
   where
@@ -149,11 +149,11 @@ params_are p (f ∷ fields) = by f.access f.ty f.name (params_are p fields)
     by a (type.Scalar s) n more = more
     by a (type.Heap h) n more = ap (λ (ks : List held.HeapType.HeapType). held_listed (type_held p (type.Heap h)) ++ ks) more
 
-pub asked_are : (p : Program) (fields : List Field) → map (λ x. type_meant p x.ty) (map as_param fields) ≡ map (λ f. type_meant p f.ty) fields
+pub asked_are : (p : ProgramText) (fields : List Field) → map (λ x. type_meant p x.ty) (map as_param fields) ≡ map (λ f. type_meant p f.ty) fields
 asked_are p [] = refl
 asked_are p (f ∷ fields) = ap (λ (ks : List names.ValueType.ValueType). type_meant p f.ty ∷ ks) (asked_are p fields)
 
-pub params_known : (p : Program) (fields : List Field) → Each (λ f. type_unknown p f.ty ≡ []) fields
+pub params_known : (p : ProgramText) (fields : List Field) → Each (λ f. type_unknown p f.ty ≡ []) fields
     → Each (λ x. type_unknown p x.ty ≡ []) (map as_param (filter (λ f. is_heap f.ty) fields))
 params_known p [] known = tt
 params_known p (f ∷ fields) known = by f.access f.ty f.name known.0 (params_known p fields known.1)
@@ -164,7 +164,7 @@ params_known p (f ∷ fields) known = by f.access f.ty f.name known.0 (params_kn
     by a (type.Heap h) n known more = (known, more)
 
 -- What stands in a field of this place is told at the number of those before it that own.
-pub field_at : (p : Program) (fields : List Field) (k : ℕ) (f : Field) (h : held.HeapType.HeapType) → slice_get fields k ≡ Some f
+pub field_at : (p : ProgramText) (fields : List Field) (k : ℕ) (f : Field) (h : held.HeapType.HeapType) → slice_get fields k ≡ Some f
     → type_held p f.ty ≡ Some h → slice_get (fields_held p fields) (length (fields_held p (take k fields))) ≡ Some h
 field_at p [] k f h there is = cc
 field_at p (g ∷ fields) zero f h there is =

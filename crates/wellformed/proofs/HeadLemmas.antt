@@ -14,7 +14,7 @@ use Rattle.names.specs.Cases.{Head, closed_mistakes, endpoint_head_mistakes, hea
 use Rattle.declarations.specs.Declarations.{bound_params}
 use Rattle.names.specs.Expressions.{held, meant, variable_mistakes}
 use Rattle.declarations.specs.Types.{is_block, type_unknown, unless}
-use Rattle.declarations.specs.Program.{Program, as_contract, item_at}
+use Rattle.declarations.specs.Program.{ProgramText, as_contract, item_at}
 use Rattle.program.specs.Parts.{ContractModel}
 use Rattle.declarations.specs.Named.{message_written}
 use Rattle.names.specs.Values.{number_of_arguments, receives}
@@ -27,7 +27,7 @@ use Rattle.program.specs.declared.statement.Awaited.TheVariants.{Message, Closed
 use Rattle.program.specs.declared.number.VarId.{VarId}
 use Rattle.resolving.specs.Brought.{brought, params_held}
 use Rattle.resolving.specs.Types.{contract_at}
-use Rattle.resolving.specs.Locals.{Frame, mention_of}
+use Rattle.resolving.specs.Locals.{LocalFrame, mention_of}
 use Rattle.resolving.specs.Messages.{contract_of, message_named}
 use Rattle.resolving.specs.Told.{awaited_as, awaited_message, awaited_params, case_endpoint}
 use Rattle.program.specs.Lists.{Each}
@@ -42,7 +42,7 @@ use Rattle.wellformed.proofs.ProgramLemmas.{message_clean}
 use Rattle.wellformed.proofs.Standing.{Around, AreStanding, IsHeld, IsKnown, scope_of}
 
 -- the endpoint and what is awaited there mean something, and a name is bound for each parameter of the message
-pub record HeadFits (p : Program) (s : Setting) (f : Frame) (g : names.Frame) (h : Head) : Type 0 where
+pub record HeadFits (p : ProgramText) (s : Setting) (f : LocalFrame) (g : names.NameFrame) (h : Head) : Type 0 where
   pub end : IsEnd s (IsAwaited s (awaited_as h.awaited (awaited_message p f h.endpoint h.awaited))) (case_endpoint p f h.endpoint)
   pub params : awaited_params (awaited_message p f h.endpoint h.awaited) ≡ params_of_case (scope_of p g) h
   pub known : Each (λ x. type_unknown p x.ty ≡ []) (awaited_params (awaited_message p f h.endpoint h.awaited))
@@ -50,7 +50,7 @@ pub record HeadFits (p : Program) (s : Setting) (f : Frame) (g : names.Frame) (h
   pub brings : (bound : List VarId) → HoldAll s (params_held p (awaited_params (awaited_message p f h.endpoint h.awaited))) bound → IsBrought s (awaited_as h.awaited (awaited_message p f h.endpoint h.awaited)) bound
 
 -- the endpoint of a case is one of a contract that is there
-end_fits : (p : Program) (t : ClassTree) (class : ℕ) (result : Option type_nodes.Type.Type) (s : Setting) (f : Frame) (g : names.Frame) (name : Span) (n : ℕ) (side : Side) (P : ContractModel → Type 0)
+end_fits : (p : ProgramText) (t : ClassTree) (class : ℕ) (result : Option type_nodes.Type.Type) (s : Setting) (f : LocalFrame) (g : names.NameFrame) (name : Span) (n : ℕ) (side : Side) (P : ContractModel → Type 0)
     → Around p t class result s → AreStanding p s.variables f g → variable_mistakes (scope_of p g) name ≡ [] → held (meant (scope_of p g) name) ≡ ty.Endpoint side n
     → ((r : ContractModel) → contract_at p n ≡ Some r → P r) → IsEnd s P (case_endpoint p f name)
 end_fits p t class result s f g name n side P around standing none is each =
@@ -60,7 +60,7 @@ end_fits p t class result s f g name n side P around standing none is each =
     subst (IsEnd s P) (sym endpoint) (is_end p s n side c.tree P (mention_of name m.number) m.variable around.contracts_are c.is m.there (subst (λ k. IsHeld p k m.variable.ty) is m.holds) each)
 
 -- what its case awaits is looked up in that contract
-message_looked : (p : Program) (vs : List VariableModel) (f : Frame) (g : names.Frame) (name : Span) (n : ℕ) (side : Side) (word : Span) → AreStanding p vs f g
+message_looked : (p : ProgramText) (vs : List VariableModel) (f : LocalFrame) (g : names.NameFrame) (name : Span) (n : ℕ) (side : Side) (word : Span) → AreStanding p vs f g
     → variable_mistakes (scope_of p g) name ≡ [] → held (meant (scope_of p g) name) ≡ ty.Endpoint side n → awaited_message p f name (waits.Message word) ≡ message_named p n word
 message_looked p vs f g name n side word standing none is =
     let m = meant_stands p vs f g name standing none in
@@ -68,7 +68,7 @@ message_looked p vs f g name n side word standing none is =
     ap (λ o. option_and_then (λ k. message_named p k word) (option_and_then (λ v. contract_of v.ty) o)) m.is ∙ ap (λ k. option_and_then (λ c. message_named p c word) (contract_of k)) same
 
 -- what it brings stands at its number
-message_brings : (p : Program) (s : Setting) (f : Frame) (name word : Span) (n : ℕ) (m : MessageTree) (a : AnswersMessage p n (message_named p n word) m) → slice_get s.messages a.meant.id.0 ≡ Some (brought p m)
+message_brings : (p : ProgramText) (s : Setting) (f : LocalFrame) (name word : Span) (n : ℕ) (m : MessageTree) (a : AnswersMessage p n (message_named p n word) m) → slice_get s.messages a.meant.id.0 ≡ Some (brought p m)
     → awaited_params (awaited_message p f name (waits.Message word)) ≡ m.params → awaited_message p f name (waits.Message word) ≡ Some a.meant
     → (bound : List VarId) → HoldAll s (params_held p (awaited_params (awaited_message p f name (waits.Message word)))) bound
     → IsBrought s (awaited_as (waits.Message word) (awaited_message p f name (waits.Message word))) bound
@@ -82,7 +82,7 @@ close_brings s [] holds = refl
 close_brings s (v ∷ bound) holds = absurd holds
 
 -- a case on a message of that contract
-message_fits : (p : Program) (t : ClassTree) (class : ℕ) (result : Option type_nodes.Type.Type) (s : Setting) (f : Frame) (g : names.Frame) (name : Span) (word : Span) (binds : List made.Bind.Bind) (n : ℕ) (side : Side)
+message_fits : (p : ProgramText) (t : ClassTree) (class : ℕ) (result : Option type_nodes.Type.Type) (s : Setting) (f : LocalFrame) (g : names.NameFrame) (name : Span) (word : Span) (binds : List made.Bind.Bind) (n : ℕ) (side : Side)
     (c : ContractTree) (o : Option MessageTree)
     → Around p t class result s → AreStanding p s.variables f g → variable_mistakes (scope_of p g) name ≡ [] → held (meant (scope_of p g) name) ≡ ty.Endpoint side n
     → item_at as_contract p n ≡ Some (n, c) → message_written p.text c (word_at p.text word) ≡ o → message_case_mistakes (scope_of p g) (ty.Endpoint side n) o side word binds ≡ []
@@ -108,7 +108,7 @@ message_fits p t class result s f g name word binds n side c (Some m) around sta
     }
 
 -- a head by the type of its endpoint
-head_by : (p : Program) (t : ClassTree) (class : ℕ) (result : Option type_nodes.Type.Type) (s : Setting) (f : Frame) (g : names.Frame) (all before : List Head) (name : Span) (awaited : made.Awaited.Awaited)
+head_by : (p : ProgramText) (t : ClassTree) (class : ℕ) (result : Option type_nodes.Type.Type) (s : Setting) (f : LocalFrame) (g : names.NameFrame) (all before : List Head) (name : Span) (awaited : made.Awaited.Awaited)
     (binds : List made.Bind.Bind) (k : declared.ValueType.ValueType)
     → Around p t class result s → AreStanding p s.variables f g → variable_mistakes (scope_of p g) name ≡ [] → held (meant (scope_of p g) name) ≡ k → IsKnown p k
     → type_head_mistakes (scope_of p g) all before k (record { endpoint = name; awaited = awaited; binds = binds }) ≡ [] → HeadFits p s f g (record { endpoint = name; awaited = awaited; binds = binds })
@@ -141,7 +141,7 @@ head_by p t class result s f g all before name (waits.Message word) binds (ty.Ar
 head_by p t class result s f g all before name awaited binds ty.Missing around standing none is known found = absurd known
 head_by p t class result s f g all before name awaited binds ty.Unknown around standing none is known found = absurd known
 
-pub head_fits : (p : Program) (t : ClassTree) (class : ℕ) (result : Option type_nodes.Type.Type) (s : Setting) (f : Frame) (g : names.Frame) (all before : List Head) (h : Head)
+pub head_fits : (p : ProgramText) (t : ClassTree) (class : ℕ) (result : Option type_nodes.Type.Type) (s : Setting) (f : LocalFrame) (g : names.NameFrame) (all before : List Head) (h : Head)
     → Around p t class result s → AreStanding p s.variables f g → head_mistakes (scope_of p g) all before h ≡ [] → HeadFits p s f g h
 head_fits p t class result s f g all before h around standing none =
     let both = both_none (variable_mistakes (scope_of p g) h.endpoint) (type_head_mistakes (scope_of p g) all before (held (meant (scope_of p g) h.endpoint)) h) none in

@@ -11,7 +11,7 @@ use Rattle.names.specs.Bodies.{Surroundings, block_turn}
 use Rattle.names.specs.Findings.{program_mistakes}
 use Rattle.declarations.specs.Types.{is_heap, type_meant, type_unknown}
 use Rattle.names.specs.Methods.{parameter_turn, parameters_turn, result_unknown}
-use Rattle.declarations.specs.Program.{Program, as_class, item_at}
+use Rattle.declarations.specs.Program.{ProgramText, as_class, item_at}
 use Rattle.program.specs.Parts.{ContractModel}
 use Rattle.declarations.specs.Resolution.{resolved_contracts}
 use Rattle.names.specs.Variables as names
@@ -22,7 +22,7 @@ use Rattle.program.specs.declared.method.Role.{Role}
 use Rattle.resolving.specs.Brought.{messages_told}
 use Rattle.resolving.specs.Fields.{structs_told}
 use Rattle.resolving.specs.Types.{heap_type, result_held, state_in, type_held}
-use Rattle.resolving.specs.Locals.{Frame, declared, declared_as, number_of}
+use Rattle.resolving.specs.Locals.{LocalFrame, declared, declared_as, number_of}
 use Rattle.resolving.specs.Methods.{body_told, method_told, methods_told, no_variables, parameter_declaration, parameters_frame, role_of, takes_some}
 use Rattle.resolving.specs.Told.{stays_here}
 use Rattle.program.specs.Lists.{Each}
@@ -44,15 +44,15 @@ use Rattle.wellformed.proofs.Standing.{Around, AreStanding, AreStaying, Grows, I
 use Rattle.wellformed.proofs.StatementLemmas.{statements_go}
 
 -- the parameters of a method come into scope
-params_within : (p : Program) (params : List Parameter) (f : Frame) (vs : List VariableModel) → Within vs (parameters_frame p params f) → Within vs f
+params_within : (p : ProgramText) (params : List Parameter) (f : LocalFrame) (vs : List VariableModel) → Within vs (parameters_frame p params f) → Within vs f
 params_within p [] f vs within = within
 params_within p (x ∷ params) f vs within = declared_within p.text x.name (type_meant p x.ty) (type_held p x.ty) (role_of x) f vs (params_within p params (declared p.text (parameter_declaration p x) f) vs within)
 
-params_nest : (p : Program) (params : List Parameter) (f : Frame) → Nests f → Nests (parameters_frame p params f)
+params_nest : (p : ProgramText) (params : List Parameter) (f : LocalFrame) → Nests f → Nests (parameters_frame p params f)
 params_nest p [] f n = n
 params_nest p (x ∷ params) f n = params_nest p params (declared p.text (parameter_declaration p x) f) (declared_nests p.text x.name (type_meant p x.ty) (type_held p x.ty) (role_of x) f n)
 
-params_stand : (p : Program) (params : List Parameter) (vs : List VariableModel) (f : Frame) (g : names.Frame) → AreStanding p vs f g → Within vs (parameters_frame p params f)
+params_stand : (p : ProgramText) (params : List Parameter) (vs : List VariableModel) (f : LocalFrame) (g : names.NameFrame) → AreStanding p vs f g → Within vs (parameters_frame p params f)
     → (parameters_turn p params g).found ≡ [] → AreStanding p vs (parameters_frame p params f) (parameters_turn p params g).frame
 params_stand p [] vs f g standing within none = standing
 params_stand p (x ∷ params) vs f g standing within none =
@@ -65,29 +65,29 @@ params_stand p (x ∷ params) vs f g standing within none =
     params_stand p params vs (declared p.text d f) next.frame after within both.1
 
 -- what a program's variables hold stands for something
-abbrev contracts : Program → List ContractModel
+abbrev contracts : ProgramText → List ContractModel
 contracts p = resolved_contracts p.text (contracts_of p.items)
 
-abbrev AreTypes : Program → List VariableModel → Type 0
+abbrev AreTypes : ProgramText → List VariableModel → Type 0
 AreTypes p vs = Each (λ v. IsType (contracts p) v.ty) vs
 
-declared_type : (p : Program) (name : Span) (k : declared_types.ValueType.ValueType) (role : Role) (state : Option Span) (o : Option HeapType) (f : Frame) → heap_type p k state ≡ o → AreTypes p f.variables
+declared_type : (p : ProgramText) (name : Span) (k : declared_types.ValueType.ValueType) (role : Role) (state : Option Span) (o : Option HeapType) (f : LocalFrame) → heap_type p k state ≡ o → AreTypes p f.variables
     → AreTypes p (declared_as p.text (record { name = name; ty = k; held = o; role = role }) o f).variables
 declared_type p name k role state None f is all = all
 declared_type p name k role state (Some held) f is all = each_append (λ v. IsType (contracts p) v.ty) f.variables _ all (held_type p k held (record { state = state; is = is }), tt)
 
-params_types : (p : Program) (params : List Parameter) (f : Frame) → AreTypes p f.variables → AreTypes p (parameters_frame p params f).variables
+params_types : (p : ProgramText) (params : List Parameter) (f : LocalFrame) → AreTypes p f.variables → AreTypes p (parameters_frame p params f).variables
 params_types p [] f all = all
 params_types p (x ∷ params) f all =
     let d = parameter_declaration p x in
     params_types p params (declared p.text d f) (declared_type p x.name (type_meant p x.ty) (role_of x) (state_in x.ty) (type_held p x.ty) f refl all)
 
-local_types : (p : Program) (vs : List VariableModel) → Each (IsLocal p) vs → AreTypes p vs
+local_types : (p : ProgramText) (vs : List VariableModel) → Each (IsLocal p) vs → AreTypes p vs
 local_types p [] all = tt
 local_types p (v ∷ vs) all = (held_type p all.0.ty v.ty all.0.held, local_types p vs all.1)
 
 -- the body of a method
-record BodyFits (s : Setting) (p : Program) (class : ℕ) (b : BlockTree) (f : Frame) : Type 0 where
+record BodyFits (s : Setting) (p : ProgramText) (class : ℕ) (b : BlockTree) (f : LocalFrame) : Type 0 where
   pub statements : AreStatements s (body_told p class b f).what (last_of (body_told p class b f).frame)
   pub few : length (body_told p class b f).frame.variables ≤ MOST_VARIABLES
 
@@ -95,27 +95,27 @@ number_within : (n : ℕ) (o : Option ℕ) → IfSome o (λ k. k < n) → IfSome
 number_within n None h = tt
 number_within n (Some k) h = h
 
-body_grows : (p : Program) (class : ℕ) (b : BlockTree) (f : Frame) → Grows p f (body_told p class b f).frame
+body_grows : (p : ProgramText) (class : ℕ) (b : BlockTree) (f : LocalFrame) → Grows p f (body_told p class b f).frame
 body_grows p class (trees.Braces statements close) f = statements_grow p class (stays_here f) statements f
 
-body_nests : (p : Program) (class : ℕ) (b : BlockTree) (f : Frame) → Nests f → Nests (body_told p class b f).frame
+body_nests : (p : ProgramText) (class : ℕ) (b : BlockTree) (f : LocalFrame) → Nests f → Nests (body_told p class b f).frame
 body_nests p class (trees.Braces statements close) f n = statements_nest p class (stays_here f) statements f n
 
 -- what stands round it
-abbrev surrounds : Program → ClassTree → Option tree.Type.Type → Surroundings
+abbrev surrounds : ProgramText → ClassTree → Option tree.Type.Type → Surroundings
 surrounds p c result = record { program = p; class = c; result = result; breaks = false; continues = false }
 
-body_fits : (p : Program) (c : ClassTree) (class : ℕ) (result : Option tree.Type.Type) (s : Setting) (b : BlockTree) (f : Frame) (g : names.Frame) → Around p c class result s → AreStaying s f (stays_here f)
+body_fits : (p : ProgramText) (c : ClassTree) (class : ℕ) (result : Option tree.Type.Type) (s : Setting) (b : BlockTree) (f : LocalFrame) (g : names.NameFrame) → Around p c class result s → AreStaying s f (stays_here f)
     → AreStanding p s.variables f g → Within s.variables (body_told p class b f).frame → (block_turn (surrounds p c result) b g).found ≡ [] → BodyFits s p class b f
 body_fits p c class result s (trees.Braces statements close) f g around staying standing within none =
     let r = statements_go (surrounds p c result) class s around (stays_here f) statements f g standing staying within none in
     record { statements = r.fits; few = r.standing.few }
 
 -- the parameters of a method are in scope behind them
-abbrev AllInScope : List VariableModel → Frame → Type 0
+abbrev AllInScope : List VariableModel → LocalFrame → Type 0
 AllInScope vs f = (n : ℕ) → n < length f.variables → IsInScope vs (last_of f) (number_of n)
 
-newest_or : (p : Program) (vs : List VariableModel) (name : Span) (ty : declared_types.ValueType.ValueType) (held : HeapType) (role : Role) (f : Frame) → Within vs (declares p.text name ty (Some held) role f)
+newest_or : (p : ProgramText) (vs : List VariableModel) (name : Span) (ty : declared_types.ValueType.ValueType) (held : HeapType) (role : Role) (f : LocalFrame) → Within vs (declares p.text name ty (Some held) role f)
     → AllInScope vs f → (n : ℕ) (b : Bool) → (n == length f.variables) ≡ b → n < length (declares p.text name ty (Some held) role f).variables
     → IsInScope vs (last_of (declares p.text name ty (Some held) role f)) (number_of n)
 newest_or p vs name ty held role f within all n true newest below =
@@ -126,12 +126,12 @@ newest_or p vs name ty held role f within all n false older below =
     let before : n < length f.variables = omega (arith, length-append {A = VariableModel}) in
     leads_then vs (last_of (declares p.text name ty (Some held) role f)) (last_of f) (Some (number_of n)) (declared_inner p vs name ty (Some held) role f within) (all n before)
 
-declared_in_scope : (p : Program) (vs : List VariableModel) (name : Span) (ty : declared_types.ValueType.ValueType) (held : Option HeapType) (role : Role) (f : Frame) → Within vs (declares p.text name ty held role f)
+declared_in_scope : (p : ProgramText) (vs : List VariableModel) (name : Span) (ty : declared_types.ValueType.ValueType) (held : Option HeapType) (role : Role) (f : LocalFrame) → Within vs (declares p.text name ty held role f)
     → AllInScope vs f → AllInScope vs (declares p.text name ty held role f)
 declared_in_scope p vs name ty None role f within all = all
 declared_in_scope p vs name ty (Some held) role f within all = λ n below. newest_or p vs name ty held role f within all n (n == length f.variables) refl below
 
-params_in_scope : (p : Program) (params : List Parameter) (vs : List VariableModel) (f : Frame) → Within vs (parameters_frame p params f) → AllInScope vs f → AllInScope vs (parameters_frame p params f)
+params_in_scope : (p : ProgramText) (params : List Parameter) (vs : List VariableModel) (f : LocalFrame) → Within vs (parameters_frame p params f) → AllInScope vs f → AllInScope vs (parameters_frame p params f)
 params_in_scope p [] vs f within all = all
 params_in_scope p (x ∷ params) vs f within all =
     let d = parameter_declaration p x in
@@ -139,18 +139,18 @@ params_in_scope p (x ∷ params) vs f within all =
     params_in_scope p params vs (declared p.text d f) within next
 
 -- what stands behind the parameters of a method is none
-no_parameter : (p : Program) (more : List VariableModel) (n : ℕ) (v : VariableModel) → Each (IsLocal p) more → slice_get more n ≡ Some v → is_parameter v.role ≡ true → ⊥
+no_parameter : (p : ProgramText) (more : List VariableModel) (n : ℕ) (v : VariableModel) → Each (IsLocal p) more → slice_get more n ≡ Some v → is_parameter v.role ≡ true → ⊥
 no_parameter p [] n v local at param = cc
 no_parameter p (x ∷ more) zero v local at param = let same : x ≡ v = cc in let is : v.role ≡ role.Local = ap (λ y. y.role) (sym same) ∙ local.0.is in let none = ap is_parameter is in cc
 no_parameter p (x ∷ more) (suc n) v local at param = no_parameter p more n v local.1 at param
 
-parameter_before : (p : Program) (first more : List VariableModel) (n : ℕ) (v : VariableModel) → Each (IsLocal p) more → slice_get (first ++ more) n ≡ Some v → is_parameter v.role ≡ true → n < length first
+parameter_before : (p : ProgramText) (first more : List VariableModel) (n : ℕ) (v : VariableModel) → Each (IsLocal p) more → slice_get (first ++ more) n ≡ Some v → is_parameter v.role ≡ true → n < length first
 parameter_before p [] more n v local at param = absurd (no_parameter p more n v local at param)
 parameter_before p (x ∷ first) more zero v local at param = omega arith
 parameter_before p (x ∷ first) more (suc n) v local at param = let before = parameter_before p first more n v local at param in omega arith
 
 -- a method without parameters has none of the exchange heap
-no_parameters : (p : Program) (class : ℕ) (params : List Parameter) (b : BlockTree) (n : ℕ) (v : VariableModel) (is : Bool) → takes_some params ≡ false
+no_parameters : (p : ProgramText) (class : ℕ) (params : List Parameter) (b : BlockTree) (n : ℕ) (v : VariableModel) (is : Bool) → takes_some params ≡ false
     → slice_get (body_told p class b (parameters_frame p params no_variables)).frame.variables n ≡ Some v → is_parameter v.role ≡ is → is ≡ false
 no_parameters p class params b n v false none there is = refl
 no_parameters p class (x ∷ params) b n v true none there is = cc
@@ -159,16 +159,16 @@ no_parameters p class [] b n v true none there is =
     let before = parameter_before p [] grows.more n v grows.local (subst (λ l. slice_get l n ≡ Some v) grows.is there) is in
     absurd (omega (arith, before))
 
-pub all_bare : (p : Program) → Each IsBare (methods_told p)
+pub all_bare : (p : ProgramText) → Each IsBare (methods_told p)
 all_bare p = every_method IsBare p (λ class c m place there at. λ none n v is. no_parameters p class m.params m.body n v (is_parameter v.role) none is refl)
 
-result_type : (p : Program) (t : Option tree.Type.Type) (o : Option HeapType) → result_held p t ≡ o → IfSome o (IsType (contracts p))
+result_type : (p : ProgramText) (t : Option tree.Type.Type) (o : Option HeapType) → result_held p t ≡ o → IfSome o (IsType (contracts p))
 result_type p t None is = tt
 result_type p None (Some held) is = cc
 result_type p (Some t) (Some held) is = held_type p (type_meant p t) held (record { state = state_in t; is = is })
 
 -- a method of a class
-method_fits : (p : Program) (class : ℕ) (c : ClassTree) (m : MethodTree) (place : ℕ) → program_mistakes p ≡ [] → item_at as_class p class ≡ Some (class, c) → slice_get c.methods place ≡ Some m
+method_fits : (p : ProgramText) (class : ℕ) (c : ClassTree) (m : MethodTree) (place : ℕ) → program_mistakes p ≡ [] → item_at as_class p class ≡ Some (class, c) → slice_get c.methods place ≡ Some m
     → IsWellFormed (contracts p) (messages_told p) (structs_told p) (methods_told p) (method_told p class m)
 method_fits p class c m place clean there at =
     let seen = method_told p class m in
@@ -177,7 +177,7 @@ method_fits p class c m place clean there at =
     let begins = last_of opened in
     let s = setting (contracts p) (messages_told p) (structs_told p) (methods_told p) seen begins in
     let after = (body_told p class m.body opened).frame in
-    let start : names.Frame = record { variables = []; heap = 0 } in
+    let start : names.NameFrame = record { variables = []; heap = 0 } in
     let turns = method_clean p class c m place clean there at in
     let next = parameters_turn p m.params start in
     let both = both_none (result_unknown p m.result) (next.found ++ (block_turn (surrounds p c m.result) m.body next.frame).found) turns in
@@ -207,7 +207,7 @@ method_fits p class c m place clean there at =
       statements = fits.statements;
     }
 
-pub well_formed : (p : Program) → program_mistakes p ≡ [] → AreWellFormed (resolved_contracts p.text (contracts_of p.items)) (messages_told p) (structs_told p) (methods_told p)
+pub well_formed : (p : ProgramText) → program_mistakes p ≡ [] → AreWellFormed (resolved_contracts p.text (contracts_of p.items)) (messages_told p) (structs_told p) (methods_told p)
 well_formed p clean = record {
   messages_are = brought_types p;
   structs_are = fields_types p clean;

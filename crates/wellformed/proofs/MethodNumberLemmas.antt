@@ -8,10 +8,10 @@ use Rattle.source.specs.declared.token.Span.{Span}
 use Rattle.tree.specs.Trees.{ItemTree, DefinitionTree, Contract, Struct, Class, ClassTree, ContractTree, MethodTree, StructTree}
 use Rattle.declarations.specs.Declarations.{first_among}
 use Rattle.declarations.specs.ItemMistakes.{methods_in}
-use Rattle.declarations.specs.Program.{Program, Numbered, as_class, as_contract, as_struct, class_named, item_at, item_names}
+use Rattle.declarations.specs.Program.{ProgramText, Numbered, as_class, as_contract, as_struct, class_named, item_at, item_names}
 use Rattle.declarations.specs.Named.{method_named}
 use Rattle.program.specs.Methods.{MethodModel}
-use Rattle.resolving.specs.Callees.{Callee, all_methods, method_at, method_of, methods_before, numbered}
+use Rattle.resolving.specs.Callees.{NumberedMethod, all_methods, method_at, method_of, methods_before, numbered}
 use Rattle.resolving.specs.Methods.{item_told, methods_told, method_told}
 use Rattle.program.specs.Lists.{Each}
 use Rattle.wellformed.proofs.ListLemmas.{each_append}
@@ -69,26 +69,26 @@ struct_in n s None h = cc
 struct_in n s (Some i) h = record { item = i; at = refl; is = declares_struct n s i.definition h }
 
 -- the item that is this class, this contract, this struct
-pub class_item : (p : Program) (n : ℕ) (c : ClassTree) → item_at as_class p n ≡ Some (n, c) → Declares (slice_get p.items n) (Class c)
+pub class_item : (p : ProgramText) (n : ℕ) (c : ClassTree) → item_at as_class p n ≡ Some (n, c) → Declares (slice_get p.items n) (Class c)
 class_item p n c there = class_in n c (slice_get p.items n) there
 
-pub contract_item : (p : Program) (n : ℕ) (c : ContractTree) → item_at as_contract p n ≡ Some (n, c) → Declares (slice_get p.items n) (Contract c)
+pub contract_item : (p : ProgramText) (n : ℕ) (c : ContractTree) → item_at as_contract p n ≡ Some (n, c) → Declares (slice_get p.items n) (Contract c)
 contract_item p n c there = contract_in n c (slice_get p.items n) there
 
-pub struct_item : (p : Program) (n : ℕ) (s : StructTree) → item_at as_struct p n ≡ Some (n, s) → Declares (slice_get p.items n) (Struct s)
+pub struct_item : (p : ProgramText) (n : ℕ) (s : StructTree) → item_at as_struct p n ≡ Some (n, s) → Declares (slice_get p.items n) (Struct s)
 struct_item p n s there = struct_in n s (slice_get p.items n) there
 
 -- the class of a name, by its place
-class_at : (p : Program) (n : ℕ) (c : ClassTree) (o : Option ℕ) → option_and_then (item_at as_class p) o ≡ Some (n, c) → item_at as_class p n ≡ Some (n, c)
+class_at : (p : ProgramText) (n : ℕ) (c : ClassTree) (o : Option ℕ) → option_and_then (item_at as_class p) o ≡ Some (n, c) → item_at as_class p n ≡ Some (n, c)
 class_at p n c None h = cc
 class_at p n c (Some k) h = subst (λ x. item_at as_class p x ≡ Some (n, c)) (same_place as_class k n c (slice_get p.items k) h) h
 
 -- the methods of items that stand behind others
-abbrev told_from : Program → ℕ → List ItemTree → List MethodModel
+abbrev told_from : ProgramText → ℕ → List ItemTree → List MethodModel
 told_from p n items = flat_map (item_told p) (enumerate_from n items)
 
 -- a method of an item, among those of all items
-told_at : (p : Program) (n : ℕ) (items : List ItemTree) (class place : ℕ) (i : ItemTree) (m : MethodTree) → slice_get items class ≡ Some i → slice_get (methods_in i.definition) place ≡ Some m
+told_at : (p : ProgramText) (n : ℕ) (items : List ItemTree) (class place : ℕ) (i : ItemTree) (m : MethodTree) → slice_get items class ≡ Some i → slice_get (methods_in i.definition) place ≡ Some m
     → slice_get (told_from p n items) (methods_before items class + place) ≡ Some (method_told p (n + class) m)
 told_at p n [] class place i m there at = cc
 told_at p n (x ∷ items) zero place i m there at =
@@ -111,7 +111,7 @@ told_at p n (x ∷ items) (suc class) place i m there at =
     ap (slice_get (seen ++ behind)) many ∙ slice_behind seen behind (methods_before items class + place) ∙ told_at p (n + 1) items class place i m there at ∙ ap (λ k. Some (method_told p k m)) on
 
 -- a method of a class, by its number
-method_is : (p : Program) (class place : ℕ) (c : ClassTree) (m : MethodTree) → item_at as_class p class ≡ Some (class, c) → slice_get c.methods place ≡ Some m
+method_is : (p : ProgramText) (class place : ℕ) (c : ClassTree) (m : MethodTree) → item_at as_class p class ≡ Some (class, c) → slice_get c.methods place ≡ Some m
     → IsMethod p m (methods_before p.items class + place)
 method_is p class place c m there at =
     let d = class_item p class c there in
@@ -126,7 +126,7 @@ method_is p class place c m there at =
       told = told_at p 0 p.items class place d.item m d.at within ∙ ap (λ k. Some (method_told p k m)) on;
     }
 
-answers_at : (p : Program) (class : ℕ) (c : ClassTree) (m : MethodTree) (o : Option ℕ) → item_at as_class p class ≡ Some (class, c) → option_and_then (slice_get c.methods) o ≡ Some m
+answers_at : (p : ProgramText) (class : ℕ) (c : ClassTree) (m : MethodTree) (o : Option ℕ) → item_at as_class p class ≡ Some (class, c) → option_and_then (slice_get c.methods) o ≡ Some m
     → Answers p (option_and_then (numbered (methods_before p.items class) c.methods) o) m
 answers_at p class c m None there named = cc
 answers_at p class c m (Some place) there named =
@@ -134,27 +134,27 @@ answers_at p class c m (Some place) there named =
     record { number = before + place; is = ap (option_map (λ x. record { number = before + place; method = x })) named; method = method_is p class place c m there named }
 
 -- the first method of this name in a class
-abbrev place_in : Program → ClassTree → Span → Option ℕ
+abbrev place_in : ProgramText → ClassTree → Span → Option ℕ
 place_in p c name = first_among p.text (map (λ m. m.name) c.methods) name
 
-abbrev callee_in : Program → ℕ → Span → Option (Numbered ClassTree) → Option Callee
+abbrev callee_in : ProgramText → ℕ → Span → Option (Numbered ClassTree) → Option NumberedMethod
 callee_in p class name o = option_and_then (λ c. option_and_then (numbered (methods_before p.items class) c.1.methods) (place_in p c.1 name)) o
 
-pub method_answers : (p : Program) (class : ℕ) (c : ClassTree) (name : Span) (m : MethodTree) → item_at as_class p class ≡ Some (class, c)
+pub method_answers : (p : ProgramText) (class : ℕ) (c : ClassTree) (name : Span) (m : MethodTree) → item_at as_class p class ≡ Some (class, c)
     → method_named p.text c name ≡ Some m → Answers p (method_at p class name) m
 method_answers p class c name m there named =
     let a = answers_at p class c m (place_in p c name) there named in
     record { number = a.number; is = ap (callee_in p class name) there ∙ a.is; method = a.method }
 
 -- the same in the class of a name
-pub member_answers : (p : Program) (class name : Span) (n : ℕ) (c : ClassTree) (m : MethodTree) → class_named p class ≡ Some (n, c)
+pub member_answers : (p : ProgramText) (class name : Span) (n : ℕ) (c : ClassTree) (m : MethodTree) → class_named p class ≡ Some (n, c)
     → method_named p.text c name ≡ Some m → Answers p (method_of p class name) m
 member_answers p class name n c m named found =
     let a = method_answers p n c name m (class_at p n c (first_among p.text (item_names p) class) named) found in
     record { number = a.number; is = ap (option_and_then (λ x. method_at p x.0 name)) named ∙ a.is; method = a.method }
 
 -- what holds of the methods of each item holds of all methods
-each_told : (P : MethodModel → Type 0) (p : Program) (n : ℕ) (items : List ItemTree) → ((class : ℕ) (i : ItemTree) → slice_get items class ≡ Some i → Each P (item_told p (n + class, i)))
+each_told : (P : MethodModel → Type 0) (p : ProgramText) (n : ℕ) (items : List ItemTree) → ((class : ℕ) (i : ItemTree) → slice_get items class ≡ Some i → Each P (item_told p (n + class, i)))
     → Each P (told_from p n items)
 each_told P p n [] each = tt
 each_told P p n (x ∷ items) each =
@@ -164,7 +164,7 @@ each_told P p n (x ∷ items) each =
     (each_told P p (n + 1) items (λ class i at. let on : n + suc class ≡ n + 1 + class = omega arith in subst (λ k. Each P (item_told p (k, i))) on (each (suc class) i at)))
 
 -- the methods of an item
-item_methods : (P : MethodModel → Type 0) (p : Program) (class : ℕ) (i : ItemTree) (d : DefinitionTree)
+item_methods : (P : MethodModel → Type 0) (p : ProgramText) (class : ℕ) (i : ItemTree) (d : DefinitionTree)
     → ((c : ClassTree) (m : MethodTree) (place : ℕ) → item_at as_class p class ≡ Some (class, c) → slice_get c.methods place ≡ Some m → P (method_told p class m))
     → slice_get p.items class ≡ Some i → i.definition ≡ d → Each P (map (method_told p class) (methods_in d))
 item_methods P p class i (Contract c) each at is = tt
@@ -174,7 +174,7 @@ item_methods P p class i (Class c) each at is =
     each_mapped P (method_told p class) c.methods (each_placed (λ m. P (method_told p class m)) c.methods (λ place m. each c m place there))
 
 -- each method of a program is a method of a class
-pub every_method : (P : MethodModel → Type 0) (p : Program)
+pub every_method : (P : MethodModel → Type 0) (p : ProgramText)
     → ((class : ℕ) (c : ClassTree) (m : MethodTree) (place : ℕ) → item_at as_class p class ≡ Some (class, c) → slice_get c.methods place ≡ Some m → P (method_told p class m))
     → Each P (methods_told p)
 every_method P p each = each_told P p 0 p.items (λ class i at.

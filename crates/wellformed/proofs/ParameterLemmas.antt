@@ -12,14 +12,14 @@ use Rattle.tree.specs.declared.class.Parameter.{Parameter}
 use Rattle.tree.specs.declared.types as tree
 use Rattle.tree.specs.declared.types.Type.TheVariants as type
 use Rattle.declarations.specs.Types.{is_heap, type_unknown}
-use Rattle.declarations.specs.Program.{Program}
+use Rattle.declarations.specs.Program.{ProgramText}
 use Rattle.declarations.specs.Owning.{any_lent, is_lent}
 use Rattle.program.specs.Methods.{VariableModel}
 use Rattle.program.specs.declared.types.HeapType.{HeapType}
 use Rattle.program.specs.declared.method.Role.{Role}
 use Rattle.program.specs.declared.method.Role.TheVariants as role
 use Rattle.resolving.specs.Types.{type_held}
-use Rattle.resolving.specs.Locals.{Frame, declared, declared_as}
+use Rattle.resolving.specs.Locals.{LocalFrame, declared, declared_as}
 use Rattle.resolving.specs.Methods.{body_told, method_told, no_variables, parameter_declaration, parameters_frame, role_of}
 use Rattle.resolving.specs.Told.{stays_here}
 use Rattle.program.specs.Lists.{Each}
@@ -52,18 +52,18 @@ headed_one true v is = ap (λ r. map (λ w. (w.ty, w.role)) (cond (is_parameter 
 headed_one false v is = ap (λ r. map (λ w. (w.ty, w.role)) (cond (is_parameter r) (v ∷ []) [])) is ∙ ap (held_by v.ty) is
 
 -- those of variables that are no parameters
-headed_none : (p : Program) (vs : List VariableModel) → Each (IsLocal p) vs → headed vs ≡ []
+headed_none : (p : ProgramText) (vs : List VariableModel) → Each (IsLocal p) vs → headed vs ≡ []
 headed_none p [] all = refl
 headed_none p (v ∷ vs) all = ap (λ r. map (λ w. (w.ty, w.role)) (cond (is_parameter r) (v ∷ passed vs) (passed vs))) all.0.is ∙ headed_none p vs all.1
 
 -- one parameter more
-headed_declared : (p : Program) (x : Parameter) (f : Frame) (o : Option HeapType)
+headed_declared : (p : ProgramText) (x : Parameter) (f : LocalFrame) (o : Option HeapType)
     → headed (declared_as p.text (parameter_declaration p x) o f).variables ≡ headed f.variables ++ option_map_or (λ k. (k, role_of x) ∷ []) o []
 headed_declared p x f None = sym (append-nil (headed f.variables))
 headed_declared p x f (Some held) = headed_append f.variables _ ∙ ap (λ l. headed f.variables ++ l) (headed_one x.claims _ refl)
 
 -- all parameters
-headed_all : (p : Program) (params : List Parameter) (f : Frame) → headed (parameters_frame p params f).variables ≡ headed f.variables ++ flat_map (heading p) params
+headed_all : (p : ProgramText) (params : List Parameter) (f : LocalFrame) → headed (parameters_frame p params f).variables ≡ headed f.variables ++ flat_map (heading p) params
 headed_all p [] f = sym (append-nil (headed f.variables))
 headed_all p (x ∷ params) f =
     headed_all p params (declared p.text (parameter_declaration p x) f)
@@ -71,12 +71,12 @@ headed_all p (x ∷ params) f =
     ∙ append_assoc (headed f.variables) (heading p x) (flat_map (heading p) params)
 
 -- The body of a method declares none.
-headed_body : (p : Program) (class : ℕ) (b : BlockTree) (f : Frame) → headed (body_told p class b f).frame.variables ≡ headed f.variables
+headed_body : (p : ProgramText) (class : ℕ) (b : BlockTree) (f : LocalFrame) → headed (body_told p class b f).frame.variables ≡ headed f.variables
 headed_body p class (trees.Braces statements close) f =
     let grows = statements_grow p class (stays_here f) statements f in
     ap headed grows.is ∙ headed_append f.variables grows.more ∙ ap (λ l. headed f.variables ++ l) (headed_none p grows.more grows.local) ∙ append-nil (headed f.variables)
 
-pub parameters_are : (p : Program) (class : ℕ) (m : MethodTree) → map (λ v. (v.ty, v.role)) (parameters (method_told p class m)) ≡ flat_map (heading p) m.params
+pub parameters_are : (p : ProgramText) (class : ℕ) (m : MethodTree) → map (λ v. (v.ty, v.role)) (parameters (method_told p class m)) ≡ flat_map (heading p) m.params
 parameters_are p class m = headed_body p class m.body (parameters_frame p m.params no_variables) ∙ headed_all p m.params no_variables
 
 -- a parameter that is not lent is claimed
@@ -88,7 +88,7 @@ claimed_held false o none = cc
 claimed_held true None none = tt
 claimed_held true (Some k) none = (refl, tt)
 
-claimed_typed : (p : Program) (claims : Bool) (t : tree.Type.Type) → (is_heap t && not claims) ≡ false → AreClaimed (option_map_or (λ k. (k, as_role claims) ∷ []) (type_held p t) [])
+claimed_typed : (p : ProgramText) (claims : Bool) (t : tree.Type.Type) → (is_heap t && not claims) ≡ false → AreClaimed (option_map_or (λ k. (k, as_role claims) ∷ []) (type_held p t) [])
 claimed_typed p claims (type.Scalar s) none = tt
 claimed_typed p claims (type.Heap h) none = claimed_held claims (type_held p (type.Heap h)) none
 
@@ -96,14 +96,14 @@ either_false : (a b : Bool) → (a || b) ≡ false → (a ≡ false) × (b ≡ f
 either_false true b none = cc
 either_false false b none = (refl, none)
 
-claimed_all : (p : Program) (params : List Parameter) → any_lent params ≡ false → AreClaimed (flat_map (heading p) params)
+claimed_all : (p : ProgramText) (params : List Parameter) → any_lent params ≡ false → AreClaimed (flat_map (heading p) params)
 claimed_all p [] none = tt
 claimed_all p (x ∷ params) none =
     let both = either_false (is_lent x) (any_lent params) none in
     each_append (λ q. is_claimed q.1 ≡ true) (heading p x) (flat_map (heading p) params) (claimed_typed p x.claims x.ty both.0) (claimed_all p params both.1)
 
 -- where none is lent, all are claimed
-pub all_claimed : (p : Program) (class : ℕ) (m : MethodTree) → Each (λ x. type_unknown p x.ty ≡ []) m.params → any_lent m.params ≡ false
+pub all_claimed : (p : ProgramText) (class : ℕ) (m : MethodTree) → Each (λ x. type_unknown p x.ty ≡ []) m.params → any_lent m.params ≡ false
     → Each (λ v. is_claimed v.role ≡ true) (parameters (method_told p class m))
 all_claimed p class m known none =
     mapped_each (λ q. is_claimed q.1 ≡ true) (λ v. (v.ty, v.role)) (parameters (method_told p class m)) (subst AreClaimed (sym (parameters_are p class m)) (claimed_all p m.params none))

@@ -14,7 +14,7 @@ use Rattle.names.specs.Bodies.{given_mistakes}
 use Rattle.names.specs.Expressions.{asked_number, expression_mistakes, held, meant, place_of, element_mistakes, element_type, field_mistakes, type_of, number_mistakes, owns, variable_mistakes}
 use Rattle.declarations.specs.declared.mistake.Mismatch.TheVariants.{FieldOwns}
 use Rattle.declarations.specs.Types.{is_block, type_meant, type_unknown, unless}
-use Rattle.declarations.specs.Program.{Program}
+use Rattle.declarations.specs.Program.{ProgramText}
 use Rattle.names.specs.Shapes.{shape}
 use Rattle.names.specs.Values.{length_mistakes, target_mistakes, target_type, value_mistakes}
 use Rattle.names.specs.Variables as names
@@ -26,7 +26,7 @@ use Rattle.program.specs.declared.method.Role.{Role}
 use Rattle.program.specs.declared.method.Role.TheVariants as role
 use Rattle.program.specs.declared.statement.Mention.{Mention}
 use Rattle.resolving.specs.Types.{heap_type, state_in, type_held}
-use Rattle.resolving.specs.Locals.{Frame, declared_as, mention, mention_of, next_number, number_of}
+use Rattle.resolving.specs.Locals.{LocalFrame, declared_as, mention, mention_of, next_number, number_of}
 use Rattle.resolving.specs.Plain.{assigned, deleted, first_value, frame_behind, written}
 use Rattle.resolving.specs.Reads.{listed, reads}
 use Rattle.program.specs.Lists.{Each}
@@ -44,15 +44,15 @@ use Rattle.wellformed.proofs.Standing.{Around, AreStanding, IsHeldAs, IsKnown, W
 use Rattle.wellformed.proofs.ValueLemmas.{part_taken_fits, scalar_taken_fits, taken_fits}
 
 -- a name is a mention of a variable, or of none
-name_within : (p : Program) (s : Setting) (f : Frame) (g : names.Frame) → AreStanding p s.variables f g → (name : Span) (o : Option Mention) → mention p.text f.locals name ≡ o → Each (IsMention s) (listed o)
+name_within : (p : ProgramText) (s : Setting) (f : LocalFrame) (g : names.NameFrame) → AreStanding p s.variables f g → (name : Span) (o : Option Mention) → mention p.text f.locals name ≡ o → Each (IsMention s) (listed o)
 name_within p s f g standing name None is = tt
 name_within p s f g standing name (Some m) is = (mention_within p s.variables f g name m standing is, tt)
 
-pub name_mentioned : (p : Program) (s : Setting) (f : Frame) (g : names.Frame) → AreStanding p s.variables f g → (name : Span) → Each (IsMention s) (listed (mention p.text f.locals name))
+pub name_mentioned : (p : ProgramText) (s : Setting) (f : LocalFrame) (g : names.NameFrame) → AreStanding p s.variables f g → (name : Span) → Each (IsMention s) (listed (mention p.text f.locals name))
 name_mentioned p s f g standing name = name_within p s f g standing name (mention p.text f.locals name) refl
 
 -- a variable takes a value
-variable_fits : (p : Program) (t : ClassTree) (class : ℕ) (result : Option tree.Type.Type) (s : Setting) (f : Frame) (g : names.Frame) (name : Span) (value : ValueTree) (b : Bool)
+variable_fits : (p : ProgramText) (t : ClassTree) (class : ℕ) (result : Option tree.Type.Type) (s : Setting) (f : LocalFrame) (g : names.NameFrame) (name : Span) (value : ValueTree) (b : Bool)
     → is_block (held (meant (scope_of p g) name)) ≡ b → Around p t class result s → s.scope ≡ last_of f → AreStanding p s.variables f g → variable_mistakes (scope_of p g) name ≡ []
     → value_mistakes (record { scope = scope_of p g; class = t }) (held (meant (scope_of p g) name)) value ≡ [] → IsStatement s (assigned p class f (mention p.text f.locals name) value)
 variable_fits p t class result s f g name value false scalar around here standing none given =
@@ -66,7 +66,7 @@ variable_fits p t class result s f g name value true block around here standing 
     (taken_fits p t class result s f g (held (meant (scope_of p g) name)) (mention_of name m.number) m.variable value around standing known block m.there m.holds (subst (λ o. IsInScope s.variables o (number_of m.number)) (sym here) m.inside) given)
 
 -- an assignment
-pub assign_fits : (p : Program) (t : ClassTree) (class : ℕ) (result : Option tree.Type.Type) (s : Setting) (f : Frame) (g : names.Frame) (target : TargetTree) (value : ValueTree)
+pub assign_fits : (p : ProgramText) (t : ClassTree) (class : ℕ) (result : Option tree.Type.Type) (s : Setting) (f : LocalFrame) (g : names.NameFrame) (target : TargetTree) (value : ValueTree)
     → Around p t class result s → s.scope ≡ last_of f → AreStanding p s.variables f g → target_mistakes (scope_of p g) target ≡ []
     → value_mistakes (record { scope = scope_of p g; class = t }) (target_type (scope_of p g) target) value ≡ [] → IsStatement s (written p class f target value)
 assign_fits p t class result s f g (trees.Variable name) value around here standing none given =
@@ -92,7 +92,7 @@ assign_fits p t class result s f g (trees.Element name index) value around here 
     (subst (λ b. IsKnown p (element_type k b)) (sym certain) scalar.0) (subst (λ b. is_block (element_type k b) ≡ false) (sym certain) scalar.1) (reads_within p s.variables f g standing index) (name_mentioned p s f g standing name) given
 
 -- a variable that is declared takes its first value
-first_fits : (p : Program) (t : ClassTree) (class : ℕ) (result : Option tree.Type.Type) (s : Setting) (f : Frame) (g : names.Frame) (name : Span) (k : declared.ValueType.ValueType) (state : Option Span) (role : Role) (value : ValueTree)
+first_fits : (p : ProgramText) (t : ClassTree) (class : ℕ) (result : Option tree.Type.Type) (s : Setting) (f : LocalFrame) (g : names.NameFrame) (name : Span) (k : declared.ValueType.ValueType) (state : Option Span) (role : Role) (value : ValueTree)
     (o : Option HeapType) (rest : List VariableModel) → heap_type p k state ≡ o → s.variables ≡ (declared_as p.text (record { name = name; ty = k; held = o; role = role }) o f).variables ++ rest → IsHeldAs p k o
     → s.scope ≡ last_of (declared_as p.text (record { name = name; ty = k; held = o; role = role }) o f) → Around p t class result s → AreStanding p s.variables f g → IsKnown p k
     → value_mistakes (record { scope = scope_of p g; class = t }) k value ≡ [] → IsStatement s (assigned p class f (option_map (mention_of name) (next_number o f)) value)
@@ -103,7 +103,7 @@ first_fits p t class result s f g name k state role value (Some held) rest is wi
     taken_fits p t class result s f g k (mention_of name (length f.variables)) v value around standing known (block_held p k held holds) there holds
     (subst (λ o. IsInScope s.variables o (number_of (length f.variables))) (sym here) (leads_here s.variables (Some (number_of (length f.variables))))) none
 
-value_fits : (p : Program) (t : ClassTree) (class : ℕ) (result : Option tree.Type.Type) (s : Setting) (f : Frame) (g : names.Frame) (d : DeclareTree) (value : Option ValueTree)
+value_fits : (p : ProgramText) (t : ClassTree) (class : ℕ) (result : Option tree.Type.Type) (s : Setting) (f : LocalFrame) (g : names.NameFrame) (d : DeclareTree) (value : Option ValueTree)
     → s.scope ≡ last_of (frame_behind p class f (stated.Declare d)) → Around p t class result s → AreStanding p s.variables f g → Within s.variables (frame_behind p class f (stated.Declare d)) → type_unknown p d.ty ≡ []
     → given_mistakes (record { scope = scope_of p g; class = t }) (type_meant p d.ty) value ≡ [] → IsStatement s (first_value p class f d.name (next_number (type_held p d.ty) f) value)
 value_fits p t class result s f g d None here around standing within known none = (tt, tt)
@@ -112,7 +112,7 @@ value_fits p t class result s f g d (Some value) here around standing within kno
     let sure = type_known p d.ty known in
     first_fits p t class result s f g d.name k (state_in d.ty) role.Local value (type_held p d.ty) within.rest refl within.is (held_as p k (state_in d.ty) sure) here around standing sure none
 
-pub declare_fits : (p : Program) (t : ClassTree) (class : ℕ) (result : Option tree.Type.Type) (s : Setting) (f : Frame) (g : names.Frame) (d : DeclareTree)
+pub declare_fits : (p : ProgramText) (t : ClassTree) (class : ℕ) (result : Option tree.Type.Type) (s : Setting) (f : LocalFrame) (g : names.NameFrame) (d : DeclareTree)
     → s.scope ≡ last_of (frame_behind p class f (stated.Declare d)) → Around p t class result s → AreStanding p s.variables f g → Within s.variables (frame_behind p class f (stated.Declare d)) → type_unknown p d.ty ≡ []
     → given_mistakes (record { scope = scope_of p g; class = t }) (type_meant p d.ty) d.value ≡ []
     → IsStatement s (first_value p class f d.name (next_number (type_held p d.ty) f) d.value)
@@ -122,5 +122,5 @@ deleted_fits : (s : Setting) (o : Option Mention) → Each (IsMention s) (listed
 deleted_fits s None within = tt
 deleted_fits s (Some m) within = within.0
 
-pub delete_fits : (p : Program) (s : Setting) (f : Frame) (g : names.Frame) → AreStanding p s.variables f g → (name : Span) → IsAction s (deleted (mention p.text f.locals name))
+pub delete_fits : (p : ProgramText) (s : Setting) (f : LocalFrame) (g : names.NameFrame) → AreStanding p s.variables f g → (name : Span) → IsAction s (deleted (mention p.text f.locals name))
 delete_fits p s f g standing name = deleted_fits s (mention p.text f.locals name) (name_mentioned p s f g standing name)

@@ -13,9 +13,9 @@ use Rattle.declarations.specs.Types.{is_heap, type_meant, type_unknown}
 use Rattle.declarations.specs.Listed.{twice_among}
 use Rattle.declarations.specs.ItemMistakes.{items_mistakes}
 use Rattle.names.specs.Methods.{method_turn, parameter_turn, parameters_turn, result_unknown}
-use Rattle.declarations.specs.Program.{Program, as_class, as_contract, item_at}
+use Rattle.declarations.specs.Program.{ProgramText, as_class, as_contract, item_at}
 use Rattle.declarations.specs.Named.{message_written}
-use Rattle.names.specs.Variables.{Frame, declared_variable}
+use Rattle.names.specs.Variables.{NameFrame, declared_variable}
 use Rattle.tables.specs.Words.{words_at}
 use Rattle.program.specs.Lists.{Each}
 use Rattle.wellformed.proofs.ListLemmas.{both_none}
@@ -26,18 +26,18 @@ use Rattle.wellformed.proofs.PlaceLemmas.{each_none, none_there}
 use Rattle.wellformed.proofs.Standing.{IsMethod}
 
 -- nothing is wrong with the items
-pub items_clean : (p : Program) → program_mistakes p ≡ [] → flat_map (λ i. definition_mistakes p i.definition) p.items ≡ []
+pub items_clean : (p : ProgramText) → program_mistakes p ≡ [] → flat_map (λ i. definition_mistakes p i.definition) p.items ≡ []
 items_clean p clean =
     let items = flat_map (λ i. definition_mistakes p i.definition) p.items in
     (both_none (counted_mistakes p) items (both_none (items_mistakes p) (counted_mistakes p ++ items) clean).1).1
 
 -- nor with one of them
-pub item_clean : (p : Program) (n : ℕ) (d : DefinitionTree) → program_mistakes p ≡ [] → Declares (slice_get p.items n) d → definition_mistakes p d ≡ []
+pub item_clean : (p : ProgramText) (n : ℕ) (d : DefinitionTree) → program_mistakes p ≡ [] → Declares (slice_get p.items n) d → definition_mistakes p d ≡ []
 item_clean p n d clean there =
     sym (ap (definition_mistakes p) there.is) ∙ none_there (λ i. definition_mistakes p i.definition) p.items n there.item (items_clean p clean) there.at
 
 -- nothing is wrong with a method of a class
-pub method_clean : (p : Program) (class : ℕ) (c : ClassTree) (m : MethodTree) (place : ℕ) → program_mistakes p ≡ [] → item_at as_class p class ≡ Some (class, c)
+pub method_clean : (p : ProgramText) (class : ℕ) (c : ClassTree) (m : MethodTree) (place : ℕ) → program_mistakes p ≡ [] → item_at as_class p class ≡ Some (class, c)
     → slice_get c.methods place ≡ Some m → (method_turn p c m).found ≡ []
 method_clean p class c m place clean there at =
     let found = item_clean p class (Class c) clean (class_item p class c there) in
@@ -45,10 +45,10 @@ method_clean p class c m place clean there at =
     none_there (λ m. (method_turn p c m).found) c.methods place m inner at
 
 -- so the types of its result and of its parameters are known
-pub result_clean : (p : Program) (m : MethodTree) (number : ℕ) → program_mistakes p ≡ [] → IsMethod p m number → result_unknown p m.result ≡ []
+pub result_clean : (p : ProgramText) (m : MethodTree) (number : ℕ) → program_mistakes p ≡ [] → IsMethod p m number → result_unknown p m.result ≡ []
 result_clean p m number clean is = (both_none (result_unknown p m.result) _ (method_clean p is.class is.tree m is.index clean is.there is.at)).0
 
-params_known : (p : Program) (params : List Parameter) (f : Frame) → (parameters_turn p params f).found ≡ [] → Each (λ x. type_unknown p x.ty ≡ []) params
+params_known : (p : ProgramText) (params : List Parameter) (f : NameFrame) → (parameters_turn p params f).found ≡ [] → Each (λ x. type_unknown p x.ty ≡ []) params
 params_known p [] f none = tt
 params_known p (x ∷ params) f none =
     let next = parameter_turn p x f in
@@ -56,19 +56,19 @@ params_known p (x ∷ params) f none =
     let unknown = both_none (type_unknown p x.ty) (declared_variable p.text x.name (type_meant p x.ty) (is_heap x.ty) f).found both.0 in
     (unknown.0, params_known p params next.frame both.1)
 
-pub parameters_clean : (p : Program) (m : MethodTree) (number : ℕ) → program_mistakes p ≡ [] → IsMethod p m number → Each (λ x. type_unknown p x.ty ≡ []) m.params
+pub parameters_clean : (p : ProgramText) (m : MethodTree) (number : ℕ) → program_mistakes p ≡ [] → IsMethod p m number → Each (λ x. type_unknown p x.ty ≡ []) m.params
 parameters_clean p m number clean is =
-    let f : Frame = record { variables = []; heap = 0 } in
+    let f : NameFrame = record { variables = []; heap = 0 } in
     let inner = (both_none (result_unknown p m.result) _ (method_clean p is.class is.tree m is.index clean is.there is.at)).1 in
     params_known p m.params f (both_none (parameters_turn p m.params f).found _ inner).0
 
-message_at : (p : Program) (messages : List MessageTree) (m : MessageTree) (o : Option ℕ) → flat_map (message_mistakes p) messages ≡ [] → option_and_then (slice_get messages) o ≡ Some m
+message_at : (p : ProgramText) (messages : List MessageTree) (m : MessageTree) (o : Option ℕ) → flat_map (message_mistakes p) messages ≡ [] → option_and_then (slice_get messages) o ≡ Some m
     → message_mistakes p m ≡ []
 message_at p messages m None none at = cc
 message_at p messages m (Some n) none at = none_there (message_mistakes p) messages n m none at
 
 -- nothing is wrong with the messages of a contract
-messages_clean : (p : Program) (messages : List MessageTree) (c : ContractTree) → messages ≡ messages_of c → contract_mistakes p c ≡ [] → flat_map (message_mistakes p) messages ≡ []
+messages_clean : (p : ProgramText) (messages : List MessageTree) (c : ContractTree) → messages ≡ messages_of c → contract_mistakes p c ≡ [] → flat_map (message_mistakes p) messages ≡ []
 messages_clean p messages c is none =
     let names = names_of_messages (messages_of c) in
     let states = states_of c in
@@ -78,7 +78,7 @@ messages_clean p messages c is none =
     ap (flat_map (message_mistakes p)) is ∙ (both_none all behind (both_none (twice_among p.text (names_of_states states)) (all ++ behind) inner).1).0
 
 -- the types of the parameters of a message are known
-pub message_clean : (p : Program) (n : ℕ) (c : ContractTree) (word : List ℕ) (m : MessageTree) → program_mistakes p ≡ [] → item_at as_contract p n ≡ Some (n, c)
+pub message_clean : (p : ProgramText) (n : ℕ) (c : ContractTree) (word : List ℕ) (m : MessageTree) → program_mistakes p ≡ [] → item_at as_contract p n ≡ Some (n, c)
     → message_written p.text c word ≡ Some m → Each (λ x. type_unknown p x.ty ≡ []) m.params
 message_clean p n c word m clean there written =
     let found = item_clean p n (Contract c) clean (contract_item p n c there) in

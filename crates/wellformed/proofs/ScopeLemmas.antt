@@ -4,7 +4,7 @@ use Rattle.std.proofs.lemmas.Option.{slice_get-map}
 use Rattle.std.specs.Prelude.{Option, None, Some, option_and_then, option_map, slice_get, IfSome, IsSomeAnd}
 use Rattle.source.specs.declared.token.Span.{Span}
 use Rattle.declarations.specs.Declarations.{first_among}
-use Rattle.declarations.specs.Program.{Program}
+use Rattle.declarations.specs.Program.{ProgramText}
 use Rattle.names.specs.Variables as names
 use Rattle.declarations.specs.Listed.{limit_passed}
 use Rattle.declarations.specs.declared.mistake.Limit.TheVariants as limit
@@ -16,7 +16,7 @@ use Rattle.program.specs.Methods.{VariableModel}
 use Rattle.program.specs.declared.types as held
 use Rattle.program.specs.declared.method.Role.{Role}
 use Rattle.program.specs.declared.number.VarId.{VarId}
-use Rattle.resolving.specs.Locals.{Local, Frame, local_named, number_of, closed}
+use Rattle.resolving.specs.Locals.{Local, LocalFrame, local_named, number_of, closed}
 use Rattle.program.specs.Lists.{Each}
 use Rattle.program.specs.Scopes as scopes
 use Rattle.program.specs.Scopes.{LeadsOut, IsLocalBehind, outer_of}
@@ -50,18 +50,18 @@ declared_there : (vs xs : List VariableModel) (x : VariableModel) (rest : List V
 declared_there vs xs x rest is = ap (λ ys. slice_get ys (length xs)) (is ∙ append_assoc xs (x ∷ []) rest) ∙ here_get xs x rest
 
 -- the one before it in scope is the last one that was there
-pub declared_outer : (p : Program) (vs : List VariableModel) (name : Span) (ty : ValueType) (held : held.HeapType.HeapType) (role : Role) (f : Frame) → Within vs (declares p.text name ty (Some held) role f)
+pub declared_outer : (p : ProgramText) (vs : List VariableModel) (name : Span) (ty : ValueType) (held : held.HeapType.HeapType) (role : Role) (f : LocalFrame) → Within vs (declares p.text name ty (Some held) role f)
     → outer_of vs (number_of (length f.variables)) ≡ last_of f
 declared_outer p vs name ty held role f within = ap (λ x. option_and_then (λ v. v.outer) x) (declared_there vs f.variables _ within.rest within.is)
 
 -- one that is no parameter
-pub declared_local : (p : Program) (vs : List VariableModel) (name : Span) (ty : ValueType) (held : held.HeapType.HeapType) (f : Frame) → Within vs (declares p.text name ty (Some held) roles.Local f)
+pub declared_local : (p : ProgramText) (vs : List VariableModel) (name : Span) (ty : ValueType) (held : held.HeapType.HeapType) (f : LocalFrame) → Within vs (declares p.text name ty (Some held) roles.Local f)
     → IsLocalBehind vs (number_of (length f.variables)) (λ outer. outer ≡ last_of f)
 declared_local p vs name ty held f within =
     subst (λ o. IsSomeAnd o (λ x. (x.role ≡ roles.Local) × (x.outer ≡ last_of f))) (sym (declared_there vs f.variables _ within.rest within.is)) (refl, refl)
 
 -- the scope grows by it
-pub declared_grows : (p : Program) (vs : List VariableModel) (name : Span) (ty : ValueType) (held : Option held.HeapType.HeapType) (f : Frame) → Within vs (declares p.text name ty held roles.Local f)
+pub declared_grows : (p : ProgramText) (vs : List VariableModel) (name : Span) (ty : ValueType) (held : Option held.HeapType.HeapType) (f : LocalFrame) → Within vs (declares p.text name ty held roles.Local f)
     → scopes.Grows vs (last_of f) (last_of (declares p.text name ty held roles.Local f))
 declared_grows p vs name ty None f within = grows_none vs (last_of f) (last_of f) refl
 declared_grows p vs name ty (Some held) f within = record {
@@ -70,7 +70,7 @@ declared_grows p vs name ty (Some held) f within = record {
 }
 
 -- it stands right before those that were in scope
-pub declared_inner : (p : Program) (vs : List VariableModel) (name : Span) (ty : ValueType) (held : Option held.HeapType.HeapType) (role : Role) (f : Frame) → Within vs (declares p.text name ty held role f)
+pub declared_inner : (p : ProgramText) (vs : List VariableModel) (name : Span) (ty : ValueType) (held : Option held.HeapType.HeapType) (role : Role) (f : LocalFrame) → Within vs (declares p.text name ty held role f)
     → LeadsOut vs (last_of (declares p.text name ty held role f)) (last_of f)
 declared_inner p vs name ty None role f within = leads_here vs (last_of f)
 declared_inner p vs name ty (Some held) role f within = record { steps = 1; is = declared_outer p vs name ty held role f within }
@@ -89,7 +89,7 @@ is_some_map : {X Y : Type 0} → (f : X → Y) → (o : Option X) → is_some (o
 is_some_map f None = refl
 is_some_map f (Some x) = refl
 
-entered_same : (text : List ℕ) (name : Span) (ls : List Local) (vs : List names.Variable) (l : Local) → map named ls ≡ vs
+entered_same : (text : List ℕ) (name : Span) (ls : List Local) (vs : List names.ScopeVariable) (l : Local) → map named ls ≡ vs
     → map named (if is_some (local_named text ls name) then ls else ls ++ l ∷ []) ≡ (if is_some (variable_named text vs name) then vs else vs ++ named l ∷ [])
 entered_same text name ls vs l same =
     let entered = same_entered (is_some (local_named text ls name)) ls l in
@@ -102,13 +102,13 @@ inside_then : (vs : List VariableModel) (a b : Option VarId) (o : Option ℕ) �
 inside_then vs a b None leads inside = tt
 inside_then vs a b (Some n) leads inside = leads_then vs b a (Some (number_of n)) leads inside
 
-stands_then : (p : Program) (vs : List VariableModel) (a b : Option VarId) (ls : List Local) → LeadsOut vs b a → Each (Stands p vs a) ls → Each (Stands p vs b) ls
+stands_then : (p : ProgramText) (vs : List VariableModel) (a b : Option VarId) (ls : List Local) → LeadsOut vs b a → Each (Stands p vs a) ls → Each (Stands p vs b) ls
 stands_then p vs a b [] leads all = tt
 stands_then p vs a b (l ∷ ls) leads all =
     (record { known = all.0.known; numbered = all.0.numbered; inside = inside_then vs a b l.number leads all.0.inside }, stands_then p vs a b ls leads all.1)
 
 -- a type is that of a block where a variable of it holds something
-pub block_held : (p : Program) (k : ValueType) (held : held.HeapType.HeapType) → IsHeld p k held → is_block k ≡ true
+pub block_held : (p : ProgramText) (k : ValueType) (held : held.HeapType.HeapType) → IsHeld p k held → is_block k ≡ true
 block_held p (types.Pointer n) held is = refl
 block_held p (types.Array element) held is = refl
 block_held p (types.Endpoint side n) held is = refl
@@ -124,7 +124,7 @@ not_past : (name : Span) (heap : ℕ) (n : ℕ) → past_heap name heap ≡ [] �
 not_past name heap n none is few = not_most name heap n (heap == MOST_VARIABLES) refl none is few
 
 -- a variable that is declared comes into scope
-pub declared_stands : (p : Program) (vs : List VariableModel) (name : Span) (ty : ValueType) (held : Option held.HeapType.HeapType) (role : Role) (heap : Bool) (f : Frame) (g : names.Frame)
+pub declared_stands : (p : ProgramText) (vs : List VariableModel) (name : Span) (ty : ValueType) (held : Option held.HeapType.HeapType) (role : Role) (heap : Bool) (f : LocalFrame) (g : names.NameFrame)
     → heap ≡ is_block ty → IsKnown p ty → IsHeldAs p ty held → AreStanding p vs f g → Within vs (declares p.text name ty held role f)
     → (declared_variable p.text name ty heap g).found ≡ [] → AreStanding p vs (declares p.text name ty held role f) (declared_variable p.text name ty heap g).frame
 declared_stands p vs name ty None role heap f g block known holds standing within none = record {
@@ -155,7 +155,7 @@ declared_stands p vs name ty (Some held) role heap f g block known holds standin
     }
 
 -- what was declared since is in scope no more
-pub closed_stands : (p : Program) (vs : List VariableModel) (f after : Frame) (g behind : names.Frame)
+pub closed_stands : (p : ProgramText) (vs : List VariableModel) (f after : LocalFrame) (g behind : names.NameFrame)
     → AreStanding p vs f g → Grows p f after → AreStanding p vs after behind → AreStanding p vs (closed f after) (record { variables = g.variables; heap = behind.heap })
 closed_stands p vs f after g behind standing grows inner = record {
   same = standing.same;
@@ -167,5 +167,5 @@ closed_stands p vs f after g behind standing grows inner = record {
 }
 
 -- the last variable in scope is one of the method
-pub last_within : (vs : List VariableModel) (f : Frame) → Within vs f → IfSome f.last (λ n. n < length f.variables) → IfSome f.last (λ n. n < length vs)
+pub last_within : (vs : List VariableModel) (f : LocalFrame) → Within vs f → IfSome f.last (λ n. n < length f.variables) → IfSome f.last (λ n. n < length vs)
 last_within vs f within last = still_below f.variables within.rest vs f.last within.is last

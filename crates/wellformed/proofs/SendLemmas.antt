@@ -14,7 +14,7 @@ use Rattle.names.specs.Findings.{program_mistakes}
 use Rattle.declarations.specs.declared.mistake.Mistake.TheVariants.{Unknown}
 use Rattle.declarations.specs.declared.mistake.NameSort.TheVariants as sort
 use Rattle.declarations.specs.Types.{is_block, type_unknown, unless}
-use Rattle.declarations.specs.Program.{Program, as_contract, item_at}
+use Rattle.declarations.specs.Program.{ProgramText, as_contract, item_at}
 use Rattle.program.specs.Parts.{ContractModel}
 use Rattle.declarations.specs.Resolution.{resolved_contracts}
 use Rattle.names.specs.Shapes.{shape}
@@ -28,7 +28,7 @@ use Rattle.program.specs.Methods.{VariableModel}
 use Rattle.program.specs.Statements.{SendModel}
 use Rattle.program.specs.declared.statement.Mention.{Mention}
 use Rattle.resolving.specs.Types.{contract_at}
-use Rattle.resolving.specs.Locals.{Local, Frame, local_named, mention_of}
+use Rattle.resolving.specs.Locals.{Local, LocalFrame, local_named, mention_of}
 use Rattle.resolving.specs.Messages.{contract_of, end_contract, message_sent}
 use Rattle.resolving.specs.Plain.{meant_by, payloads, send_of, send_told, sent, sent_by}
 use Rattle.program.specs.Lists.{Each}
@@ -43,7 +43,7 @@ use Rattle.wellformed.proofs.ProgramLemmas.{message_clean}
 use Rattle.wellformed.proofs.Standing.{Around, AreStanding, IsHeld, IsKnown, named, scope_of}
 
 -- the contract of an endpoint that is there
-pub is_end : (p : Program) (s : Setting) (n : ℕ) (side : Side) (c : ContractTree) (P : ContractModel → Type 0) (m : Mention) (v : VariableModel) → s.contracts ≡ resolved_contracts p.text (contracts_of p.items)
+pub is_end : (p : ProgramText) (s : Setting) (n : ℕ) (side : Side) (c : ContractTree) (P : ContractModel → Type 0) (m : Mention) (v : VariableModel) → s.contracts ≡ resolved_contracts p.text (contracts_of p.items)
     → item_at as_contract p n ≡ Some (n, c) → slice_get s.variables m.variable.0 ≡ Some v → IsHeld p (ty.Endpoint side n) v.ty
     → ((r : ContractModel) → contract_at p n ≡ Some r → P r) → IsEnd s P m
 is_end p s n side c P m v contracts is there holds each =
@@ -52,13 +52,13 @@ is_end p s n side c P m v contracts is there holds each =
     subst (λ o. IsSomeAnd o (λ w. IsSomeAnd (contract_held s.contracts w.ty) P)) (sym there) (subst (λ o. IsSomeAnd o P) (sym found) (each _ at.is))
 
 -- a call that sends a message
-pub record SendsMessage (p : Program) (class : ℕ) (s : Setting) (f : Frame) (c : CallTree) : Type 0 where
+pub record SendsMessage (p : ProgramText) (class : ℕ) (s : Setting) (f : LocalFrame) (c : CallTree) : Type 0 where
   pub send : SendModel
   pub is : send_told p class f c ≡ Some send
   pub fits : IsSend s send
 
 -- a send
-record Sending (p : Program) (g : names.Frame) (n : ℕ) (word : Span) (es : List ExpressionTree) : Type 0 where
+record Sending (p : ProgramText) (g : names.NameFrame) (n : ℕ) (word : Span) (es : List ExpressionTree) : Type 0 where
   pub message : MessageTree
   pub answer : AnswersMessage p n (message_sent p n word) message
   pub known : Each (λ x. type_unknown p x.ty ≡ []) message.params
@@ -69,7 +69,7 @@ sent_written : (text word : List ℕ) (t : ContractTree) (m : MessageTree) (b : 
 sent_written text word t m true sent = sent
 sent_written text word t m false sent = cc
 
-sending : (p : Program) (g : names.Frame) (n : ℕ) (side : Side) (t : ContractTree) (role : _) (word : Span) (es : List ExpressionTree) → program_mistakes p ≡ [] → item_at as_contract p n ≡ Some (n, t)
+sending : (p : ProgramText) (g : names.NameFrame) (n : ℕ) (side : Side) (t : ContractTree) (role : _) (word : Span) (es : List ExpressionTree) → program_mistakes p ≡ [] → item_at as_contract p n ≡ Some (n, t)
     → (o : Option MessageTree) → sent_message p.text t (word_at p.text word) ≡ o → message_mistakes (scope_of p g) n o side role word (map shape es) ≡ [] → (is_alone role ≡ true) × Sending p g n word es
 sending p g n side t role word es clean there None found none = cc
 sending p g n side t role word es clean there (Some m) found none =
@@ -91,10 +91,10 @@ sending p g n side t role word es clean there (Some m) found none =
     )
 
 -- the contract of the endpoint that a name means
-end_of : (p : Program) (locals : List Local) (name : Span) (l : Local) (n : ℕ) (side : Side) → local_named p.text locals name ≡ Some l → l.ty ≡ ty.Endpoint side n → end_contract p locals name ≡ Some n
+end_of : (p : ProgramText) (locals : List Local) (name : Span) (l : Local) (n : ℕ) (side : Side) → local_named p.text locals name ≡ Some l → l.ty ≡ ty.Endpoint side n → end_contract p locals name ≡ Some n
 end_of p locals name l n side local is = ap (option_and_then (λ v. contract_of v.ty)) local ∙ ap contract_of is
 
-end_sends : (p : Program) (t : ClassTree) (class : ℕ) (result : Option type_nodes.Type.Type) (s : Setting) (f : Frame) (g : names.Frame) (role : _) (c : CallTree) (word : Span) → Around p t class result s
+end_sends : (p : ProgramText) (t : ClassTree) (class : ℕ) (result : Option type_nodes.Type.Type) (s : Setting) (f : LocalFrame) (g : names.NameFrame) (role : _) (c : CallTree) (word : Span) → Around p t class result s
     → AreStanding p s.variables f g → c.member ≡ Some word → (l : Local) → local_named p.text f.locals c.name ≡ Some l → (n : ℕ) (side : Side) → l.ty ≡ ty.Endpoint side n → IsKnown p (ty.Endpoint side n)
     → meant (scope_of p g) c.name ≡ Some (named l) → send_mistakes (scope_of p g) (ty.Endpoint side n) role c.name word (map shape c.arguments) ≡ [] → (is_alone role ≡ true) × SendsMessage p class s f c
 end_sends p t class result s f g role c word around standing member l local n side type_is known meant_is none =
@@ -120,7 +120,7 @@ end_sends p t class result s f g role c word around standing member l local n si
     )
 
 -- a call by the name of a variable and one of a message
-pub local_call : (p : Program) (t : ClassTree) (class : ℕ) (result : Option type_nodes.Type.Type) (s : Setting) (f : Frame) (g : names.Frame) (role : _) (c : CallTree) (word : Span) → Around p t class result s
+pub local_call : (p : ProgramText) (t : ClassTree) (class : ℕ) (result : Option type_nodes.Type.Type) (s : Setting) (f : LocalFrame) (g : names.NameFrame) (role : _) (c : CallTree) (word : Span) → Around p t class result s
     → AreStanding p s.variables f g → c.member ≡ Some word → (l : Local) → local_named p.text f.locals c.name ≡ Some l → meant (scope_of p g) c.name ≡ Some (named l) → IsKnown p l.ty → (k : declared.ValueType.ValueType) → l.ty ≡ k
     → send_mistakes (scope_of p g) k role c.name word (map shape c.arguments) ≡ [] → (is_alone role ≡ true) × SendsMessage p class s f c
 local_call p t class result s f g role c word around standing member l local meant_is known (ty.Endpoint side n) is none =

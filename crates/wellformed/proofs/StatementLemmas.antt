@@ -10,12 +10,12 @@ use Rattle.names.specs.Shapes.{shape}
 use Rattle.names.specs.Bodies.{Surroundings, block_turn, case_turn, cases_turn, others_turn, statement_turn, statements_turn, test_turn, head_of, heads_of}
 use Rattle.names.specs.Cases.{Head, binds_turn, head_mistakes}
 use Rattle.names.specs.Expressions.{truth_mistakes}
-use Rattle.declarations.specs.Program.{Program}
+use Rattle.declarations.specs.Program.{ProgramText}
 use Rattle.names.specs.Values.{target_mistakes, target_type, value_mistakes}
 use Rattle.names.specs.Variables as names
 use Rattle.resolving.specs.Binds.{binds_told}
 use Rattle.resolving.specs.Types.{state_in, type_held}
-use Rattle.resolving.specs.Locals.{Frame, closed, declared, forget, next_number, number_of}
+use Rattle.resolving.specs.Locals.{LocalFrame, closed, declared, forget, next_number, number_of}
 use Rattle.resolving.specs.Plain.{declaration_of, first_value}
 use Rattle.resolving.specs.Told.{Staying, awaited_message, awaited_params, behind_case, block_told, case_told, cases_told, in_switch, others_told, statement_told, statements_told, stays_here, test_told}
 use Rattle.program.specs.Methods.{VariableModel}
@@ -78,7 +78,7 @@ around_behind : (m : Surroundings) (class : ℕ) (s : Setting) (scope : Option V
 around_behind m class s scope a = around_at m class s scope s.at_break s.at_continue a
 
 -- what stays in scope lies outward still, where the scope is the same
-staying_same : (s : Setting) (f after : Frame) (stays : Staying) → last_of after ≡ last_of f → AreStaying s f stays → AreStaying s after stays
+staying_same : (s : Setting) (f after : LocalFrame) (stays : Staying) → last_of after ≡ last_of f → AreStaying s f stays → AreStaying s after stays
 staying_same s f after stays same staying = record {
   scope = staying.scope ∙ sym same;
   break_is = staying.break_is;
@@ -88,7 +88,7 @@ staying_same s f after stays same staying = record {
 }
 
 -- and where it has grown
-staying_then : (s : Setting) (f after : Frame) (stays : Staying) → LeadsOut s.variables (last_of after) (last_of f) → AreStaying s f stays → AreStaying (reached s (last_of after)) after stays
+staying_then : (s : Setting) (f after : LocalFrame) (stays : Staying) → LeadsOut s.variables (last_of after) (last_of f) → AreStaying s f stays → AreStaying (reached s (last_of after)) after stays
 staying_then s f after stays inner staying = record {
   scope = refl;
   break_is = staying.break_is;
@@ -98,11 +98,11 @@ staying_then s f after stays inner staying = record {
 }
 
 -- a piece behind which the same variables are in scope
-same_frame : (p : Program) (s : Setting) (X : Type 0) (f : Frame) (g : names.Frame) → X → AreStanding p s.variables f g → Passes p s.variables X f f g
+same_frame : (p : ProgramText) (s : Setting) (X : Type 0) (f : LocalFrame) (g : names.NameFrame) → X → AreStanding p s.variables f g → Passes p s.variables X f f g
 same_frame p s X f g fits standing = record { fits = fits; standing = standing; same = refl }
 
 -- a statement that leaves the scope as it is
-statement_passes : (p : Program) (s : Setting) (x : StatementModel) (f after : Frame) (behind : names.Frame) → s.scope ≡ last_of f → Passes p s.variables (IsStatement s x) f after behind
+statement_passes : (p : ProgramText) (s : Setting) (x : StatementModel) (f after : LocalFrame) (behind : names.NameFrame) → s.scope ≡ last_of f → Passes p s.variables (IsStatement s x) f after behind
     → Goes p s.variables (IsStatement (reached s (last_of after)) x) f after behind
 statement_passes p s x f after behind here r = record {
   fits = subst (λ o. IsStatement (reached s o) x) (here ∙ sym r.same) r.fits;
@@ -110,16 +110,16 @@ statement_passes p s x f after behind here r = record {
   grows = grows_none s.variables (last_of f) (last_of after) (sym r.same);
 }
 
-stands_still : (p : Program) (s : Setting) (x : StatementModel) (f : Frame) (g : names.Frame) → s.scope ≡ last_of f → IsStatement s x → AreStanding p s.variables f g
+stands_still : (p : ProgramText) (s : Setting) (x : StatementModel) (f : LocalFrame) (g : names.NameFrame) → s.scope ≡ last_of f → IsStatement s x → AreStanding p s.variables f g
     → Goes p s.variables (IsStatement (reached s (last_of f)) x) f f g
 stands_still p s x f g here fits standing = statement_passes p s x f f g here (same_frame p s (IsStatement s x) f g fits standing)
 
 -- one piece, and then another
-both_pass : (p : Program) (vs : List VariableModel) (X Y : Type 0) (f middle after : Frame) (g behind : names.Frame) → Passes p vs X f middle g → Passes p vs Y middle after behind → Passes p vs (X × Y) f after behind
+both_pass : (p : ProgramText) (vs : List VariableModel) (X Y : Type 0) (f middle after : LocalFrame) (g behind : names.NameFrame) → Passes p vs X f middle g → Passes p vs Y middle after behind → Passes p vs (X × Y) f after behind
 both_pass p vs X Y f middle after g behind first second = record { fits = (first.fits, second.fits); standing = second.standing; same = second.same ∙ first.same }
 
 -- a declaration
-declaration_goes : (m : Surroundings) (class : ℕ) (s : Setting) → InMethod m class s → (d : DeclareTree) (f : Frame) (g : names.Frame) → AreStanding m.program s.variables f g
+declaration_goes : (m : Surroundings) (class : ℕ) (s : Setting) → InMethod m class s → (d : DeclareTree) (f : LocalFrame) (g : names.NameFrame) → AreStanding m.program s.variables f g
     → Within s.variables (declared m.program.text (declaration_of m.program d) f) → (bodies.declaration_turn m d g).found ≡ []
     → Goes m.program s.variables (IsStatement (reached s (last_of (declared m.program.text (declaration_of m.program d) f))) (first_value m.program class f d.name (next_number (type_held m.program d.ty) f) d.value)) f (declared m.program.text (declaration_of m.program d) f) (bodies.declaration_turn m d g).frame
 declaration_goes m class s around d f g standing within none =
@@ -138,21 +138,21 @@ declaration_goes m class s around d f g standing within none =
     }
 
 -- a scope that has grown, from where a statement stands
-grows_here : (s : Setting) (f : Frame) (after : Option VarId) → s.scope ≡ last_of f → scopes.Grows s.variables (last_of f) after → scopes.Grows s.variables s.scope after
+grows_here : (s : Setting) (f : LocalFrame) (after : Option VarId) → s.scope ≡ last_of f → scopes.Grows s.variables (last_of f) after → scopes.Grows s.variables s.scope after
 grows_here s f after here grows = subst (λ o. scopes.Grows s.variables o after) (sym here) grows
 
 -- what a `break` or a `continue` leaves
-left_fits : (s : Setting) (f : Frame) (place : Place) (to : Option VarId) (stays : Option ℕ) → s.scope ≡ last_of f → to ≡ option_map number_of stays
+left_fits : (s : Setting) (f : LocalFrame) (place : Place) (to : Option VarId) (stays : Option ℕ) → s.scope ≡ last_of f → to ≡ option_map number_of stays
     → LeadsOut s.variables (last_of f) (option_map number_of stays) → GoesBack s.scope to (forget place stays f.last)
 left_fits s f place to stays here is leads =
     subst (λ o. GoesBack o to (forget place stays f.last)) (sym here) (subst (λ o. GoesBack (last_of f) o (forget place stays f.last)) (sym is) (goes_back s.variables place stays f.last leads))
 
 -- a scope that goes back to where a statement stands
-back_here : (s : Setting) (f last : Frame) (place : Place) → s.scope ≡ last_of f → LeadsOut s.variables (last_of last) (last_of f) → GoesBack (last_of last) s.scope (forget place f.last last.last)
+back_here : (s : Setting) (f last : LocalFrame) (place : Place) → s.scope ≡ last_of f → LeadsOut s.variables (last_of last) (last_of f) → GoesBack (last_of last) s.scope (forget place f.last last.last)
 back_here s f last place here leads = subst (λ o. GoesBack (last_of last) o (forget place f.last last.last)) (sym here) (goes_back s.variables place f.last last.last leads)
 
 mutual
-  pub statement_goes : (m : Surroundings) (class : ℕ) (s : Setting) → InMethod m class s → (stays : Staying) (x : StatementTree) (f : Frame) (g : names.Frame)
+  pub statement_goes : (m : Surroundings) (class : ℕ) (s : Setting) → InMethod m class s → (stays : Staying) (x : StatementTree) (f : LocalFrame) (g : names.NameFrame)
       → AreStanding m.program s.variables f g → AreStaying s f stays → Within s.variables (statement_told m.program class stays x f).frame → (statement_turn m x g).found ≡ []
       → Goes m.program s.variables (IsStatement (reached s (last_of (statement_told m.program class stays x f).frame)) (statement_told m.program class stays x f).what) f (statement_told m.program class stays x f).frame (statement_turn m x g).frame
   statement_goes m class s around stays (trees.Block b) f g standing staying within none =
@@ -206,7 +206,7 @@ mutual
       statement_passes p s (statement_told p class stays (trees.Switch word first cases close) f).what f after _ staying.scope
       (record { fits = (all_close p class s.variables inside first cases close.place f g standing clean, cases_fit.fits); standing = cases_fit.standing; same = cases_fit.same })
 
-  pub statements_go : (m : Surroundings) (class : ℕ) (s : Setting) → InMethod m class s → (stays : Staying) (xs : StatementTrees) (f : Frame) (g : names.Frame)
+  pub statements_go : (m : Surroundings) (class : ℕ) (s : Setting) → InMethod m class s → (stays : Staying) (xs : StatementTrees) (f : LocalFrame) (g : names.NameFrame)
       → AreStanding m.program s.variables f g → AreStaying s f stays → Within s.variables (statements_told m.program class stays xs f).frame → (statements_turn m xs g).found ≡ []
       → Goes m.program s.variables (AreStatements s (statements_told m.program class stays xs f).what (last_of (statements_told m.program class stays xs f).frame)) f (statements_told m.program class stays xs f).frame (statements_turn m xs g).frame
   statements_go m class s around stays trees.NoStatement f g standing staying within none =
@@ -228,7 +228,7 @@ mutual
         grows = grows_on vs (last_of f) (last_of middle) (last_of after) one.grows two.grows;
       }
 
-  block_goes : (m : Surroundings) (class : ℕ) (s : Setting) → InMethod m class s → (stays : Staying) (b : BlockTree) (f : Frame) (g : names.Frame)
+  block_goes : (m : Surroundings) (class : ℕ) (s : Setting) → InMethod m class s → (stays : Staying) (b : BlockTree) (f : LocalFrame) (g : names.NameFrame)
       → AreStanding m.program s.variables f g → AreStaying s f stays → Within s.variables (block_told m.program class stays b f).frame → (block_turn m b g).found ≡ []
       → Passes m.program s.variables (IsBlock s (block_told m.program class stays b f).what) f (block_told m.program class stays b f).frame (block_turn m b g).frame
   block_goes m class s around stays (trees.Braces statements close) f g standing staying within none =
@@ -242,7 +242,7 @@ mutual
         same = refl;
       }
 
-  test_goes : (m : Surroundings) (class : ℕ) (s : Setting) → InMethod m class s → (stays : Staying) (t : TestTree) (f : Frame) (g : names.Frame)
+  test_goes : (m : Surroundings) (class : ℕ) (s : Setting) → InMethod m class s → (stays : Staying) (t : TestTree) (f : LocalFrame) (g : names.NameFrame)
       → AreStanding m.program s.variables f g → AreStaying s f stays → Within s.variables (test_told m.program class stays t f).frame → (test_turn m t g).found ≡ []
       → Passes m.program s.variables (IsTest s (test_told m.program class stays t f).what) f (test_told m.program class stays t f).frame (test_turn m t g).frame
   test_goes m class s around stays (trees.Test word left test body) f g standing staying within none =
@@ -250,7 +250,7 @@ mutual
       let r = block_goes m class s around stays body f g standing staying within both.1 in
       record { fits = (reads_within m.program s.variables f g standing test, r.fits); standing = r.standing; same = r.same }
 
-  others_go : (m : Surroundings) (class : ℕ) (s : Setting) → InMethod m class s → (stays : Staying) (others : OtherTrees) (f : Frame) (g : names.Frame)
+  others_go : (m : Surroundings) (class : ℕ) (s : Setting) → InMethod m class s → (stays : Staying) (others : OtherTrees) (f : LocalFrame) (g : names.NameFrame)
       → AreStanding m.program s.variables f g → AreStaying s f stays → Within s.variables (others_told m.program class stays others f).frame → (others_turn m others g).found ≡ []
       → Passes m.program s.variables (AreOthers s (others_told m.program class stays others f).what) f (others_told m.program class stays others f).frame (others_turn m others g).frame
   others_go m class s around stays trees.NoOther f g standing staying within none = same_frame m.program s _ f g tt standing
@@ -267,7 +267,7 @@ mutual
       let two = others_go m class s around stays others middle next one.standing (staying_same s f middle stays one.same staying) within both.1 in
       both_pass p s.variables _ _ f middle after next _ one two
 
-  case_goes : (m : Surroundings) (class : ℕ) (s : Setting) → InMethod m class s → (stays : Staying) (behind : Place) (all before : List Head) (c : CaseTree) (f : Frame) (g : names.Frame)
+  case_goes : (m : Surroundings) (class : ℕ) (s : Setting) → InMethod m class s → (stays : Staying) (behind : Place) (all before : List Head) (c : CaseTree) (f : LocalFrame) (g : names.NameFrame)
       → AreStanding m.program s.variables f g → AreStaying s f stays → Within s.variables (case_told m.program class stays behind c f).frame → (case_turn m all before c g).found ≡ []
       → Passes m.program s.variables (IsCase s (case_told m.program class stays behind c f).what) f (case_told m.program class stays behind c f).frame (case_turn m all before c g).frame
   case_goes m class s around stays behind all before (trees.Case word endpoint awaited left binds statements) f g standing staying within none =
@@ -295,7 +295,7 @@ mutual
         same = refl;
       }
 
-  cases_go : (m : Surroundings) (class : ℕ) (s : Setting) → InMethod m class s → (stays : Staying) (close : Place) (all before : List Head) (cases : CaseTrees) (f : Frame) (g : names.Frame)
+  cases_go : (m : Surroundings) (class : ℕ) (s : Setting) → InMethod m class s → (stays : Staying) (close : Place) (all before : List Head) (cases : CaseTrees) (f : LocalFrame) (g : names.NameFrame)
       → AreStanding m.program s.variables f g → AreStaying s f stays → Within s.variables (cases_told m.program class stays cases close f).frame → (cases_turn m all before cases g).found ≡ []
       → Passes m.program s.variables (AreCases s (cases_told m.program class stays cases close f).what) f (cases_told m.program class stays cases close f).frame (cases_turn m all before cases g).frame
   cases_go m class s around stays close all before trees.NoCase f g standing staying within none = same_frame m.program s _ f g tt standing

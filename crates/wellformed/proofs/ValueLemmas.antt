@@ -13,7 +13,7 @@ use Rattle.tree.specs.declared.types as tree
 use Rattle.declarations.specs.Types.{agree, alike, is_block, is_silent, pointer_type, type_meant, unless}
 use Rattle.names.specs.Methods.{result_unknown}
 use Rattle.names.specs.Findings.{program_mistakes}
-use Rattle.declarations.specs.Program.{Numbered, Program, as_struct, item_at, struct_named}
+use Rattle.declarations.specs.Program.{Numbered, ProgramText, as_struct, item_at, struct_named}
 use Rattle.names.specs.Shapes.{shape}
 use Rattle.names.specs.Values.{argument_mistakes, fields_asked, made_mistakes, made_type, new_mistakes, number_of_arguments, struct_made_mistakes, value_mistakes}
 use Rattle.declarations.specs.Owning.{owning_fields}
@@ -29,7 +29,7 @@ use Rattle.program.specs.declared.statement.Mention.{Mention}
 use Rattle.resolving.specs.Counts.{structs_before}
 use Rattle.resolving.specs.Fields.{fields_held, structs_told}
 use Rattle.resolving.specs.Types.{result_held, state_in}
-use Rattle.resolving.specs.Locals.{Frame}
+use Rattle.resolving.specs.Locals.{LocalFrame}
 use Rattle.resolving.specs.Plain.{call_of, called, lone, made_arguments, made_reads, moved, new_of, part_taken, payloads, scalar_taken, taken, told, used}
 use Rattle.resolving.specs.Reads.{listed, reads}
 use Rattle.program.specs.Lists.{Each}
@@ -47,33 +47,33 @@ use Rattle.wellformed.proofs.TypeLemmas.{struct_found}
 use Rattle.wellformed.proofs.Standing.{Around, AreStanding, IsHeld, IsKnown, scope_of}
 
 -- whether what a method gives fits a type that is asked
-abbrev pub gives_asked : Program → Option tree.Type.Type → declared.ValueType.ValueType → Bool
+abbrev pub gives_asked : ProgramText → Option tree.Type.Type → declared.ValueType.ValueType → Bool
 gives_asked p None k = false
 gives_asked p (Some t) k = agree (type_meant p t) k
 
-by_result : (p : Program) (k : declared.ValueType.ValueType) (F : Option tree.Type.Type → Bool) (result : Option tree.Type.Type) → F result ≡ true → F None ≡ false
+by_result : (p : ProgramText) (k : declared.ValueType.ValueType) (F : Option tree.Type.Type → Bool) (result : Option tree.Type.Type) → F result ≡ true → F None ≡ false
     → ((t : tree.Type.Type) → F (Some t) ≡ agree (type_meant p t) k) → gives_asked p result k ≡ true
 by_result p k F None fits none some = cc
 by_result p k F (Some t) fits none some = sym (some t) ∙ fits
 
 -- whether it gives no block
-abbrev pub gives_none : Program → Option tree.Type.Type → Bool
+abbrev pub gives_none : ProgramText → Option tree.Type.Type → Bool
 gives_none p None = true
 gives_none p (Some t) = not (is_block (type_meant p t))
 
-pub by_none : (p : Program) (F : Option tree.Type.Type → Bool) (result : Option tree.Type.Type) → F result ≡ true
+pub by_none : (p : ProgramText) (F : Option tree.Type.Type → Bool) (result : Option tree.Type.Type) → F result ≡ true
     → ((t : tree.Type.Type) → F (Some t) ≡ not (is_block (type_meant p t))) → gives_none p result ≡ true
 by_none p F None fits some = refl
 by_none p F (Some t) fits some = sym (some t) ∙ fits
 
 -- no call as a value is a send
-pub no_send : (p : Program) (class : ℕ) (s : Setting) (f : Frame) (g : names.Frame) (Is : MethodTree → Type 0) (c : CallTree) (alone : Bool)
+pub no_send : (p : ProgramText) (class : ℕ) (s : Setting) (f : LocalFrame) (g : names.NameFrame) (Is : MethodTree → Type 0) (c : CallTree) (alone : Bool)
     → CallsMethod p class f g Is c ⊎ ((alone ≡ true) × SendsMessage p class s f c) → alone ≡ false → CallsMethod p class f g Is c
 no_send p class s f g Is c alone (inl x) not_alone = x
 no_send p class s f g Is c alone (inr x) not_alone = cc
 
 -- A call as a value gives a block of the type that is asked.
-block_result : (p : Program) (s : Setting) (k : declared.ValueType.ValueType) (target : Mention) (v : VariableModel) (result : Option tree.Type.Type) → result_unknown p result ≡ []
+block_result : (p : ProgramText) (s : Setting) (k : declared.ValueType.ValueType) (target : Mention) (v : VariableModel) (result : Option tree.Type.Type) → result_unknown p result ≡ []
     → IsKnown p k → is_block k ≡ true → slice_get s.variables target.variable.0 ≡ Some v → IsHeld p k v.ty → gives_asked p result k ≡ true → IsTaken s (result_held p result) (Some target)
 block_result p s k target v None known asked block there holds fits = cc
 block_result p s k target v (Some t) known asked block there holds fits =
@@ -83,36 +83,36 @@ block_result p s k target v (Some t) known asked block there holds fits =
     subst (λ o. IsTaken s o (Some target)) (sym h.is) (holds_there s h.held target v there same)
 
 -- or nothing, where a scalar is asked
-scalar_result : (p : Program) (k : declared.ValueType.ValueType) (result : Option tree.Type.Type) → result_unknown p result ≡ [] → IsKnown p k → is_block k ≡ false
+scalar_result : (p : ProgramText) (k : declared.ValueType.ValueType) (result : Option tree.Type.Type) → result_unknown p result ≡ [] → IsKnown p k → is_block k ≡ false
     → gives_asked p result k ≡ true → result_held p result ≡ None
 scalar_result p k None known asked scalar fits = refl
 scalar_result p k (Some t) known asked scalar fits =
     let like = agree_alike p (type_meant p t) k (type_known p t known) asked fits in
     scalar_holds p (type_meant p t) (state_in t) (alike_block (type_meant p t) k like ∙ scalar)
 
-alone_result : (p : Program) (result : Option tree.Type.Type) → gives_none p result ≡ true → result_held p result ≡ None
+alone_result : (p : ProgramText) (result : Option tree.Type.Type) → gives_none p result ≡ true → result_held p result ≡ None
 alone_result p None fits = refl
 alone_result p (Some t) fits = scalar_holds p (type_meant p t) (state_in t) (not-true (is_block (type_meant p t)) fits)
 
 -- a call of a method, told
-pub told_call : (p : Program) (class : ℕ) (s : Setting) (f : Frame) (g : names.Frame) (c : CallTree) (target : Option Mention) (behind : List Mention) (Is : MethodTree → Type 0) → (x : CallsMethod p class f g Is c)
+pub told_call : (p : ProgramText) (class : ℕ) (s : Setting) (f : LocalFrame) (g : names.NameFrame) (c : CallTree) (target : Option Mention) (behind : List Mention) (Is : MethodTree → Type 0) → (x : CallsMethod p class f g Is c)
     → IsStatement s (Call (call_of p class f c target behind (record { number = x.number; method = x.method }))) → IsStatement s (called p class f c target behind)
 told_call p class s f g c target behind Is x fits = subst (λ o. IsStatement s (option_map_or Call (option_map (call_of p class f c target behind) o) (told [] does.Nothing))) (sym x.is) fits
 
 -- a call whose result no variable takes
-pub void_call : (p : Program) (t : ClassTree) (class : ℕ) (result : Option tree.Type.Type) (s : Setting) (f : Frame) (g : names.Frame) (c : CallTree) (behind : List Mention) (Is : MethodTree → Type 0)
+pub void_call : (p : ProgramText) (t : ClassTree) (class : ℕ) (result : Option tree.Type.Type) (s : Setting) (f : LocalFrame) (g : names.NameFrame) (c : CallTree) (behind : List Mention) (Is : MethodTree → Type 0)
     → Around p t class result s → AreStanding p s.variables f g → (x : CallsMethod p class f g Is c) → result_held p x.method.result ≡ None → Each (IsMention s) behind → IsStatement s (called p class f c None behind)
 void_call p t class result s f g c behind Is around standing x void mentioned =
     told_call p class s f g c None behind Is x (call_fits p t class result s f g c None behind Is around standing x (subst (λ o. IsTaken s o None) (sym void) tt, tt) mentioned)
 
 -- a call that stands alone
-pub alone_call : (p : Program) (t : ClassTree) (class : ℕ) (result : Option tree.Type.Type) (s : Setting) (f : Frame) (g : names.Frame) (c : CallTree)
+pub alone_call : (p : ProgramText) (t : ClassTree) (class : ℕ) (result : Option tree.Type.Type) (s : Setting) (f : LocalFrame) (g : names.NameFrame) (c : CallTree)
     → Around p t class result s → AreStanding p s.variables f g → (x : CallsMethod p class f g (λ m. gives_none p m.result ≡ true) c) → IsStatement s (called p class f c None [])
 alone_call p t class result s f g c around standing x =
     void_call p t class result s f g c [] (λ m. gives_none p m.result ≡ true) around standing x (alone_result p x.method.result x.fits) tt
 
 -- a call as a value: a method that gives the type that is asked
-asked_call : (p : Program) (t : ClassTree) (class : ℕ) (result : Option tree.Type.Type) (s : Setting) (f : Frame) (g : names.Frame) (k : declared.ValueType.ValueType) (c : CallTree)
+asked_call : (p : ProgramText) (t : ClassTree) (class : ℕ) (result : Option tree.Type.Type) (s : Setting) (f : LocalFrame) (g : names.NameFrame) (k : declared.ValueType.ValueType) (c : CallTree)
     → Around p t class result s → AreStanding p s.variables f g → value_mistakes (record { scope = scope_of p g; class = t }) k (values.Call c) ≡ []
     → CallsMethod p class f g (λ m. gives_asked p m.result k ≡ true) c
 asked_call p t class result s f g k c around standing none =
@@ -120,7 +120,7 @@ asked_call p t class result s f g k c around standing none =
     (call_means p t class result s f g _ c around standing none (λ m. gives_asked p m.result k ≡ true) (λ m name starts F same fits. by_result p k F m.result fits (same None) (λ x. same (Some x)))) refl
 
 -- what a new block reads
-made_within : (p : Program) (class : ℕ) (s : Setting) (f : Frame) (g : names.Frame) → AreStanding p s.variables f g → (m : MadeTree) → Each (IsMention s) (made_reads p class f m)
+made_within : (p : ProgramText) (class : ℕ) (s : Setting) (f : LocalFrame) (g : names.NameFrame) → AreStanding p s.variables f g → (m : MadeTree) → Each (IsMention s) (made_reads p class f m)
 made_within p class s f g standing (values.Struct name left given) = tt
 made_within p class s f g standing (values.Array element length) = reads_within p s.variables f g standing length
 
@@ -134,16 +134,16 @@ abbrev pub IsMade : Setting → HeapType → List Mention → Type 0
 IsMade s held given = (is_end held ≡ false) × HoldAll s (field_types s.structs held) (map (λ m. m.variable) given)
 
 -- a type that is like a pointer is one to the same struct
-pointer_made : (p : Program) (n : ℕ) (k : declared.ValueType.ValueType) (held : HeapType) → alike (ty.Pointer n) k ≡ true → IsHeld p k held → held ≡ struct_of (structs_before p.items n)
+pointer_made : (p : ProgramText) (n : ℕ) (k : declared.ValueType.ValueType) (held : HeapType) → alike (ty.Pointer n) k ≡ true → IsHeld p k held → held ≡ struct_of (structs_before p.items n)
 pointer_made p n (ty.Pointer m) held fits is = pointer_held p m held is ∙ ap (λ x. struct_of (structs_before p.items x)) (sym (eqb-true n m fits))
 pointer_made p n k held fits is = cc
 
-array_made : (p : Program) (s : Setting) (element : Scalar) (k : declared.ValueType.ValueType) (held : HeapType) → alike (ty.Array element) k ≡ true → IsHeld p k held → IsMade s held []
+array_made : (p : ProgramText) (s : Setting) (element : Scalar) (k : declared.ValueType.ValueType) (held : HeapType) → alike (ty.Array element) k ≡ true → IsHeld p k held → IsMade s held []
 array_made p s element (ty.Array e) held fits is = subst (λ h. IsMade s h []) (sym (array_held p e held is)) (refl, tt)
 array_made p s element k held fits is = cc
 
 -- what is given for a new struct
-given_fits : (p : Program) (class : ℕ) (s : Setting) (f : Frame) (g : names.Frame) (x : Numbered StructTree) (name : Span) (given : List ExpressionTree) → program_mistakes p ≡ [] → AreStanding p s.variables f g
+given_fits : (p : ProgramText) (class : ℕ) (s : Setting) (f : LocalFrame) (g : names.NameFrame) (x : Numbered StructTree) (name : Span) (given : List ExpressionTree) → program_mistakes p ≡ [] → AreStanding p s.variables f g
     → item_at as_struct p x.0 ≡ Some (x.0, x.1) → struct_made_mistakes (scope_of p g) (Some x) name (map shape given) ≡ [] → HoldAll s (fields_held p x.1.fields) (map (λ m. m.variable) (payloads p class f given))
 given_fits p class s f g x name given clean standing there none =
     let asked = fields_asked p x.1 in
@@ -156,7 +156,7 @@ given_fits p class s f g x name given clean standing there none =
     let found = subst (λ ks. argument_mistakes (scope_of p g) ks (map shape given) ≡ []) (sym same) both.1 in
     subst (λ ks. HoldAll s ks (map (λ m. m.variable) (payloads p class f given))) (params_are p x.1.fields) (payloads_given p class s f g standing params given known as_many_params found)
 
-struct_made : (p : Program) (class : ℕ) (s : Setting) (f : Frame) (g : names.Frame) (k : declared.ValueType.ValueType) (held : HeapType) (o : Option (Numbered StructTree)) (name : Span) (given : List ExpressionTree)
+struct_made : (p : ProgramText) (class : ℕ) (s : Setting) (f : LocalFrame) (g : names.NameFrame) (k : declared.ValueType.ValueType) (held : HeapType) (o : Option (Numbered StructTree)) (name : Span) (given : List ExpressionTree)
     → program_mistakes p ≡ [] → s.structs ≡ structs_told p → AreStanding p s.variables f g → struct_named p name ≡ o → IsKnown p k → struct_made_mistakes (scope_of p g) o name (map shape given) ≡ []
     → agree (pointer_type o) k ≡ true → IsHeld p k held → IsMade s held (payloads p class f given)
 struct_made p class s f g k held None name given clean structs standing named known none fits is = cc
@@ -167,7 +167,7 @@ struct_made p class s f g k held (Some x) name given clean structs standing name
     let holds = given_fits p class s f g x name given clean standing there none in
     subst (λ h. IsMade s h (payloads p class f given)) (sym same) (refl, subst (λ ks. HoldAll s ks (map (λ m. m.variable) (payloads p class f given))) (sym types) holds)
 
-made_fits : (p : Program) (class : ℕ) (s : Setting) (f : Frame) (g : names.Frame) (k : declared.ValueType.ValueType) (held : HeapType) (m : MadeTree) → program_mistakes p ≡ [] → s.structs ≡ structs_told p
+made_fits : (p : ProgramText) (class : ℕ) (s : Setting) (f : LocalFrame) (g : names.NameFrame) (k : declared.ValueType.ValueType) (held : HeapType) (m : MadeTree) → program_mistakes p ≡ [] → s.structs ≡ structs_told p
     → AreStanding p s.variables f g → IsKnown p k → made_mistakes (scope_of p g) m ≡ [] → agree (made_type (scope_of p g) m) k ≡ true → IsHeld p k held → IsMade s held (made_arguments p class f m)
 made_fits p class s f g k held (values.Struct name left given) clean structs standing known none fits is =
     struct_made p class s f g k held (struct_named p name) name given clean structs standing refl known none fits is
@@ -175,7 +175,7 @@ made_fits p class s f g k held (values.Array element length) clean structs stand
     array_made p s element k held (loud_left (is_silent k) (alike (ty.Array element) k) (known_loud p k known) fits) is
 
 -- a variable takes a new block
-new_fits : (p : Program) (t : ClassTree) (class : ℕ) (result : Option tree.Type.Type) (s : Setting) (f : Frame) (g : names.Frame) (k : declared.ValueType.ValueType) (target : Mention) (v : VariableModel) (n : NewTree)
+new_fits : (p : ProgramText) (t : ClassTree) (class : ℕ) (result : Option tree.Type.Type) (s : Setting) (f : LocalFrame) (g : names.NameFrame) (k : declared.ValueType.ValueType) (target : Mention) (v : VariableModel) (n : NewTree)
     → Around p t class result s → AreStanding p s.variables f g → IsKnown p k → slice_get s.variables target.variable.0 ≡ Some v → IsHeld p k v.ty
     → IsIn s target.variable → new_mistakes (scope_of p g) k n ≡ [] → IsNew s (new_of p class f target n.made)
 new_fits p t class result s f g k target v n around standing known there holds inside none =
@@ -189,7 +189,7 @@ new_fits p t class result s f g k target v n around standing known there holds i
     }
 
 -- a variable of the exchange heap takes a value
-pub taken_fits : (p : Program) (t : ClassTree) (class : ℕ) (result : Option tree.Type.Type) (s : Setting) (f : Frame) (g : names.Frame) (k : declared.ValueType.ValueType) (target : Mention) (v : VariableModel) (value : ValueTree)
+pub taken_fits : (p : ProgramText) (t : ClassTree) (class : ℕ) (result : Option tree.Type.Type) (s : Setting) (f : LocalFrame) (g : names.NameFrame) (k : declared.ValueType.ValueType) (target : Mention) (v : VariableModel) (value : ValueTree)
     → Around p t class result s → AreStanding p s.variables f g → IsKnown p k → is_block k ≡ true → slice_get s.variables target.variable.0 ≡ Some v → IsHeld p k v.ty
     → IsIn s target.variable → value_mistakes (record { scope = scope_of p g; class = t }) k value ≡ [] → IsStatement s (taken p class f target value)
 taken_fits p t class result s f g k target v (values.Expression e) around standing known block there holds inside none =
@@ -202,7 +202,7 @@ taken_fits p t class result s f g k target v (values.Call c) around standing kno
 taken_fits p t class result s f g k target v (values.New n) around standing known block there holds inside none = new_fits p t class result s f g k target v n around standing known there holds inside none
 
 -- a scalar takes a value
-pub scalar_taken_fits : (p : Program) (t : ClassTree) (class : ℕ) (result : Option tree.Type.Type) (s : Setting) (f : Frame) (g : names.Frame) (k : declared.ValueType.ValueType) (value : ValueTree)
+pub scalar_taken_fits : (p : ProgramText) (t : ClassTree) (class : ℕ) (result : Option tree.Type.Type) (s : Setting) (f : LocalFrame) (g : names.NameFrame) (k : declared.ValueType.ValueType) (value : ValueTree)
     → Around p t class result s → AreStanding p s.variables f g → IsKnown p k → is_block k ≡ false
     → value_mistakes (record { scope = scope_of p g; class = t }) k value ≡ [] → IsStatement s (scalar_taken p class f value)
 scalar_taken_fits p t class result s f g k (values.Expression e) around standing known scalar none = (reads_within p s.variables f g standing e, tt)
@@ -216,7 +216,7 @@ use_fits s None h = tt
 use_fits s (Some m) h = h.0
 
 -- a part of a block takes a value
-pub part_taken_fits : (p : Program) (t : ClassTree) (class : ℕ) (result : Option tree.Type.Type) (s : Setting) (f : Frame) (g : names.Frame) (k : declared.ValueType.ValueType) (index : List Mention) (whole : Option Mention) (value : ValueTree)
+pub part_taken_fits : (p : ProgramText) (t : ClassTree) (class : ℕ) (result : Option tree.Type.Type) (s : Setting) (f : LocalFrame) (g : names.NameFrame) (k : declared.ValueType.ValueType) (index : List Mention) (whole : Option Mention) (value : ValueTree)
     → Around p t class result s → AreStanding p s.variables f g → IsKnown p k → is_block k ≡ false → Each (IsMention s) index → Each (IsMention s) (listed whole)
     → value_mistakes (record { scope = scope_of p g; class = t }) k value ≡ [] → IsStatement s (part_taken p class f index whole value)
 part_taken_fits p t class result s f g k index whole (values.Expression e) around standing known scalar indices wholes none =

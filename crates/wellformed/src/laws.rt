@@ -2,7 +2,7 @@
 
 ghost use Rattle.std.specs.Prelude.{◌≡◌, []};
 ghost use Rattle.names.specs.Findings.{program_mistakes};
-ghost use Rattle.declarations.specs.Program.{Program};
+ghost use Rattle.declarations.specs.Program.{ProgramText};
 ghost use Rattle.declarations.specs.Resolution.{resolved_contracts};
 ghost use Rattle.program.specs.Lists.{Each};
 ghost use Rattle.program.specs.WellFormed.{AreWellFormed};
@@ -15,7 +15,7 @@ ghost use Rattle.wellformed.specs.Bare.{IsBare};
 /// If nothing is wrong with the names of a program, its methods are well formed in numbers (`formed`). A method of any program that
 /// takes nothing has no parameter of the exchange heap (`bare`).
 pub fn clean_methods_are_well_formed()
-    ensures formed { (p : Program) → program_mistakes p ≡ []
+    ensures formed { (p : ProgramText) → program_mistakes p ≡ []
         → AreWellFormed (resolved_contracts p.text (contracts_of p.items)) (messages_told p) (structs_told p) (methods_told p) }
-    ensures bare { (p : Program) → Each IsBare (methods_told p) }
+    ensures bare { (p : ProgramText) → Each IsBare (methods_told p) }
 {}

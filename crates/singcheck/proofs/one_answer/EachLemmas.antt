@@ -19,7 +19,7 @@ use Rattle.program.specs.declared.types.Side.TheVariants.{Exp, Imp}
 use Rattle.declarations.specs.Mistakes.{finding_in}
 use Rattle.names.specs.Findings.{program_findings, program_mistakes}
 use Rattle.declarations.specs.declared.mistake.Mistake.{Mistake}
-use Rattle.declarations.specs.Program.{Program}
+use Rattle.declarations.specs.Program.{ProgramText}
 use Rattle.declarations.specs.Resolution.{resolved_contracts}
 use Rattle.contracts.specs.Bounds.{IsBound, sign_to}
 use Rattle.contracts.specs.Conditions as conditions
@@ -41,9 +41,9 @@ pub record Answered : Type 0 where
   pub cut : (text : List ℕ) → ((tokens : List Token) × AreTokens text tokens) ⊎ ((fault : TextFault) × IsFault text fault)
   pub parsed : (tokens : List Token)
       → ((items : List ItemTree) → Spells program items tokens → ⊥) → ((k : ℕ) → IsFirstWrong program tokens k → ⊥) → ⊥
-  pub whole : (p : Program) → program_mistakes p ≡ []
+  pub whole : (p : ProgramText) → program_mistakes p ≡ []
       → All (λ (c : ContractModel). IsWhole c.parts) (resolved_contracts p.text (contracts_of p.items))
-  pub judged : (parts : Parts) → ((found : List FindingModel) → AreExactly (conditions.IsFault parts) found → ⊥) → ⊥
+  pub judged : (parts : Parts) → ((found : List FindingModel) → AreExactly (conditions.IsFlaw parts) found → ⊥) → ⊥
   pub bounded : (parts : Parts) → IsWhole parts → IsSound parts → (side : Side)
       → ((n : ℕ) → IsBound parts.edges parts.first (sign_to side) n → ⊥) → ⊥
   pub verdicts : (p : ProgramModel) (n : ℕ) → ((found : List FindingModel) → IsMethodVerdict p n found → ⊥) → ⊥
@@ -130,6 +130,6 @@ pub check_some : Answered → (text : List ℕ) → ((bytes : List ℕ) (status 
 check_some laws text none = sound_some laws text
     (λ found are. let report = report_there found in none report.0 Found (record { found = found; are = Before are; told = report.1 }))
     (λ items contracts program.
-    let named : Program = record { text = text; items = items } in
+    let named : ProgramText = record { text = text; items = items } in
     methods_some laws text (record { contracts = contracts; messages = messages_told named; structs = structs_told named; methods = methods_told named })
     (record { items = items; program = program; messages = refl; structs = refl; methods = refl }) none)

@@ -5,11 +5,11 @@ use Rattle.std.specs.Option.{option_map}
 use Rattle.program.specs.Parts.{ContractModel}
 use Rattle.program.specs.Programs.{ProgramModel}
 use Rattle.program.specs.declared.types.Side.{Side}
-use Rattle.declarations.specs.Program.{Program}
+use Rattle.declarations.specs.Program.{ProgramText}
 use Rattle.resolving.specs.Brought.{messages_told}
 use Rattle.resolving.specs.Fields.{structs_told}
 use Rattle.resolving.specs.Methods.{methods_told}
-use Rattle.machine.specs.Outcomes.{Bounds}
+use Rattle.machine.specs.Outcomes.{QueueBounds}
 use Rattle.machine.specs.Replays.{IsReplay, ReplayModel}
 use Rattle.machine.specs.Runs.{AreBounds}
 use Rattle.machine.specs.declared.halts.Event.{Event}
@@ -26,19 +26,19 @@ use Rattle.singcheck.proofs.one_answer.InsertLemmas.{report_there}
 
 -- what the crates below say: a program has bounds, a schedule is read, and events have a replay
 pub record Replaying : Type 0 where
-  pub bounds : (text : List ℕ) (p : ProgramModel) → HasProgram text p → ((bound : Bounds) → AreBounds p bound → ⊥) → ⊥
+  pub bounds : (text : List ℕ) (p : ProgramModel) → HasProgram text p → ((bound : QueueBounds) → AreBounds p bound → ⊥) → ⊥
   pub read : (bytes : List ℕ) → ((events : List Event) → ¬ IsSchedule bytes events) → ((n : ℕ) → ¬ IsFirstMalformed bytes n) → ⊥
-  pub replays : (p : ProgramModel) (bound : Bounds) (m : ℕ) (events : List Event)
+  pub replays : (p : ProgramModel) (bound : QueueBounds) (m : ℕ) (events : List Event)
       → ((r : ReplayModel) → ¬ IsReplay p bound m events r) → ⊥
 
 -- a program has one bound for each end of a contract
-bound_at : (p : ProgramModel) (a b : Bounds) (n : ℕ) (side : Side) → AreBounds p a → AreBounds p b
+bound_at : (p : ProgramModel) (a b : QueueBounds) (n : ℕ) (side : Side) → AreBounds p a → AreBounds p b
     → (o : Option ContractModel) → slice_get p.contracts n ≡ o → a n side ≡ b n side
 bound_at p a b n side are also None none = sym (bound_past p a n side are none) ∙ bound_past p b n side also none
 bound_at p a b n side are also (Some c) there =
     bound_is p b n side c.parts (a n side) also (ap (option_map (λ (x : ContractModel). x.parts)) there) ∣ are.are n c side there ∣₁
 
-one_bounds : (p : ProgramModel) (a b : Bounds) → AreBounds p a → AreBounds p b → a ≡ b
+one_bounds : (p : ProgramModel) (a b : QueueBounds) → AreBounds p a → AreBounds p b → a ≡ b
 one_bounds p a b are also = fun_ext (λ n. fun_ext (λ side. bound_at p a b n side are also (slice_get p.contracts n) refl))
 
 -- from an entry, the events of a schedule come to something
@@ -55,7 +55,7 @@ ran_some laws entry lines text p n events entered told none = laws.bounds text p
       events = events;
       told = told;
       replayed = r;
-      led = λ other others. subst (λ (b : Bounds). IsReplay p b n events r) (one_bounds p bound other are others) is;
+      led = λ other others. subst (λ (b : QueueBounds). IsReplay p b n events r) (one_bounds p bound other are others) is;
       are = refl;
       is = refl;
     })))
@@ -83,6 +83,6 @@ replay_some stages laws entry lines text none = sound_some stages text
     let report = report_there found in
     none (answered report.0 Found (OfFindings (record { found = found; are = are; told = report.1 }) refl)))
     (λ items contracts program.
-    let named : Program = record { text = text; items = items } in
+    let named : ProgramText = record { text = text; items = items } in
     entered_some laws entry lines text (record { contracts = contracts; messages = messages_told named; structs = structs_told named; methods = methods_told named })
     (record { items = items; program = program; messages = refl; structs = refl; methods = refl }) none)

@@ -30,20 +30,20 @@ both P Q R xs ys one other so why = record {
   all = λ f r. ⊎_elim (λ p. Contains-append_left xs ys f (one.all f p)) (λ q. Contains-append_right xs ys f (other.all f q)) (why f r);
 }
 
-pub broken_some : ((parts : Parts) → ((found : List FindingModel) → AreExactly (conditions.IsFault parts) found → ⊥) → ⊥)
+pub broken_some : ((parts : Parts) → ((found : List FindingModel) → AreExactly (conditions.IsFlaw parts) found → ⊥) → ⊥)
     → (contracts : List ContractModel) → ((found : List FindingModel) → AreExactly (IsBroken contracts) found → ⊥) → ⊥
 broken_some judged [] none = none [] (record { right = λ f h. absurd (nothing_in f h); all = λ f b. absurd (nothing_in b.0 b.1) })
 broken_some judged (c ∷ cs) none =
     judged c.parts (λ here one. broken_some judged cs (λ later others.
-    none (here ++ later) (both (conditions.IsFault c.parts) (IsBroken cs) (IsBroken (c ∷ cs)) here later one others broken which)))
+    none (here ++ later) (both (conditions.IsFlaw c.parts) (IsBroken cs) (IsBroken (c ∷ cs)) here later one others broken which)))
   where
-    broken : (f : FindingModel) → conditions.IsFault c.parts f ⊎ IsBroken cs f → IsBroken (c ∷ cs) f
+    broken : (f : FindingModel) → conditions.IsFlaw c.parts f ⊎ IsBroken cs f → IsBroken (c ∷ cs) f
     broken f (inl k) = (c, contains_first c cs, k)
     broken f (inr k) = (k.0, behind_front c k.0 cs k.1, k.2)
 
-    which : (f : FindingModel) → IsBroken (c ∷ cs) f → conditions.IsFault c.parts f ⊎ IsBroken cs f
+    which : (f : FindingModel) → IsBroken (c ∷ cs) f → conditions.IsFlaw c.parts f ⊎ IsBroken cs f
     which f b = ⊎_elim
-        (λ same. inl (subst (λ x. conditions.IsFault x.parts f) (sym same) b.2))
+        (λ same. inl (subst (λ x. conditions.IsFlaw x.parts f) (sym same) b.2))
         (λ behind. inr (b.0, behind, b.2))
         (front_or_behind c b.0 cs b.1)
 

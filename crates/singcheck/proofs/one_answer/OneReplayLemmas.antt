@@ -3,7 +3,7 @@ use Rattle.std.proofs.Common.{◌≡◌, ℕ, Bool, true, false, List, refl, sym
 use Rattle.std.specs.Prelude.{nat_eq}
 use Rattle.std.specs.Cmp.Lexicographic.{pointwise, same_text, other_text}
 use Rattle.program.specs.Programs.{ProgramModel}
-use Rattle.machine.specs.Outcomes.{Bounds}
+use Rattle.machine.specs.Outcomes.{QueueBounds}
 use Rattle.machine.specs.Replays.{IsReplay, ReplayModel}
 use Rattle.machine.specs.Runs.{AreBounds}
 use Rattle.machine.specs.declared.halts.Event.{Event}
@@ -12,7 +12,7 @@ use Rattle.replays.specs.WorldLines.{replay_lines}
 use Rattle.devices.specs.declared.fault.Status.{Status}
 use Rattle.devices.specs.declared.fault.Status.TheVariants.{Empty, Found}
 use Rattle.singcheck.specs.Checks.{HasProgram}
-use Rattle.singcheck.specs.Entered.{Begins}
+use Rattle.singcheck.specs.Entered.{MayBegin}
 use Rattle.singcheck.specs.Replays.{HasEntry, IsFirstAt, IsRan, LacksEntry, LacksSchedule, OfFindings, OfRun, Replays, method_names}
 use Rattle.singcheck.specs.Replays.{stop_status, struct_names}
 use Rattle.singcheck.proofs.EntryLemmas.{first_once}
@@ -23,10 +23,10 @@ use Rattle.singcheck.proofs.one_answer.SameLemmas.{one_report}
 -- what the crates below say of replays
 pub record ReplayLaws : Type 0 where
   pub laws : Laws
-  pub bounds : (text : List ℕ) (p : ProgramModel) → HasProgram text p → ((bound : Bounds) → AreBounds p bound → ⊥) → ⊥
+  pub bounds : (text : List ℕ) (p : ProgramModel) → HasProgram text p → ((bound : QueueBounds) → AreBounds p bound → ⊥) → ⊥
   pub reading : (bytes : List ℕ) (a b : List Event) → IsSchedule bytes a → IsSchedule bytes b → a ≡ b
   pub apart : (bytes : List ℕ) (events : List Event) (n : ℕ) → IsSchedule bytes events → IsFirstMalformed bytes n → ⊥
-  pub replays : (p : ProgramModel) (bound : Bounds) (n : ℕ) (events : List Event) (r s : ReplayModel)
+  pub replays : (p : ProgramModel) (bound : QueueBounds) (n : ℕ) (events : List Event) (r s : ReplayModel)
       → IsReplay p bound n events r → IsReplay p bound n events s → r ≡ s
 
 -- bytes that cannot differ are the same
@@ -59,7 +59,7 @@ module _ (known : ReplayLaws) (entry lines text a b : List ℕ) (s t : Status) (
   one_events : x.events ≡ y.events
   one_events = known.reading lines x.events y.events x.told y.told
 
-  moved : (bound : Bounds) → AreBounds y.program bound → IsReplay y.program bound y.n y.events x.replayed
+  moved : (bound : QueueBounds) → AreBounds y.program bound → IsReplay y.program bound y.n y.events x.replayed
   moved bound are =
       subst (λ l. IsReplay y.program bound y.n l x.replayed) one_events
       (subst (λ m. IsReplay y.program bound m x.events x.replayed) one_method
@@ -115,7 +115,7 @@ entered_or_lacking known text entry p n has lacks =
     let items = one_items known.laws text p lacks.program has.has lacks.has in
     lacks.none n (record {
       named = subst (λ l. IsFirstAt (method_names text l) entry n) items has.at.named;
-      begins = subst (λ (q : ProgramModel). Begins q n) program has.at.begins;
+      begins = subst (λ (q : ProgramModel). MayBegin q n) program has.at.begins;
     })
 
 pub no_entry : ReplayLaws → (entry lines text bytes : List ℕ) (status : Status) → LacksEntry text entry

@@ -26,7 +26,7 @@ use Rattle.program.specs.declared.contract.Edge.{Edge}
 use Rattle.program.specs.declared.number.StateId.{StateId}
 use Rattle.contracts.specs.Bounds.{IsBound}
 use Rattle.contracts.specs.Conditions.{AreExactly, IsSound}
-use Rattle.singcheck.specs.Answers.{AreBounds, AreFindings, IsBoundsLine, IsBroken, IsFaulty, IsMisnamed, IsNoProgram, IsProgram, IsResolved, OfText, OfSyntax, OfNames, OfContracts, fault_findings, wrong_token}
+use Rattle.singcheck.specs.Answers.{IsBoundsReport, AreFindings, IsBoundsLine, IsBroken, IsFaulty, IsMisnamed, IsNoProgram, IsProgram, IsResolved, OfText, OfSyntax, OfNames, OfContracts, fault_findings, wrong_token}
 use Rattle.singcheck.specs.Lines.{bounds_line, ok_line}
 use Rattle.singcheck.proofs.one_answer.SameLemmas.{AreAlike, alike_exactly, alike_same, nothing_in}
 use Rattle.machine.proofs.BoundLemmas.{least}
@@ -107,7 +107,7 @@ found_or_sound laws text found contracts (OfContracts h) resolved sound =
     broken_or_sound contracts first.0 sound (subst (λ l. IsBroken l first.0) same (h.are.right first.0 first.1))
 
 -- a text with findings has no bounds
-pub found_or_bounds : Laws → (text bytes : List ℕ) (found : List FindingModel) → AreFindings text found → AreBounds text bytes → ⊥
+pub found_or_bounds : Laws → (text bytes : List ℕ) (found : List FindingModel) → AreFindings text found → IsBoundsReport text bytes → ⊥
 found_or_bounds laws text bytes found h are = found_or_sound laws text found are.contracts h are.resolved are.sound
 
 -- the findings of a text are the same
@@ -156,7 +156,7 @@ one_lines (c ∷ cs) [] ms one other = absurd one
 one_lines (c ∷ cs) (l ∷ ls) [] one other = absurd other
 one_lines (c ∷ cs) (l ∷ ls) (m ∷ ms) one other = ap (λ x. x ∷ ls) (one_line c l m one.0 other.0) ∙ ap (λ x. m ∷ x) (one_lines cs ls ms one.1 other.1)
 
-pub one_bounds : Laws → (text a b : List ℕ) → AreBounds text a → AreBounds text b → a ≡ b
+pub one_bounds : Laws → (text a b : List ℕ) → IsBoundsReport text a → IsBoundsReport text b → a ≡ b
 one_bounds laws text a b one other =
     let same : one.contracts ≡ other.contracts = one_resolved laws text one.contracts other.contracts one.resolved other.resolved in
     let lines : one.lines ≡ other.lines = one_lines other.contracts one.lines other.lines (subst (λ l. AllZip IsBoundsLine l one.lines) same one.each) other.each in

@@ -14,7 +14,7 @@ use Rattle.contracts.specs.Leaving.{end_on}
 use Rattle.rules.specs.Endpoints.{edges_out}
 use Rattle.machine.specs.Blocks.{is_own_still, exchanged_block, goes_with, handed, sent_block, freed_block}
 use Rattle.machine.specs.Frames.{address, addresses}
-use Rattle.machine.specs.Outcomes.{Outcome, Moved, Faulty, Bounds, Test, test, tested}
+use Rattle.machine.specs.Outcomes.{Outcome, Moved, Faulty, QueueBounds, FaultTest, test, tested}
 use Rattle.machine.specs.World.{no_type, MessageHeld, Block, Frame, World, block_at, read, owns}
 use Rattle.machine.specs.World.{is_inside, is_queue, is_freed, changed, no_block}
 use Rattle.machine.specs.declared.halts.Fault.TheVariants.{F1, F3, F6}
@@ -50,12 +50,12 @@ IsFine p (Faulty F6) = ⊥
 IsFine p _ = Unit {0}
 
 -- ---- tests
-pub one_test : (p : ProgramModel) (b : Bool) (fault : Fault) (tests : List Test) (o : Outcome) → (b ≡ false → IsFine p (Faulty fault))
+pub one_test : (p : ProgramModel) (b : Bool) (fault : Fault) (tests : List FaultTest) (o : Outcome) → (b ≡ false → IsFine p (Faulty fault))
     → (b ≡ true → IsFine p (tested tests o)) → IsFine p (tested (test b fault ∷ tests) o)
 one_test p true fault tests o f g = g refl
 one_test p false fault tests o f g = f refl
 
-pub tested_append : (xs ys : List Test) (o : Outcome) → tested (xs ++ ys) o ≡ tested xs (tested ys o)
+pub tested_append : (xs ys : List FaultTest) (o : Outcome) → tested (xs ++ ys) o ≡ tested xs (tested ys o)
 tested_append [] ys o = refl
 tested_append (None ∷ xs) ys o = tested_append xs ys o
 tested_append (Some fault ∷ xs) ys o = refl
@@ -88,7 +88,7 @@ plain_append self bs more fresh h a no_end = queue_append self bs more a fresh �
     (λ short. h a (ap (λ (b : Block). is_end b.ty) (sym (block_append bs more a short)) ∙ no_end))
     (λ past. ap (λ (b : Block). b.queue) (block_past bs a past)) (cases_lt a (length bs))
 
-module _ (p : ProgramModel) (bound : Bounds) (w : World) (self : ℕ) (f : Frame) (rest : List Frame) (h : RunFits p w.blocks) where
+module _ (p : ProgramModel) (bound : QueueBounds) (w : World) (self : ℕ) (f : Frame) (rest : List Frame) (h : RunFits p w.blocks) where
   -- a variable of which the process has the block
   pub record OwnAt (x : Option ℕ) : Type 0 where
     pub at : ℕ

@@ -15,7 +15,7 @@ use Rattle.program.specs.declared.types.Side.{Side}
 use Rattle.contracts.specs.TwoEnds.{Ends}
 use Rattle.machine.specs.Blocks.{new_block}
 use Rattle.machine.specs.Frames.{method_at, type_at, variables_of}
-use Rattle.machine.specs.Heaps.{IsHeld}
+use Rattle.machine.specs.Heaps.{FieldsHold}
 use Rattle.machine.specs.World.{no_type, MessageHeld, Block, block_at, owns, freed, is_inside, is_process, is_queue, is_freed}
 use Rattle.machine.proofs.Holding.{held_same}
 use Rattle.machine.specs.World.{is_empty}
@@ -123,7 +123,7 @@ inside_append [] more x a bare = bare.outside x a
 inside_append (b ∷ bs) more zero a bare = refl
 inside_append (b ∷ bs) more (suc x) a bare = inside_append bs more x a bare
 
-pub held_append : (bs more : List Block) → AreBare more → IsHeld bs → IsHeld (bs ++ more)
+pub held_append : (bs more : List Block) → AreBare more → FieldsHold bs → FieldsHold (bs ++ more)
 held_append bs more bare h =
     held_same bs (bs ++ more) (λ a. fields_append bs more a bare) (λ j a. inside_append bs more j a bare) h
 

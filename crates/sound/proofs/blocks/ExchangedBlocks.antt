@@ -7,7 +7,7 @@ use Rattle.program.specs.Programs.{ProgramModel}
 use Rattle.program.specs.WellFormed.{field_types, is_end}
 use Rattle.program.specs.declared.types.HeapType.{HeapType}
 use Rattle.machine.specs.Blocks.{exchanged_block}
-use Rattle.machine.specs.Heaps.{IsHeld}
+use Rattle.machine.specs.Heaps.{FieldsHold}
 use Rattle.machine.specs.World.{Block, MessageHeld, World, block_at, changed, freed, is_empty, is_freed, is_process, is_queue, owns, read}
 use Rattle.machine.specs.declared.worlds.Owner.{Owner}
 use Rattle.machine.specs.declared.worlds.Owner.TheVariants.{Process, Inside}
@@ -70,7 +70,7 @@ module _ (p : ProgramModel) (w : World) (self : ℕ) (h : BlocksFit p w.blocks) 
   pub long : length bs' ≡ length w.blocks
   long = changed_length (exchanged_block self at field given held) w.blocks
 
-  pub held_now : IsHeld bs'
+  pub held_now : FieldsHold bs'
   held_now = held_exchange.exchange_held w.blocks self at field given held h.held owned_at owned_given apart found
 
   -- nothing is freed, and nothing goes into a queue or out of one

@@ -5,7 +5,7 @@ use Rattle.program.specs.Lists.{is_among}
 use Rattle.program.specs.Programs.{ProgramModel}
 use Rattle.program.specs.WellFormed.{is_end}
 use Rattle.machine.specs.Blocks.{handed}
-use Rattle.machine.specs.Heaps.{IsHeld}
+use Rattle.machine.specs.Heaps.{FieldsHold}
 use Rattle.machine.specs.World.{Block, MessageHeld, block_at, owns, freed, is_empty, is_inside, is_queue, is_freed}
 use Rattle.machine.proofs.Holding.{held_same, process_no_queue, process_not_inside}
 use Rattle.sound.proofs.Kept.{AreKept, LiesInside, SameFields, brought_kept}
@@ -91,7 +91,7 @@ module _ (p : ProgramModel) (bs bs' : List Block) (self : ℕ) (given : List ℕ
         by true e = no_block b ∙ sym (process_not_inside (block_at bs j).owner self b (mine j e))
         by false e = refl
 
-    pub handed_held : IsHeld bs'
+    pub handed_held : FieldsHold bs'
     handed_held = held_same bs bs' (λ j. ap (λ (b : Block). b.fields) (at j)) handed_inside h.held
 
     pub handed_fits : BlocksFit p bs'

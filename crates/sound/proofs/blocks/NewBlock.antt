@@ -9,7 +9,7 @@ use Rattle.program.specs.Programs.{ProgramModel}
 use Rattle.program.specs.WellFormed.{field_types, is_end}
 use Rattle.program.specs.declared.types.HeapType.{HeapType}
 use Rattle.machine.specs.Blocks.{handed}
-use Rattle.machine.specs.Heaps.{IsHeld}
+use Rattle.machine.specs.Heaps.{FieldsHold}
 use Rattle.machine.specs.World.{Block, World, block_at, is_freed, is_process, owns}
 use Rattle.machine.specs.declared.worlds.Owner.TheVariants.{Inside}
 use Rattle.machine.proofs.HeldNew as held_new
@@ -47,7 +47,7 @@ module _ (p : ProgramModel) (w : World) (self : ℕ) (h : BlocksFit p w.blocks) 
   fresh : AreFresh self (b ∷ [])
   fresh = fresh_one self k given
 
-  pub held_now : IsHeld grown
+  pub held_now : FieldsHold grown
   held_now = held_new.new_held w.blocks self given k h.held mine (λ x. occurs_standing given x ∙ once x)
 
   pub fits_now : BlocksFit p grown

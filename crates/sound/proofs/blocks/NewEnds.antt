@@ -15,7 +15,7 @@ use Rattle.rules.specs.Endpoints.{first_state}
 use Rattle.machine.specs.Blocks.{new_block, end_type}
 use Rattle.program.specs.WellFormed.{field_types}
 use Rattle.program.specs.declared.types.HeapType.{HeapType}
-use Rattle.machine.specs.Heaps.{IsHeld}
+use Rattle.machine.specs.Heaps.{FieldsHold}
 use Rattle.machine.specs.World.{Block, block_at, is_inside, is_process, is_queue, is_freed}
 use Rattle.sound.specs.Operands.{stateless}
 use Rattle.sound.proofs.Basics.{block_append, block_appended}
@@ -111,7 +111,7 @@ module _ (p : ProgramModel) (bs : List Block) (self : ℕ) (c : made.Channel) (h
       outside (suc zero) a = refl
       outside (suc (suc k)) a = refl
 
-  pub held_now : IsHeld bs → IsHeld bs'
+  pub held_now : FieldsHold bs → FieldsHold bs'
   held_now h = held_append bs (b1 ∷ b2 ∷ []) bare h
 
   pub long_now : length bs' ≡ n + 2
@@ -195,7 +195,7 @@ module _ (p : ProgramModel) (bs : List Block) (self : ℕ) (c : made.Channel) (h
       (subst (λ (ks : List HeapType). AreDeclared bs' ks b.fields) (sym types)
       (subst (λ (xs : List ℕ). AreDeclared bs' [] xs) (sym fields) tt))
 
-  pub declared_now : IsHeld bs → FieldsDeclared p bs → FieldsDeclared p bs'
+  pub declared_now : FieldsHold bs → FieldsDeclared p bs → FieldsDeclared p bs'
   declared_now h were j within lives = ⊎_elim
       (λ short. fields_kept p bs bs' j h (same_append p bs (b1 ∷ b2 ∷ [])) were short lives)
       (λ past. ⊎_elim

@@ -12,7 +12,7 @@ use Rattle.contracts.specs.Bounds.{sign_to}
 use Rattle.contracts.specs.TwoEnds.{Leads}
 use Rattle.rules.specs.Endpoints.{brought}
 use Rattle.machine.specs.Blocks.{received_block}
-use Rattle.machine.specs.Heaps.{IsHeld}
+use Rattle.machine.specs.Heaps.{FieldsHold}
 use Rattle.machine.specs.World.{no_type, MessageHeld, Block, World, block_at, owns, freed, is_inside, is_process, is_queue, is_freed}
 use Rattle.machine.specs.World.{is_empty}
 use Rattle.machine.proofs.Holding.{held_same, process_no_queue, process_not_inside, queue_not_inside}
@@ -206,7 +206,7 @@ module _ (p : ProgramModel) (w : World) (self : ℕ) (h : BlocksFit p w.blocks) 
         by true e = sym (queue_not_inside (block_at w.blocks j).owner a b (queued j e))
         by false e = refl
 
-    pub held_now : IsHeld got
+    pub held_now : FieldsHold got
     held_now = held_same w.blocks got (λ j. ap (λ (b : Block). b.fields) (at j)) inside_now h.held
 
     pub fields_now : SameFields p w.blocks got

@@ -13,7 +13,7 @@ use Rattle.contracts.specs.Leaving.{sign_from}
 use Rattle.contracts.specs.TwoEnds.{Leads}
 use Rattle.rules.specs.Endpoints.{brought}
 use Rattle.machine.specs.Blocks.{sent_block}
-use Rattle.machine.specs.Heaps.{IsHeld}
+use Rattle.machine.specs.Heaps.{FieldsHold}
 use Rattle.machine.specs.World.{no_type, MessageHeld, Block, World, block_at, owns, freed, cut_off, is_inside, is_process, is_queue}
 use Rattle.machine.specs.World.{is_freed}
 use Rattle.machine.proofs.Holding.{held_same, process_no_queue, process_not_inside, owned_there}
@@ -292,7 +292,7 @@ module _ (p : ProgramModel) (w : World) (self : ℕ) (h : BlocksFit p w.blocks) 
         by true e = handed_inside gone to b ∙ sym (process_not_inside (block_at w.blocks j).owner self b (mine j e))
         by false e = refl
 
-    pub held_now : IsHeld sent
+    pub held_now : FieldsHold sent
     held_now = held_same w.blocks sent (λ j. ap (λ (b : Block). b.fields) (at j)) inside_now h.held
 
     pub fields_now : SameFields p w.blocks sent

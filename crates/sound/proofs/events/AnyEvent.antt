@@ -18,7 +18,7 @@ use Rattle.contracts.specs.Leaving.{sign_from}
 use Rattle.contracts.specs.TwoEnds.{Leads, HeldAlways, NeverLonger}
 use Rattle.machine.specs.Blocks.{sent_block, received_block, bound_of}
 use Rattle.machine.specs.Frames.{address}
-use Rattle.machine.specs.Outcomes.{Outcome, Bounds, test, tested, Waits}
+use Rattle.machine.specs.Outcomes.{Outcome, QueueBounds, test, tested, Waits}
 use Rattle.machine.specs.World.{MessageHeld, Block, Frame, World, block_at, read, owns, freed, cut_off, is_empty, changed}
 use Rattle.machine.specs.declared.halts.Fault.TheVariants.{F1, F4, F6}
 use Rattle.sound.specs.Operands.{stateless}
@@ -37,7 +37,7 @@ use Rattle.machine.proofs.Holding.{owned_there}
 use Rattle.rules.proofs.EndLemmas.{each_at}
 use Rattle.machine.proofs.ChangeLemmas.{true≢false}
 
-module _ (p : ProgramModel) (bound : Bounds) (w : World) (self : ℕ) (f : Frame) (rest : List Frame) (h : RunFits p w.blocks) where
+module _ (p : ProgramModel) (bound : QueueBounds) (w : World) (self : ℕ) (f : Frame) (rest : List Frame) (h : RunFits p w.blocks) where
   -- ---- Send
   sent_fits : (a state' : ℕ) (m : MessageHeld) (c : ℕ) (side : Side) (owned : owns w.blocks self a ≡ true)
       (ty : stateless (block_at w.blocks a).ty ≡ Endpoint record { 0 = c } side record { 0 = 0 })

@@ -12,7 +12,7 @@ use Rattle.program.specs.declared.method.Role.TheVariants as role
 use Rattle.program.specs.declared.method.Role.{Role}
 use Rattle.flow.specs.Lowering.{graph_of}
 use Rattle.rules.specs.Mentions.{is_lent_role}
-use Rattle.rows.specs.Rows.{leaf_at, given}
+use Rattle.rows.specs.Rows.{leaf_at, leaf_or_nothing}
 use Rattle.rules.specs.Steps.{entry_leaf}
 use Rattle.rows.specs.declared.row.Leaf.TheVariants as leaf
 use Rattle.machine.specs.Heaps as heaps
@@ -66,7 +66,7 @@ start_holds p m graphs entry =
   where
     leaf_of : (v : ℕ) (y : VariableModel) → slice_get entry.method.variables v ≡ Some y
         → leaf_at (map (λ z. entry_leaf z.role z.ty) entry.method.variables) v ≡ leaf.Nothing
-    leaf_of v y there = ap given (slice_get-map (λ (z : VariableModel). entry_leaf z.role z.ty) entry.method.variables v
+    leaf_of v y there = ap leaf_or_nothing (slice_get-map (λ (z : VariableModel). entry_leaf z.role z.ty) entry.method.variables v
         ∙ ap (option_map (λ (z : VariableModel). entry_leaf z.role z.ty)) there) ∙ local_leaf y.role y.ty (entry.alone v y there)
 
     stacks : (q : ℕ) → StackFits p [] (stack_at ((record {

@@ -25,7 +25,7 @@ use Rattle.rows.specs.declared.row.Leaf.{Leaf}
 use Rattle.analyse.specs.Reach.{Reached}
 use Rattle.machine.specs.Blocks.{is_own_still}
 use Rattle.machine.specs.Frames.{method_at, filled, address, entered_at, instruction_at, point_instruction}
-use Rattle.machine.specs.Outcomes.{Moved, Bounds}
+use Rattle.machine.specs.Outcomes.{Moved, QueueBounds}
 use Rattle.machine.specs.World.{Frame, World, stack_at, read, owns, let_go}
 use Rattle.machine.specs.declared.halts.Fault.TheVariants.{F1, F3}
 use Rattle.sound.specs.GraphFit.{IsGraphFit, IsCallFit}
@@ -101,7 +101,7 @@ taken_more vs taken a x (b ∷ arguments) once is apart h = (
   taken_more vs taken a x arguments once is apart.1 h.1,
 )
 
-module _ (p : ProgramModel) (bound : Bounds) (w : World) (self : ℕ) (f : Frame) (rest : List Frame) where
+module _ (p : ProgramModel) (bound : QueueBounds) (w : World) (self : ℕ) (f : Frame) (rest : List Frame) where
   pub arguments_hold : (row : List Leaf) (types : List HeapType) (taken : List ℕ) (arguments : List Argument)
       → ((y : ℕ) → standing y f.variables ≤ 1) → ((y v : ℕ) → read f.variables v ≡ Some y → owns w.blocks self y ≡ true)
       → PairApart arguments → TakenApart f.variables taken arguments → ArgsFit w.blocks f.variables row types arguments
@@ -182,7 +182,7 @@ call_sum : (new us go vs cu cl su sv kept wait held : ℕ) → new ≡ sv → us
     → held ≡ vs + wait → new + (kept + wait) ≡ held
 call_sum new us go vs cu cl su sv kept wait held c1 c2 c3 c4 c5 c6 c7 = omega arith
 
-pub good_call : (p : ProgramModel) (bound : Bounds) (w : World) (self choice : ℕ) (f : Frame) (rest : List Frame) (m : MethodModel)
+pub good_call : (p : ProgramModel) (bound : QueueBounds) (w : World) (self choice : ℕ) (f : Frame) (rest : List Frame) (m : MethodModel)
     (place : Place) (method : MethodId) (arguments : List Argument) (target : Option Mention) (next : ℕ)
     → Here p w self f rest m (Call place method arguments target next)
     → ((h : IsGraphFit p m) → IsCallFit p m h.scope f.point method.0 arguments target next)

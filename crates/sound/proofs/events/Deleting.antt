@@ -12,9 +12,9 @@ use Rattle.rules.specs.Mentions.{is_lent, has_something, is_not_lent}
 use Rattle.rows.specs.Rows.{is_owned}
 use Rattle.rows.specs.declared.row.Leaf.TheVariants as leaf
 use Rattle.machine.specs.Blocks.{freed_block, goes_with}
-use Rattle.machine.specs.Heaps.{IsHeld, of_process}
+use Rattle.machine.specs.Heaps.{FieldsHold, of_process}
 use Rattle.machine.specs.Frames.{address}
-use Rattle.machine.specs.Outcomes.{Moved, Bounds, test}
+use Rattle.machine.specs.Outcomes.{Moved, QueueBounds, test}
 use Rattle.machine.specs.World.{MessageHeld, Block, Frame, World, block_at, read, owns, freed, is_process, is_queue, is_freed}
 use Rattle.machine.specs.World.{is_empty, changed}
 use Rattle.machine.specs.declared.halts.Fault.TheVariants.{F2}
@@ -155,7 +155,7 @@ module _ (p : ProgramModel) (w : World) (self : ℕ) (h : BlocksFit p w.blocks) 
       stays n = ap (in_queue x) (queue_other j n)
           ∙ (h.queues j x ∙ sym (ap one_if (ap (λ (o : Owner). is_queue o j) (owner_at x) ∙ same n (goes x) refl)))
 
-  pub held_now : IsHeld bs'
+  pub held_now : FieldsHold bs'
   held_now = held_freed w.blocks a h.held own
 
   fields_now : SameFields p w.blocks bs'
@@ -217,7 +217,7 @@ module _ (p : ProgramModel) (w : World) (self : ℕ) (h : BlocksFit p w.blocks) 
           (λ f. ap (λ (b : Bool). not b && owns w.blocks self j) f) (cases_Bool (goes j))) in
           omega arith
 
-pub good_delete : (p : ProgramModel) (bound : Bounds) (w : World) (self choice : ℕ) (f : Frame) (rest : List Frame) (m : MethodModel)
+pub good_delete : (p : ProgramModel) (bound : QueueBounds) (w : World) (self choice : ℕ) (f : Frame) (rest : List Frame) (m : MethodModel)
     (v : Mention) (next : ℕ)
     → Here p w self f rest m (Delete v next) → IsGood p w (event_of p bound w self f rest (Delete v next) choice)
 good_delete p bound w self choice f rest m v next h =

@@ -15,7 +15,7 @@ use Rattle.rows.specs.Rows.{is_owned, leaf_at}
 use Rattle.rules.specs.RuleTable.{exchanged}
 use Rattle.machine.specs.Blocks.{exchanged_block, is_own_still}
 use Rattle.machine.specs.Frames.{address}
-use Rattle.machine.specs.Outcomes.{Bounds, Moved, test}
+use Rattle.machine.specs.Outcomes.{QueueBounds, Moved, test}
 use Rattle.machine.specs.World.{Block, Frame, World, block_at, changed, owns, read}
 use Rattle.machine.specs.declared.halts.Fault.TheVariants.{F1, F3}
 use Rattle.sound.specs.GraphFit.{IsExchangeFit, IsGraphFit}
@@ -60,7 +60,7 @@ still_holds bs self taken x owned apart =
     and_one true = refl
     and_one false = refl
 
-pub good_exchange : (p : ProgramModel) (bound : Bounds) (w : World) (self choice : ℕ) (f : Frame) (rest : List Frame) (m : MethodModel)
+pub good_exchange : (p : ProgramModel) (bound : QueueBounds) (w : World) (self choice : ℕ) (f : Frame) (rest : List Frame) (m : MethodModel)
     (e : stated.Exchange) (next : ℕ) → Here p w self f rest m (Exchange e next)
     → ((h : IsGraphFit p m) → IsExchangeFit p m h.scope f.point e next)
     → IsGood p w (event_of p bound w self f rest (Exchange e next) choice)

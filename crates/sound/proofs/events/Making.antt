@@ -15,7 +15,7 @@ use Rattle.rows.specs.Rows.{leaf_at, is_owned}
 use Rattle.rules.specs.Texts.{wrong_for_field}
 use Rattle.rows.specs.declared.row.Leaf.TheVariants as leaf
 use Rattle.machine.specs.Frames.{addresses, type_at, payloads_claimed, variables_of}
-use Rattle.machine.specs.Outcomes.{Bounds}
+use Rattle.machine.specs.Outcomes.{QueueBounds}
 use Rattle.machine.specs.World.{Block, Frame, World, let_go, read}
 use Rattle.sound.specs.GraphFit.{IsGraphFit, IsNewFit}
 use Rattle.sound.specs.Operands.{stateless}
@@ -33,7 +33,7 @@ use Rattle.sound.proofs.Parameters.{each_taken, fields_known}
 use Rattle.sound.proofs.Quiet.{contains_first}
 use Rattle.machine.specs.Instructions.{argument_tests, event_of}
 
-pub good_new : (p : ProgramModel) (bound : Bounds) (w : World) (self choice : ℕ) (f : Frame) (rest : List Frame) (m : MethodModel)
+pub good_new : (p : ProgramModel) (bound : QueueBounds) (w : World) (self choice : ℕ) (f : Frame) (rest : List Frame) (m : MethodModel)
     (target : Mention) (arguments : List Mention) (next : ℕ)
     → Here p w self f rest m (New target arguments next)
     → ((h : IsGraphFit p m) → IsNewFit p m h.scope f.point target.variable.0 arguments next)

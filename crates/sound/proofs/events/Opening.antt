@@ -22,7 +22,7 @@ use Rattle.rows.specs.Rows.{leaf_at, is_owned}
 use Rattle.rows.specs.declared.row.Leaf.TheVariants as leaf
 use Rattle.rows.specs.declared.row.Leaf.{Leaf}
 use Rattle.machine.specs.Blocks.{new_block, end_type, is_imp}
-use Rattle.machine.specs.Outcomes.{Moved, Bounds}
+use Rattle.machine.specs.Outcomes.{Moved, QueueBounds}
 use Rattle.machine.specs.World.{Block, Frame, World, block_at, read, owns}
 use Rattle.sound.specs.GraphFit.{IsChannelFit}
 use Rattle.sound.specs.Operands.{stateless}
@@ -81,7 +81,7 @@ imp_of : (c : ℕ) (side : Side) → is_imp (Endpoint record { 0 = c } side reco
 imp_of c Imp = refl
 imp_of c Exp = refl
 
-module _ (p : ProgramModel) (bound : Bounds) (w : World) (self choice : ℕ) (f : Frame) (rest : List Frame) (m : MethodModel)
+module _ (p : ProgramModel) (bound : QueueBounds) (w : World) (self choice : ℕ) (f : Frame) (rest : List Frame) (m : MethodModel)
     (c : made.Channel) (next : ℕ)
     (h : Here p w self f rest m (NewChannel c next)) (fit : IsChannelFit p m h.graph.scope f.point c next) where
   abbrev n : ℕ

@@ -31,7 +31,7 @@ use Rattle.rows.specs.declared.row.Leaf.{Leaf}
 use Rattle.analyse.specs.Reach.{Reached}
 use Rattle.machine.specs.Blocks.{owns_none}
 use Rattle.machine.specs.Frames.{method_at, instruction_at, point_instruction, put, call_target, call_next}
-use Rattle.machine.specs.Outcomes.{Moved, Bounds, test, tested}
+use Rattle.machine.specs.Outcomes.{Moved, QueueBounds, test, tested}
 use Rattle.machine.specs.World.{Block, Frame, World, stack_at, read, owns, let_go}
 use Rattle.machine.specs.declared.halts.Fault.TheVariants.{F3, F7}
 use Rattle.sound.specs.GraphFit.{AreGraphsFit, IsCallFit, IsReturnFit}
@@ -59,7 +59,7 @@ abbrev without : List (Option ℕ) → Option Mention → List (Option ℕ)
 without vs None = vs
 without vs (Some v) = set vs v.variable.0 None
 
-module _ (p : ProgramModel) (bound : Bounds) (w : World) (self choice : ℕ) (f : Frame) (rest : List Frame) (m : MethodModel) (place : Place)
+module _ (p : ProgramModel) (bound : QueueBounds) (w : World) (self choice : ℕ) (f : Frame) (rest : List Frame) (m : MethodModel) (place : Place)
     (value : Option Mention) (last : Option VarId)
     (h : Here p w self f rest m (Return place value last)) (fit : IsReturnFit p m h.graph.scope f.point value last) where
   abbrev scope_checks : List Check
@@ -144,7 +144,7 @@ named_other : (v : Mention) (u : ℕ) → u ≢ v.variable.0 → is_named (Some 
 named_other v u n = eqb_apart v.variable.0 u (λ e. n (sym e))
 
 -- ---- the caller goes on
-module _ (p : ProgramModel) (bound : Bounds) (w : World) (self choice : ℕ) (f g : Frame) (more : List Frame) (m : MethodModel)
+module _ (p : ProgramModel) (bound : QueueBounds) (w : World) (self choice : ℕ) (f g : Frame) (more : List Frame) (m : MethodModel)
     (place : Place) (value : Option Mention) (last : Option VarId)
     (h : Here p w self f (g ∷ more) m (Return place value last)) (fit : IsReturnFit p m h.graph.scope f.point value last)
     (graphs : AreGraphsFit p) (clean : (n : ℕ) (x : MethodModel) → method_at p n ≡ Some x → IsClean p n) where
@@ -354,7 +354,7 @@ module _ (p : ProgramModel) (bound : Bounds) (w : World) (self choice : ℕ) (f 
       by (Some k) r (Some x) v None to a b = absurd b
       by (Some k) r (Some x) v (Some t) to a b = return_something k x t r v to a b
 
-pub good_return : (p : ProgramModel) (bound : Bounds) (w : World) (self choice : ℕ) (f : Frame) (rest : List Frame) (m : MethodModel)
+pub good_return : (p : ProgramModel) (bound : QueueBounds) (w : World) (self choice : ℕ) (f : Frame) (rest : List Frame) (m : MethodModel)
     (place : Place) (value : Option Mention) (last : Option VarId) → AreGraphsFit p
     → ((n : ℕ) (x : MethodModel) → method_at p n ≡ Some x → IsClean p n) → (h : Here p w self f rest m (Return place value last))
     → IsReturnFit p m h.graph.scope f.point value last

@@ -34,7 +34,7 @@ use Rattle.rows.specs.declared.row.Leaf.TheVariants as leaf
 use Rattle.rows.specs.declared.row.Leaf.{Leaf}
 use Rattle.machine.specs.Blocks.{bound_of}
 use Rattle.machine.specs.Frames.{address, payloads_claimed, addresses}
-use Rattle.machine.specs.Outcomes.{Bounds, test, tested}
+use Rattle.machine.specs.Outcomes.{QueueBounds, test, tested}
 use Rattle.machine.specs.World.{MessageHeld, Block, Frame, World, block_at, read, freed, cut_off, is_empty, let_go}
 use Rattle.machine.specs.declared.halts.Fault.TheVariants.{F1, F4, F6}
 use Rattle.sound.specs.GraphFit.{IsSendFit}
@@ -85,7 +85,7 @@ out_of_end p (Struct n) q = refl
 out_of_end p (Array n) q = refl
 out_of_end p (Endpoint c side state) q = refl
 
-bound_of_end : (bound : Bounds) (k : HeapType) → bound_of bound k ≡ of_end bound 0 k
+bound_of_end : (bound : QueueBounds) (k : HeapType) → bound_of bound k ≡ of_end bound 0 k
 bound_of_end bound (Struct n) = refl
 bound_of_end bound (Array n) = refl
 bound_of_end bound (Endpoint c side state) = refl
@@ -172,7 +172,7 @@ sent_on_cut p m bs bs' a k (leaf.State q) message h end cut = by (end_on (edges_
     by (Some t) = (end, inr cut)
 
 -- the queue of a peer has room for what may be sent
-room_for : NeverLonger → (p : ProgramModel) (bound : Bounds) → IsSoundProgram p bound → (x : ContractModel) (side : Side) (c : ℕ)
+room_for : NeverLonger → (p : ProgramModel) (bound : QueueBounds) → IsSoundProgram p bound → (x : ContractModel) (side : Side) (c : ℕ)
     → slice_get p.contracts c ≡ Some x → (b peer : Block) (m : MessageHeld) (q' : ℕ) → EndsAre p x side b true peer
     → Leads x.parts.edges record { 0 = b.state } record { 0 = m.message } (sign_from side) record { 0 = q' }
     → length peer.queue < bound c (other side)
@@ -205,7 +205,7 @@ sends_along p bs a message to c side ty edge y there =
     (sym (ap (λ (es : List Edge). end_on es message) (out_edges p (block_at bs a).ty c side (block_at bs a).state ty)) ∙ edge))
 
 -- a send that has an edge, or whose endpoint is cut off, finds room
-pub room_is : NeverLonger → (p : ProgramModel) (bound : Bounds) → IsSoundProgram p bound
+pub room_is : NeverLonger → (p : ProgramModel) (bound : QueueBounds) → IsSoundProgram p bound
     → (w : World) (self : ℕ) (f : Frame) (rest : List Frame) (a state' : ℕ) (msg : MessageHeld) (c : ℕ) (side : Side)
     → ChannelsFit p w.blocks → a < length w.blocks → freed w.blocks a ≡ false
     → stateless (block_at w.blocks a).ty ≡ Endpoint record { 0 = c } side record { 0 = 0 }
@@ -271,7 +271,7 @@ claims_apart : (arguments : List Argument) (e : ℕ) → Each (λ b. number b �
 claims_apart [] e h = tt
 claims_apart (a ∷ arguments) e h = ((λ c. h.0), claims_apart arguments e h.1)
 
-pub good_send : (p : ProgramModel) (bound : Bounds) (w : World) (self choice : ℕ) (f : Frame) (rest : List Frame) (m : MethodModel)
+pub good_send : (p : ProgramModel) (bound : QueueBounds) (w : World) (self choice : ℕ) (f : Frame) (rest : List Frame) (m : MethodModel)
     → NeverLonger → IsSoundProgram p bound → (place : Place) (e : Mention) (message : MessageId) (payloads : List Mention) (next : ℕ)
     → (h : Here p w self f rest m (Send place e message payloads next))
     → IsSendFit p m h.graph.scope f.point e.variable.0 message.0 payloads next

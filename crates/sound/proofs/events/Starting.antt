@@ -27,7 +27,7 @@ use Rattle.rows.specs.declared.row.Leaf.{Leaf}
 use Rattle.analyse.specs.Reach.{Reached}
 use Rattle.machine.specs.Blocks.{handed}
 use Rattle.machine.specs.Frames.{method_at, filled, entered_at, addresses}
-use Rattle.machine.specs.Outcomes.{Moved, Bounds}
+use Rattle.machine.specs.Outcomes.{Moved, QueueBounds}
 use Rattle.machine.specs.World.{no_type, Block, Frame, World, block_at, stack_at, read, owns, is_process}
 use Rattle.machine.specs.World.{changed, let_go}
 use Rattle.machine.specs.declared.worlds.Owner.TheVariants.{Process, Channel}
@@ -243,7 +243,7 @@ none_lent variables (y ∷ xs) arguments are claims v x there =
     by role.Claimed is (a ∷ as') k c go zero t = ap (λ (z : VariableModel). is_lent_role z.role) (sym (some_same y x t)) ∙ ap is_lent_role is
     by role.Claimed is (a ∷ as') k c go (suc v) t = go as' k.1 c.1 v x t
 
-pub good_start : (p : ProgramModel) (bound : Bounds) (w : World) (self choice : ℕ) (f : Frame) (rest : List Frame) (m : MethodModel)
+pub good_start : (p : ProgramModel) (bound : QueueBounds) (w : World) (self choice : ℕ) (f : Frame) (rest : List Frame) (m : MethodModel)
     (place : Place) (method : MethodId) (arguments : List Argument) (next : ℕ)
     → (h : Here p w self f rest m (Start place method arguments next)) → IsStartFit p m h.graph.scope f.point method.0 arguments next
     → IsGood p w (event_of p bound w self f rest (Start place method arguments next) choice)

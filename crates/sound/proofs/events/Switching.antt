@@ -33,7 +33,7 @@ use Rattle.rows.specs.declared.row.Leaf.TheVariants as leaf
 use Rattle.rows.specs.declared.row.Leaf.{Leaf}
 use Rattle.analyse.specs.Reach.{Reached}
 use Rattle.machine.specs.Frames.{address, bound_to}
-use Rattle.machine.specs.Outcomes.{Moved, Bounds, test, Waits}
+use Rattle.machine.specs.Outcomes.{Moved, QueueBounds, test, Waits}
 use Rattle.machine.specs.World.{MessageHeld, Block, Frame, World, block_at, read, freed, cut_off, is_empty}
 use Rattle.machine.specs.declared.halts.Fault.TheVariants.{F1}
 use Rattle.sound.specs.GraphFit.{IsSwitch, IsEntrance, IsBoundAt}
@@ -62,7 +62,7 @@ use Rattle.analyse.proofs.FrontLemmas.{contains_at}
 use Rattle.contracts.proofs.CandidateLemmas.{in_flat}
 use Rattle.machine.proofs.ChangeLemmas.{true≢false}
 
-module _ (p : ProgramModel) (bound : Bounds) (w : World) (self choice : ℕ) (f : Frame) (rest : List Frame) (m : MethodModel)
+module _ (p : ProgramModel) (bound : QueueBounds) (w : World) (self choice : ℕ) (f : Frame) (rest : List Frame) (m : MethodModel)
     (always : HeldAlways) (sound : IsSoundProgram p bound) (place : Place) (cases : List EntranceModel)
     (h : Here p w self f rest m (Switch place cases)) (fit : IsSwitch p m h.graph.scope f.point cases) where
   abbrev es : List Mention

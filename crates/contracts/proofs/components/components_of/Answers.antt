@@ -1,5 +1,5 @@
 use Rattle.std.proofs.Common.{◌≡◌, ◌<◌, ℕ, length, ap, arith}
-use Rattle.contracts.specs.declared.components.Status.TheVariants.{Complete}
+use Rattle.contracts.specs.declared.components.VertexStatus.TheVariants.{Complete}
 use Rattle.contracts.specs.Graphs.{groups}
 use Rattle.contracts.specs.Searches.{is_new, status_at}
 use Rattle.contracts.proofs.ComponentLemmas.{all_complete}

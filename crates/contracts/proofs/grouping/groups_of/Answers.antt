@@ -1,7 +1,7 @@
 use Rattle.std.proofs.Common.{◌≡◌, ◌<◌, ◌∙◌, [], get_or, length, sym, subst, arith}
 use Rattle.std.proofs.Math.ListN.{length-set}
 use Rattle.std.proofs.lemmas.List.{get_or-set_other}
-use Rattle.contracts.specs.Chains.{AreChained, AreEnds, IsFirst}
+use Rattle.contracts.specs.Chains.{AreChained, AreEnds, IsFirstArc}
 use Rattle.contracts.specs.Spans.{cut}
 use Rattle.contracts.proofs.ChainLemmas.{AreFilled, filled_all, filled_none, filled_put, linked, rows_are}
 use Rattle.contracts.proofs.grouping.groups_of.Goals as goal
@@ -21,7 +21,7 @@ follow-requires c =
     let less : n < length c.loop-vertex.ends.items = omega (arith, test, count) in
     record {
       vertex = subst (λ l. n < length l) (sym c.deref.ensures.value) less;
-      first = subst (λ l. IsFirst c.args.arcs.now n 0 (get_or l n 0)) (sym c.deref.ensures.value) (c.loop-vertex.invariant.firsts n (omega arith) test);
+      first = subst (λ l. IsFirstArc c.args.arcs.now n 0 (get_or l n 0)) (sym c.deref.ensures.value) (c.loop-vertex.invariant.firsts n (omega arith) test);
       linked = subst (AreChained c.args.arcs.now 0 []) (sym c.deref-in-loop-vertex.ensures.value) (linked c.args.arcs.now c.in_ok-chains.chains.firsts.items c.in_ok-chains.chains.nexts.items c.in_ok-chains.ensures.chained);
     }
 
@@ -35,7 +35,7 @@ loop-vertex-preserved c =
     record {
       filled = filled_put arcs n c.loop-vertex.items.items c.follow.new.ends.items ends c.len.result (omega (arith, test, count)) c.in_ok-follow.ensures (c.len.ensures ∙ c.follow.new.ends.ok.0) c.loop-vertex.invariant.filled;
       long = length-set ends n c.len.result ∙ count;
-      firsts = λ v from lt. subst (IsFirst arcs v 0) (sym (get_or-set_other ends n v c.len.result 0 (λ same. omega (arith, from, same)))) (c.loop-vertex.invariant.firsts v (omega (arith, from)) lt);
+      firsts = λ v from lt. subst (IsFirstArc arcs v 0) (sym (get_or-set_other ends n v c.len.result 0 (λ same. omega (arith, from, same)))) (c.loop-vertex.invariant.firsts v (omega (arith, from)) lt);
     }
 
 pub returns : goal.returns

@@ -2,7 +2,7 @@ use Rattle.std.proofs.Common.{◌++◌, codes, subst}
 use Rattle.std.specs.Io.KnownBytes.{Appends}
 use Rattle.std.proofs.KnownBytes.{Appends-trans}
 use Rattle.std.proofs.lemmas.Result.{on_ok_weaker, on_err_weaker}
-use Rattle.devices.specs.Devices.{Begins}
+use Rattle.devices.specs.Devices.{TakesBeginning}
 use Rattle.devices.proofs.BeginLemmas.{begins_first, begins_second, on_err_always}
 use Rattle.devices.proofs.endings.write_named.Goals as goal
 
@@ -11,7 +11,7 @@ returns-in_err-write_all-clause-begun g c = on_err_always c.from_residual.result
 
 pub returns-in_err-write_all-2-clause-begun : goal.returns-in_err-write_all-2-clause-begun
 returns-in_err-write_all-2-clause-begun g c =
-    let name = begins_first (g.W.Sink.contents c.write_all.new.writer) (g.W.Sink.contents c.write_all-2.new.writer) c.args.name.now (codes "\n") (subst (λ l. Begins (g.W.Sink.contents c.write_all.new.writer) (g.W.Sink.contents c.write_all-2.new.writer) l) c.as_bytes.ensures.value c.in_err-write_all-2.ensures.begun) in
+    let name = begins_first (g.W.Sink.contents c.write_all.new.writer) (g.W.Sink.contents c.write_all-2.new.writer) c.args.name.now (codes "\n") (subst (λ l. TakesBeginning (g.W.Sink.contents c.write_all.new.writer) (g.W.Sink.contents c.write_all-2.new.writer) l) c.as_bytes.ensures.value c.in_err-write_all-2.ensures.begun) in
     on_err_always c.from_residual-in_err-write_all-2.result (begins_second (g.W.Sink.contents c.args.writer.now) (g.W.Sink.contents c.write_all.new.writer) (g.W.Sink.contents c.write_all-2.new.writer) c.args.front.now (c.args.name.now ++ codes "\n") c.in_ok-write_all.ensures.all name)
 
 pub returns-clause-all : goal.returns-clause-all

@@ -6,7 +6,7 @@ use Rattle.rules.specs.Programs.{model_of}
 use Rattle.machine.specs.Machine.{event_outcome}
 use Rattle.machine.specs.Outcomes.{TellsStep}
 use Rattle.machine.specs.Places.{process_place}
-use Rattle.machine.specs.Runs.{Leads, moves, start_of, stays}
+use Rattle.machine.specs.Runs.{RunsTo, moves, start_of, stays}
 use Rattle.machine.specs.Views.{world_model}
 use Rattle.machine.specs.declared.halts.Event.{Event}
 use Rattle.machine.proofs.replaying.replay.Goals as goal
@@ -19,14 +19,14 @@ pub loop-steps-init : goal.loop-steps-init
 loop-steps-init c = λ bound are.
     let p = model_of c.args.program.now in
     let begins = start_of p c.args.method.0 in
-    subst (λ w. Leads p bound begins [] w) (sym c.in_ok-world.ensures) stays
+    subst (λ w. RunsTo p bound begins [] w) (sym c.in_ok-world.ensures) stays
 
 pub loop-steps-preserved : goal.loop-steps-preserved
 loop-steps-preserved c = λ bound are.
     let p = model_of c.args.program.now in
     let events = c.args.events.now in
     let n = c.loop-steps.steps in
-    subst (λ es. Leads p bound (start_of p c.args.method.0) es (world_model c.step.new.self)) (sym (take_more events n no_event c.loop-steps-test.true))
+    subst (λ es. RunsTo p bound (start_of p c.args.method.0) es (world_model c.step.new.self)) (sym (take_more events n no_event c.loop-steps-test.true))
     (moves (take n events) (world_model c.loop-steps.world) (world_model c.step.new.self) (get_or events n no_event) (c.loop-steps.invariant bound are) (c.in-Ok.ensures.tells bound are))
 
 pub returns-in-Err : goal.returns-in-Err
@@ -37,7 +37,7 @@ returns-in-Err c = λ bound are.
     let e = get_or events n no_event in
     let same = sym c.in-Err.ensures.same in
     record {
-      leads = subst (λ w. Leads p bound (start_of p c.args.method.0) (take n events) w) same (c.loop-steps.invariant bound are);
+      leads = subst (λ w. RunsTo p bound (start_of p c.args.method.0) (take n events) w) same (c.loop-steps.invariant bound are);
       ends = record {
         event = e;
         there = slice_get-get_or events n no_event c.loop-steps-test.true;

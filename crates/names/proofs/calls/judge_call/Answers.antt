@@ -12,8 +12,8 @@ pub returns-in-Some : goal.returns-in-Some
 returns-in-Some c = λ m f around frame.
     let call = c.args.call.now in
     let s = scope_in m f in
-    subst (λ o. OnOk c.judge_member.result (Adds c.args.found.now.items c.judge_member.new.found.items (front_mistakes (inside_of m f) c.args.role o call.name (map shape (map expression_tree call.arguments.items)))))
+    subst (λ o. OnOk c.judge_member.result (Adds c.args.found.now.items c.judge_member.new.found.items (front_mistakes (inside_of m f) c.args.purpose o call.name (map shape (map expression_tree call.arguments.items)))))
     (sym c.in-Some.is)
-    (subst (λ xs. OnOk c.judge_member.result (Adds c.args.found.now.items c.judge_member.new.found.items (member_mistakes s (meant s call.name) c.args.role call.name c.in-Some.name (map shape (map expression_tree xs)))))
+    (subst (λ xs. OnOk c.judge_member.result (Adds c.args.found.now.items c.judge_member.new.found.items (member_mistakes s (meant s call.name) c.args.purpose call.name c.in-Some.name (map shape (map expression_tree xs)))))
     c.deref-in-Some.ensures.value
     (c.judge_member.ensures m.program f (c.context-context.ensures m f around frame)))

@@ -24,14 +24,14 @@ returns-in-Some c = λ p f here.
     let looked = classed p.text (class_named p c.args.class) c.in-Some.methods.now (c.in-Some.ensures p here.scope) in
     let own = subst (λ t. AreMethods t looked.class c.in-Some.methods.now) (sym here.scope.text_is) looked.methods in
     let found = subst (λ t. IsCallee (method_named t looked.class name) c.find-callee.result) here.scope.text_is (c.find-callee.ensures looked.class own) in
-    subst (λ o. OnOk result (Adds old new (class_mistakes s o c.args.site.now.role c.args.class name args))) (sym looked.is)
+    subst (λ o. OnOk result (Adds old new (class_mistakes s o c.args.site.now.purpose c.args.class name args))) (sym looked.is)
     (c.judge_method.ensures p f (method_named p.text looked.class name) here found)
 
 pub returns-in-None : goal.returns-in-None
 returns-in-None c = λ p f here.
     let s = in_frame p f in
     let args = map shape (map expression_tree c.args.site.now.arguments.now) in
-    subst (λ o. OnOk c.judge_unknown.result (Adds c.args.found.now.items c.judge_unknown.new.found.items (class_mistakes s o c.args.site.now.role c.args.class c.args.site.now.name args)))
+    subst (λ o. OnOk c.judge_unknown.result (Adds c.args.found.now.items c.judge_unknown.new.found.items (class_mistakes s o c.args.site.now.purpose c.args.class c.args.site.now.name args)))
     (sym (class_lacks p.text (class_named p c.args.class) (c.in-None.ensures p here.scope)))
     (subst (λ k. OnOk c.judge_unknown.result (Adds c.args.found.now.items c.judge_unknown.new.found.items (Unknown c.args.class (sort.Front k) ∷ argument_mistakes s [] args)))
     (c.len.ensures p.text f here.frame) (c.judge_unknown.ensures p f here))

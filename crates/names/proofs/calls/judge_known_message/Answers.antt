@@ -25,8 +25,8 @@ returns c = λ p f n here.
     let counted = c.judge_count.new.found.items in
     let new = c.judge_typed_arguments.new.found.items in
     let types = message_types p (message_tree message) in
-    on_adds result old asked new (unless (is_alone c.args.site.now.role && sends c.args.end message.direction) place (send_mismatch c.args.site.now.role c.args.end c.args.site.now.name)) (number_of_arguments params es place ++ argument_mistakes s types es)
-    (subst (λ b. Adds old asked (unless b place (send_mismatch c.args.site.now.role c.args.end c.args.site.now.name))) c.is_sent-well.ensures
+    on_adds result old asked new (unless (is_alone c.args.site.now.purpose && sends c.args.end message.direction) place (send_mismatch c.args.site.now.purpose c.args.end c.args.site.now.name)) (number_of_arguments params es place ++ argument_mistakes s types es)
+    (subst (λ b. Adds old asked (unless b place (send_mismatch c.args.site.now.purpose c.args.end c.args.site.now.name))) c.is_sent-well.ensures
     (subst (λ m. Adds old asked (unless c.is_sent-well.result place m)) c.send_mismatch.ensures c.in_ok-ask.ensures))
     (on_adds result asked counted new (number_of_arguments params es place) (argument_mistakes s types es)
     (numbered expression_tree params c.len.result args place (omega (arith, c.len.ensures, message.params.ok.0)) c.in_ok-judge_count.ensures)

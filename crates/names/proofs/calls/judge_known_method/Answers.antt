@@ -28,14 +28,14 @@ returns c = λ p f class here startable.
     let new = c.ask.new.found.items in
     let count = number_of_arguments params es place in
     let each = argument_mistakes s (parameter_types p params) es in
-    let start = start_mistakes (method_tree method) c.args.site.now.role c.args.site.now.name in
-    let role = c.args.site.now.role in
-    let fits = unless (result_fits p method.result role) place (Given (demand_of role) (result_type p method.result)) in
+    let start = start_mistakes (method_tree method) c.args.site.now.purpose c.args.site.now.name in
+    let purpose = c.args.site.now.purpose in
+    let fits = unless (result_fits p method.result purpose) place (Given (demand_of purpose) (result_type p method.result)) in
     on_adds result old counted new count (each ++ (start ++ fits))
     (numbered expression_tree params c.len.result args place (omega (arith, c.len.ensures, method.params.ok.0)) c.in_ok-judge_count.ensures)
     (on_adds result counted given new each (start ++ fits)
     (subst (λ ps. Adds counted given (argument_mistakes s (map (λ x. type_meant p x.ty) ps) es)) c.deref.ensures.value (c.in_ok-judge_typed_arguments.ensures p f here.scope here.frame))
     (on_adds result given started new start fits (c.in_ok-judge_start.ensures p (method_tree method) here.scope startable)
-    (subst (λ b. OnOk result (Adds started new (unless b place (Given (demand_of role) (result_type p method.result))))) (c.result_fits-fits.ensures p here.scope)
+    (subst (λ b. OnOk result (Adds started new (unless b place (Given (demand_of purpose) (result_type p method.result))))) (c.result_fits-fits.ensures p here.scope)
     (subst (λ d. OnOk result (Adds started new (unless c.result_fits-fits.result place (Given d (result_type p method.result))))) c.demand_of.ensures
     (subst (λ k. OnOk result (Adds started new (unless c.result_fits-fits.result place (Given c.demand_of.result k)))) (c.type_given-given.ensures p here.scope) c.ask.ensures)))))

@@ -18,5 +18,5 @@ returns-in-Some c = λ p f m here known.
     let can : Some callee.startable ≡ Some (can_start method) = ap (option_map (λ (x : Callee). x.startable)) (sym c.in-Some.is) ∙ known.startable ∙ ap (option_map can_start) (sym is) in
     let startable : callee.startable ≡ can_start method = cc in
     subst (λ o. OnOk c.judge_known_method.result (Adds c.args.found.now.items c.judge_known_method.new.found.items
-    (method_mistakes (in_frame p f) o c.args.class c.args.site.now.role c.args.site.now.name (map shape (map expression_tree c.args.site.now.arguments.now))))) is
+    (method_mistakes (in_frame p f) o c.args.class c.args.site.now.purpose c.args.site.now.name (map shape (map expression_tree c.args.site.now.arguments.now))))) is
     (c.judge_known_method.ensures p f c.args.class here startable)

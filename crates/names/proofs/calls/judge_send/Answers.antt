@@ -19,7 +19,7 @@ returns-in_ok-ask-in_default c = λ p f here.
     let new = c.judge_arguments.new.found.items in
     let place = c.args.variable.place in
     subst (λ l. OnOk c.judge_arguments.result (Adds old new l))
-    (sym (no_send s c.args.ty c.args.site.now.role c.args.variable c.args.site.now.name args c.in_default.not-Endpoint))
+    (sym (no_send s c.args.ty c.args.site.now.purpose c.args.variable c.args.site.now.name args c.in_default.not-Endpoint))
     (on_adds c.judge_arguments.result old c.ask.new.found.items new (unless (is_silent c.args.ty) place (Given demand.Endpoint c.args.ty)) (argument_mistakes s [] args)
     (subst (λ b. Adds old c.ask.new.found.items (unless b place (Given demand.Endpoint c.args.ty))) c.is_silent.ensures c.in_ok-ask-in_default.ensures)
     (c.judge_arguments.ensures p f here.scope here.frame))

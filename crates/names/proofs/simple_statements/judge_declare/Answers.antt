@@ -4,7 +4,7 @@ use Rattle.std.specs.Option.{option_map}
 use Rattle.tree.specs.Values.{value_tree}
 use Rattle.names.specs.Bodies.{inside_of, given_mistakes}
 use Rattle.declarations.specs.Mistakes.{Adds}
-use Rattle.names.specs.Frames.{IsFrame, Turned}
+use Rattle.names.specs.Frames.{IsNameFrame, Turned}
 use Rattle.declarations.specs.Types.{is_heap, type_meant, type_unknown}
 use Rattle.names.specs.Variables.{declared_variable}
 use Rattle.declarations.proofs.AddLemmas.{adds_then}
@@ -33,4 +33,4 @@ returns c = λ m f around frame.
     (subst (λ k. OnOk result (Turned text given new w (declared_variable text declare.name k heap f))) is
     (subst (λ b. OnOk result (Turned text given new w (declared_variable text declare.name c.type_meant-ty.result b f))) c.is_heap-heap.ensures
     (subst (λ t. OnOk result (Turned t given new w (declared_variable t declare.name c.type_meant-ty.result c.is_heap-heap.result f))) same
-    (c.declare.ensures f (subst (λ t. IsFrame t f v) (sym same) frame)))))
+    (c.declare.ensures f (subst (λ t. IsNameFrame t f v) (sym same) frame)))))

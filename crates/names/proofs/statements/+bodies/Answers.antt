@@ -16,7 +16,7 @@ use Rattle.names.specs.Frames.{Turned}
 use Rattle.names.specs.Heads.{IsHeads, switch_heads}
 use Rattle.names.specs.Shapes.{shape}
 use Rattle.names.specs.Values.{Alone, Started, call_mistakes, target_mistakes, target_type, value_mistakes}
-use Rattle.names.specs.Variables.{Frame, Turn, closed, follow}
+use Rattle.names.specs.Variables.{NameFrame, CheckedPiece, closed, follow}
 use Rattle.names.proofs.BranchLemmas.{last_branch, no_branch, no_statement, next_statement, next_test, next_case, case_there, last_case}
 use Rattle.names.proofs.KeepLemmas.{kept, statements_extend, case_extends}
 use Rattle.tree.proofs.StatementTwins.{block_is, case_is, if_is, test_is, switch_is, of_declare, of_assign, of_call, of_start, of_delete, of_exchange, of_channel, of_break, of_continue, of_return}
@@ -236,8 +236,8 @@ judge_switch-loop-place-init t c = λ m f around frame.
     let old = c.args.found.now.items in
     let new = c.judge_case.new.found.items in
     let first = ap (λ (s : SwitchTree). s.first) (switch_is switch) in
-    let go : Frame → Turn = case_turn m all [] tree.first in
-    let rest : Frame → Turn = cases_turn m all (head_of tree.first ∷ []) (case_sequence tree.others) in
+    let go : NameFrame → CheckedPiece = case_turn m all [] tree.first in
+    let rest : NameFrame → CheckedPiece = cases_turn m all (head_of tree.first ∷ []) (case_sequence tree.others) in
     let heads = subst (λ u. IsHeads u all c.in_ok-heads.heads) around.scope.text_is c.in_ok-heads.ensures in
     let turned = subst (λ k. Turned text old new c.judge_case.new.variables (case_turn m all [] k f)) (sym first) (c.in_ok-judge_case.ensures m f all around frame heads (ap (λ k. Some (head_of k)) first)) in
     goes_first f go rest turned

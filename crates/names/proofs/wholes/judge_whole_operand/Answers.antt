@@ -3,13 +3,13 @@ use Rattle.std.specs.Prelude.{None, Some}
 use Rattle.std.proofs.lemmas.Result.{IfOk-weaker}
 use Rattle.declarations.specs.declared.mistake.Mistake.{Mistake}
 use Rattle.names.specs.Expressions.{InScope, expression_mistakes, held, meant, variable_mistakes, whole_mistakes}
-use Rattle.names.specs.Mentions.{Gives}
+use Rattle.names.specs.Mentions.{GivesOperand}
 use Rattle.declarations.specs.Mistakes.{Adds}
 use Rattle.names.specs.Operands.{Judges, JudgesWhole, in_frame}
 use Rattle.names.specs.Shapes.{Shape, Number, Truth, Mention, Field, Element, Parens, Signed, Joined, shape}
 use Rattle.names.specs.declared.operands.Operand.{Operand}
 use Rattle.declarations.specs.declared.scope.Scope.{Scope}
-use Rattle.names.specs.declared.variables.Variables.{Variables}
+use Rattle.names.specs.declared.variables.ScopeVariables.{ScopeVariables}
 use Rattle.tree.specs.Alone.{lone_name}
 use Rattle.source.specs.declared.token.Span.{Span}
 use Rattle.tree.specs.Expressions.{ExpressionTree}
@@ -28,7 +28,7 @@ no_more s t (Parens place inner) is none = refl
 no_more s t (Signed sign place inner) is none = refl
 no_more s t (Joined joint left right) is none = refl
 
-judged_whole : (scope : Scope) (variables : Variables) (t : ExpressionTree) (old new : List Mistake) (o : Operand)
+judged_whole : (scope : Scope) (variables : ScopeVariables) (t : ExpressionTree) (old new : List Mistake) (o : Operand)
     → lone_name t ≡ None → Judges scope variables (shape t) old new o → JudgesWhole scope variables (shape t) old new o
 judged_whole scope variables t old new o none judged = record {
   all = λ p f is_scope is_frame.
@@ -40,8 +40,8 @@ judged_whole scope variables t old new o none judged = record {
       };
 }
 
-judged_name : (scope : Scope) (variables : Variables) (t : ExpressionTree) (name : Span) (old new : List Mistake) (o : Operand)
-    → lone_name t ≡ Some name → o.place ≡ name.place → Gives scope variables (λ s. held (meant s name)) (λ s. variable_mistakes s name) old new o.ty
+judged_name : (scope : Scope) (variables : ScopeVariables) (t : ExpressionTree) (name : Span) (old new : List Mistake) (o : Operand)
+    → lone_name t ≡ Some name → o.place ≡ name.place → GivesOperand scope variables (λ s. held (meant s name)) (λ s. variable_mistakes s name) old new o.ty
     → JudgesWhole scope variables (shape t) old new o
 judged_name scope variables t name old new o some at given =
     subst (λ e. JudgesWhole scope variables e old new o) (sym (lone_shape t name some)) (record {

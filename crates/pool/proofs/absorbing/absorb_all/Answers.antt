@@ -3,7 +3,7 @@ use Rattle.std.specs.Global.{Vec}
 use Rattle.std.specs.Vec.Iter.{into_iter_items}
 use Rattle.std.proofs.lemmas.List.Sums.{sum_by-cons}
 use Rattle.std.proofs.lemmas.List.Elements.{All-head, All-tail}
-use Rattle.pool.specs.Counts.{Owner, Ticket, taken_by}
+use Rattle.pool.specs.Counts.{DequeOwner, Ticket, taken_by}
 use Rattle.pool.specs.Owners.{EachChanges, GotParts, owner_parts}
 use Rattle.pool.specs.Rounds.{AreOf, all_by}
 use Rattle.pool.proofs.Places.{each_twice, all_after, got_more, got_none, no_items, of_kept}
@@ -19,7 +19,7 @@ loop-passes-init c = record {
 pub absorb_round-requires-clause-parts : goal.absorb_round-requires-clause-parts
 absorb_round-requires-clause-parts c =
     let so_far = c.loop-passes.invariant.owners in
-    all_after (GotParts so_far.0) (λ (o : Owner). 0 < owner_parts o) (λ (o : Owner). 0 < owner_parts o) (λ a b got some. let e = got.parts in omega arith) _ _ so_far.2 c.requires.parts
+    all_after (GotParts so_far.0) (λ (o : DequeOwner). 0 < owner_parts o) (λ (o : DequeOwner). 0 < owner_parts o) (λ a b got some. let e = got.parts in omega arith) _ _ so_far.2 c.requires.parts
 
 pub absorb_round-requires-clause-passes : goal.absorb_round-requires-clause-passes
 absorb_round-requires-clause-passes c =

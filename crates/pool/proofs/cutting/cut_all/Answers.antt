@@ -1,8 +1,8 @@
 use Rattle.std.proofs.Common.{arith, ◌≡◌, ◌<◌, ◌+◌, subst, sym, All, vec_len}
 use Rattle.std.specs.Global.{Vec}
 use Rattle.std.proofs.lemmas.List.Elements.{All-nil, All-push}
-use Rattle.pool.specs.Counts.{Owner, Ticket}
-use Rattle.pool.specs.Owners.{EachChanges, IsWhole, LostParts, owner_parts}
+use Rattle.pool.specs.Counts.{DequeOwner, Ticket}
+use Rattle.pool.specs.Owners.{EachChanges, IsWholeOwner, LostParts, owner_parts}
 use Rattle.pool.specs.Rounds.{AreNew}
 use Rattle.pool.proofs.Places.{all_after, cut_more, lost_none, new_more}
 use Rattle.pool.proofs.cutting.cut_all.Goals as goal
@@ -16,7 +16,7 @@ loop-init c = record {
 
 pub cut_round-requires : goal.cut_round-requires
 cut_round-requires c = record {
-  parts = all_after (LostParts (vec_len c.loop.rounds)) IsWhole (λ (o : Owner). 1 < owner_parts o)
+  parts = all_after (LostParts (vec_len c.loop.rounds)) IsWholeOwner (λ (o : DequeOwner). 1 < owner_parts o)
       (λ a b lost whole. let e = lost.parts in let f = whole.parts in let few = c.requires.few in let i = c.loop.invariant.count in let t = c.loop-test.true in omega arith) _ _ c.loop.invariant.owners c.requires.whole;
 }
 

@@ -1,29 +1,29 @@
 use Rattle.std.proofs.Common.{arith, ◌≡◌, ◌<◌, ◌++◌, [], ◌∷◌, ℕ, List, subst, sym, ap, ◌∙◌, length, get_or, length-append}
 use Rattle.std.proofs.lemmas.List.{get_or_append_left, get_or_push}
-use Rattle.pool.specs.Counts.{Owner, Ticket}
+use Rattle.pool.specs.Counts.{DequeOwner, Ticket}
 use Rattle.pool.specs.Owners.{CutOff, owner_parts}
 use Rattle.pool.proofs.Places.{done_more, left_more, length_one}
 use Rattle.pool.proofs.cutting.cut_round.Goals as goal
 
 pub cut_at-requires-clause-part : goal.cut_at-requires-clause-part
 cut_at-requires-clause-part c = λ o.
-    let i = c.loop-place.invariant in
-    subst (λ (w : Owner). 1 < owner_parts w) (sym (i.left c.loop-place.place o (omega arith)))
-    (c.requires.parts c.loop-place.place o (omega (arith, c.loop-place-test.true, c.len-place-end.ensures, c.args.owners.now.ok.0)))
+    let i = c.loop-index.invariant in
+    subst (λ (w : DequeOwner). 1 < owner_parts w) (sym (i.left c.loop-index.index o (omega arith)))
+    (c.requires.parts c.loop-index.index o (omega (arith, c.loop-index-test.true, c.len-index-end.ensures, c.args.owners.now.ok.0)))
 
-pub loop-place-preserved : goal.loop-place-preserved
-loop-place-preserved c =
-    let i = c.loop-place.invariant in
-    let d = c.loop-place.place in
+pub loop-index-preserved : goal.loop-index-preserved
+loop-index-preserved c =
+    let i = c.loop-index.invariant in
+    let d = c.loop-index.index in
     let start = c.args.owners.now.items in
-    let old = c.loop-place.owners.items in
-    let passes = c.loop-place.passes.items in
+    let old = c.loop-index.owners.items in
+    let passes = c.loop-index.passes.items in
     let passes' = c.push.new.self.items in
     let one = c.cut_at.ensures in
     let items : passes' ≡ passes ++ c.cut_at.result ∷ [] = c.in_ok-push.ensures.items in
     let size = length-append passes (c.cut_at.result ∷ []) in
     let many = ap length items in
-    let here : d < length old = omega (arith, c.loop-place-test.true, c.len-place-end.ensures, i.len, c.args.owners.now.ok.0) in
+    let here : d < length old = omega (arith, c.loop-index-test.true, c.len-index-end.ensures, i.len, c.args.owners.now.ok.0) in
     let last : (p : Ticket) → get_or passes' d p ≡ c.cut_at.result = λ p. ap (λ (l : List Ticket). get_or l d p) items ∙ get_or_push passes c.cut_at.result p d i.count in
     let earlier : (k : ℕ) (p : Ticket) → k < d → get_or passes' k p ≡ get_or passes k p = λ k p below. ap (λ (l : List Ticket). get_or l k p) items ∙ get_or_append_left passes (c.cut_at.result ∷ []) p k (omega (arith, i.count)) in
     record {
@@ -37,8 +37,8 @@ loop-place-preserved c =
 
 pub returns : goal.returns
 returns c =
-    let i = c.loop-place.invariant in
-    let all : length c.args.owners.now.items ≡ c.loop-place.place = omega (arith, c.loop-place-test.false, c.loop-place.auto.place-end, c.len-place-end.ensures, c.args.owners.now.ok.0) in
+    let i = c.loop-index.invariant in
+    let all : length c.args.owners.now.items ≡ c.loop-index.index = omega (arith, c.loop-index-test.false, c.loop-index.auto.index-end, c.len-index-end.ensures, c.args.owners.now.ok.0) in
     record {
       lengths = i.len;
       count = omega (arith, i.count, all);

@@ -12,10 +12,10 @@ loop-task-preserved g c =
     let i = c.loop-task.invariant in
     let put = c.in_default-put_at.ensures in
     let count : c.len-count.result ≡ length c.args.owners.items = omega (arith, c.len-count.ensures, c.args.owners.ok.0) in
-    let below = mod_below (c.loop-task.place + 1) c.len-count.result (omega (arith, count, i.place, i.len)) in
+    let below = mod_below (c.loop-task.index + 1) c.len-count.result (omega (arith, count, i.index, i.len)) in
     record {
       len = put.len ∙ i.len;
-      place = omega (arith, below, count, put.len, i.len);
+      index = omega (arith, below, count, put.len, i.len);
       filled = put.filled;
       tasks = All-tail (g.J.Job.takes c.args.job.now) _ _ (subst (All (g.J.Job.takes c.args.job.now)) c.in-Some.ensures.items i.tasks);
       put = λ n.

@@ -8,7 +8,7 @@ use Rattle.pool.proofs.filling.put_all.Given as goal
 abbrev pub invariant-loop-task : goal.invariant-loop-task
 invariant-loop-task g l = record {
   len : length l.owners.items ≡ length l.fn.owners.items;
-  place : l.place < length l.owners.items;
+  index : l.index < length l.owners.items;
   filled : AreFilled (g.J.Job.takes l.job) l.owners.items;
   tasks : All (g.J.Job.takes l.job) (into_iter_items l.rest);
   put : (n : ℕ) → all_put n l.owners.items + times n (map number_of (into_iter_items l.rest)) ≡ times n (map number_of l.fn.tasks.items);

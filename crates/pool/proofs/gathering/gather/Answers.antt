@@ -1,6 +1,6 @@
 use Rattle.std.proofs.Common.{subst, sym, ◌∙◌, IfOk, suc, List, [], ◌∷◌, take, get_or, arith}
 use Rattle.std.specs.Vec.Iter.{into_iter_items}
-use Rattle.pool.specs.Counts.{Owner}
+use Rattle.pool.specs.Counts.{DequeOwner}
 use Rattle.pool.specs.Stints.{AreGathered, IsWork}
 use Rattle.pool.proofs.Gathers.{gathered_none}
 use Rattle.pool.proofs.Places.{below_of_next, next_is, no_items, take_all, take_next}
@@ -33,7 +33,7 @@ loop-shift-preserved g c =
         λ one others first work.
             let below = below_of_next shifts k c.in-Some.shift _ left in
             let size = work.lengths in
-            subst (λ (l : List Owner). AreGathered (g.J.Job.takes job) (g.J.Job.seats job) (g.J.Job.gives job) thieves (one ∷ l) c.in_ok-all-2.all) (take_next others k one (omega (arith, size, below)))
+            subst (λ (l : List DequeOwner). AreGathered (g.J.Job.takes job) (g.J.Job.seats job) (g.J.Job.gives job) thieves (one ∷ l) c.in_ok-all-2.all) (take_next others k one (omega (arith, size, below)))
             (c.in_ok-all-2.ensures (one ∷ take k others) (get_or others k one) (so_far.2 one others first work)
             (subst (λ r. IfOk r (IsWork (g.J.Job.takes job) (g.J.Job.seats job) (g.J.Job.gives job) thieves (get_or others k one))) next.0 (work.each k one c.in-Some.shift below))),
       );
@@ -44,5 +44,5 @@ returns g c = λ one others first work.
     let job = c.args.common.now.job.now in
     let so_far = c.loop-shift.invariant.so_far in
     let none = no_items (into_iter_items c.loop-shift.rest) (omega (arith, c.in_default.ensures.cases.0, c.loop-shift.rest.rest.ok.0)) in
-    subst (λ (l : List Owner). AreGathered (g.J.Job.takes job) (g.J.Job.seats job) (g.J.Job.gives job) c.args.common.now.thieves.now (one ∷ l) c.loop-shift.all)
+    subst (λ (l : List DequeOwner). AreGathered (g.J.Job.takes job) (g.J.Job.seats job) (g.J.Job.gives job) c.args.common.now.thieves.now (one ∷ l) c.loop-shift.all)
     (take_all c.args.others.items others so_far.0 work.lengths (sym so_far.1 ∙ none)) (so_far.2 one others first work)

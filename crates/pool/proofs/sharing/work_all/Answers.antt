@@ -1,7 +1,7 @@
 use Rattle.std.proofs.Common.{subst, sym, ap, ◌∙◌, ◌≡◌, ◌<◌, List, All, IfOk, arith, map, length, get_or}
 use Rattle.std.proofs.lemmas.List.{get_or-map, length-map}
 use Rattle.std.proofs.lemmas.List.Elements.{All-head, All-tail}
-use Rattle.pool.specs.Counts.{Owner}
+use Rattle.pool.specs.Counts.{DequeOwner}
 use Rattle.pool.specs.Stints.{AreGathered, IsStint, IsWork, owner_of}
 use Rattle.pool.proofs.Places.{some_of, split_first}
 use Rattle.pool.proofs.sharing.work_all.Goals as goal
@@ -30,7 +30,7 @@ returns g c =
     let ran = c.in_ok-own.ensures in
     let split = split_first c.args.stints.items others c.remove-first.result (omega (arith, c.requires.some, c.args.stints.ok.0)) e.value e.items in
     let size : length rest ≡ length others = omega (arith, ran.count, c.in_ok-own.rest.ok.0, c.remove-first.new.self.ok.0) in
-    subst (λ (l : List Owner). IfOk c.gather.result (AreGathered (g.J.Job.takes job) (g.J.Job.seats job) (g.J.Job.gives job) thieves l)) (sym (ap (map owner_of) split))
+    subst (λ (l : List DequeOwner). IfOk c.gather.result (AreGathered (g.J.Job.takes job) (g.J.Job.seats job) (g.J.Job.gives job) thieves l)) (sym (ap (map owner_of) split))
     (c.gather.ensures (owner_of c.remove-first.result) (map owner_of others) ran.first record {
       lengths = length-map others owner_of ∙ sym size;
       each = λ k o s below.

@@ -3,7 +3,7 @@ use Rattle.std.specs.Global.{Vec}
 use Rattle.std.specs.Vec.Iter.{into_iter_items}
 use Rattle.std.proofs.lemmas.List.{map-append}
 use Rattle.std.proofs.lemmas.List.Elements.{All-head, All-push, All-tail}
-use Rattle.pool.specs.Counts.{Owner, Ticket}
+use Rattle.pool.specs.Counts.{DequeOwner, Ticket}
 use Rattle.pool.specs.Owners.{IsOwn, owner_taken}
 use Rattle.pool.specs.Rounds.{IsFresh}
 use Rattle.pool.specs.Stints.{IsStint, owner_of}
@@ -14,8 +14,8 @@ loop-owner-preserved g c =
     let job = c.args.common.now.job.now in
     let thieves = c.args.common.now.thieves.now in
     let i = c.loop-owner.invariant in
-    let O = λ (o : Owner). IsOwn (g.J.Job.takes job) o in
-    let N = λ (o : Owner). owner_taken o ≡ [] in
+    let O = λ (o : DequeOwner). IsOwn (g.J.Job.takes job) o in
+    let N = λ (o : DequeOwner). owner_taken o ≡ [] in
     let F = λ (ps : Vec Ticket). IsFresh (g.J.Job.takes job) thieves ps.items in
     let S = IsStint (g.J.Job.takes job) (g.J.Job.seats job) thieves in
     let owners = c.in-Some.ensures.items in
@@ -31,7 +31,7 @@ loop-owner-preserved g c =
       passes = All-tail F _ _ (subst (All F) rounds i.passes);
       each_seat = All-tail (g.J.Job.seats job) _ _ (subst (All (g.J.Job.seats job)) seats i.each_seat);
       each = subst (All S) (sym push) (All-push S c.loop-owner.all.items _ i.each record {
-        place = omega (arith, c.in-Some.ensures.len, c.len.ensures, i.count, c.requires.thieves);
+        index = omega (arith, c.in-Some.ensures.len, c.len.ensures, i.count, c.requires.thieves);
         own = All-head O _ _ (subst (All O) owners i.own);
         fresh = All-head N _ _ (subst (All N) owners i.fresh);
         passes = All-head F _ _ (subst (All F) rounds i.passes);

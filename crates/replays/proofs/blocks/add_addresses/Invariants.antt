@@ -4,5 +4,5 @@ use Rattle.std.specs.List.{join_with_byte}
 use Rattle.replays.proofs.blocks.add_addresses.Given as goal
 
 -- the addresses so far
-abbrev pub invariant-loop-place : goal.invariant-loop-place
-invariant-loop-place l = l.answer.items ≡ l.initial.answer.items ++ join_with_byte 44 (map decimal (take l.place l.addresses))
+abbrev pub invariant-loop-index : goal.invariant-loop-index
+invariant-loop-index l = l.answer.items ≡ l.initial.answer.items ++ join_with_byte 44 (map decimal (take l.index l.addresses))

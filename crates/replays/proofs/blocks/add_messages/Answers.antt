@@ -7,16 +7,16 @@ use Rattle.replays.specs.WorldLines.{message_text}
 use Rattle.replays.proofs.LineLemmas.{map_twice, piece_more}
 use Rattle.replays.proofs.blocks.add_messages.Goals as goal
 
-pub loop-place-preserved : goal.loop-place-preserved
-loop-place-preserved c =
-    let lt : c.loop-place.place < length c.args.queue.now.items = omega (arith, c.len-place-end.ensures, c.loop-place-test.true) in
-    piece_more (λ (h : Held). message_text (words_of c.args.naming.now) c.args.contract.0 (held_model h)) 32 c.args.answer.now.items c.loop-place.answer.items c.separate.new.answer.items c.add_message.new.answer.items
-    c.args.queue.now.items c.loop-place.place c.index.result.now c.index.result.now lt c.index.ensures c.loop-place.invariant c.in_ok-separate.ensures c.in_ok-add_message.ensures
+pub loop-index-preserved : goal.loop-index-preserved
+loop-index-preserved c =
+    let lt : c.loop-index.index < length c.args.queue.now.items = omega (arith, c.len-index-end.ensures, c.loop-index-test.true) in
+    piece_more (λ (h : Held). message_text (words_of c.args.naming.now) c.args.contract.0 (held_model h)) 32 c.args.answer.now.items c.loop-index.answer.items c.separate.new.answer.items c.add_message.new.answer.items
+    c.args.queue.now.items c.loop-index.index c.index.result.now c.index.result.now lt c.index.ensures c.loop-index.invariant c.in_ok-separate.ensures c.in_ok-add_message.ensures
 
 pub returns : goal.returns
 returns c =
-    let le : length c.args.queue.now.items ≤ c.loop-place.place = omega (arith, c.len-place-end.ensures, c.loop-place-test.false) in
+    let le : length c.args.queue.now.items ≤ c.loop-index.index = omega (arith, c.len-index-end.ensures, c.loop-index-test.false) in
     let text = message_text (words_of c.args.naming.now) c.args.contract.0 in
-    c.loop-place.invariant
-    ∙ ap (λ l. c.args.answer.now.items ++ join_with_byte 32 (map (λ (h : Held). text (held_model h)) l)) (take_all c.loop-place.place c.args.queue.now.items le)
+    c.loop-index.invariant
+    ∙ ap (λ l. c.args.answer.now.items ++ join_with_byte 32 (map (λ (h : Held). text (held_model h)) l)) (take_all c.loop-index.index c.args.queue.now.items le)
     ∙ ap (λ l. c.args.answer.now.items ++ join_with_byte 32 l) (sym (map_twice text held_model c.args.queue.now.items))

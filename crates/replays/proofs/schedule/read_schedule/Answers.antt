@@ -2,7 +2,7 @@ use Rattle.std.proofs.Common.{◌∙◌, ◌∷◌, [], ap, arith, inr, length, 
 use Rattle.std.proofs.lemmas.Result.{err_from_is_err_and}
 use Rattle.std.specs.Prelude.{Err}
 use Rattle.replays.specs.Fronts.{AddsTold}
-use Rattle.replays.specs.Schedules.{Reads, lines_of}
+use Rattle.replays.specs.Schedules.{ReadsSchedule, lines_of}
 use Rattle.replays.specs.declared.limits.TheConstants.{MOST_SCHEDULE}
 use Rattle.replays.proofs.ScheduleLemmas.{IsSoFar, at_first, goes_on, is_first, is_schedule, lines_last, lines_more, refused}
 use Rattle.replays.proofs.schedule.read_schedule.Goals as goal
@@ -11,7 +11,7 @@ pub returns-in_err-add_event : goal.returns-in_err-add_event
 returns-in_err-add_event c =
     let exit = err_from_is_err_and c.from_residual.result c.from_residual.ensures.1 in
     let lines = lines_more c.lines.rest.now c.in-Some.line.now c.in-Some.behind.now c.in-Some.ensures.some in
-    subst (Reads c.args.bytes.now) (sym (exit.1 ∙ ap Err exit.2))
+    subst (ReadsSchedule c.args.bytes.now) (sym (exit.1 ∙ ap Err exit.2))
     (refused c.args.bytes.now c.lines.rest.now _ _ c.lines.number c.lines.events.items _ c.lines.invariant.so_far (lines ∙ ap (λ l. l ∷ lines_of c.in-Some.behind.now) (sym c.without_return.ensures)) c.in_err-add_event.ensures.fault)
 
 pub lines-smaller : goal.lines-smaller
@@ -38,7 +38,7 @@ returns-then-bytes-gt-MOST_SCHEDULE c =
 pub returns-in_err-add_event-2 : goal.returns-in_err-add_event-2
 returns-in_err-add_event-2 c =
     let exit = err_from_is_err_and c.from_residual-in_err-add_event-2.result c.from_residual-in_err-add_event-2.ensures.1 in
-    subst (Reads c.args.bytes.now) (sym (exit.1 ∙ ap Err exit.2))
+    subst (ReadsSchedule c.args.bytes.now) (sym (exit.1 ∙ ap Err exit.2))
     (refused c.args.bytes.now c.lines.rest.now c.lines.rest.now [] c.lines.number c.lines.events.items _ c.lines.invariant.so_far (lines_last c.lines.rest.now c.in_default.ensures.none) c.in_err-add_event-2.ensures.fault)
 
 pub returns : goal.returns

@@ -3,7 +3,7 @@ use Rattle.std.proofs.lemmas.List.{length-map}
 use Rattle.std.proofs.lemmas.Option.{slice_get_read}
 use Rattle.tree.specs.Trees.{item_tree}
 use Rattle.resolving.specs.Around.{program_in}
-use Rattle.resolving.specs.declared.counts.Before.{Before}
+use Rattle.resolving.specs.declared.counts.ItemsBefore.{ItemsBefore}
 use Rattle.resolving.proofs.CalleeLemmas.{callee_is}
 use Rattle.resolving.proofs.CountLemmas.{count_read, counts_long, number_few}
 use Rattle.resolving.proofs.calls.method_at.Goals as goal
@@ -48,4 +48,4 @@ returns c = λ items own h.
     callee_is p c.args.class c.args.name c.in_ok-place.place b.methods around.items.now c.in_ok-item.item.now c.methods_of.result.now c.in_ok-method.method.now h.items (c.in_ok-place.ensures p h.directory.scope)
     (slice_get_read around.items.now _ c.args.class c.in_ok-item.item.now refl item.3.0 item.1) c.methods_of.ensures
     (slice_get_read c.methods_of.result.now _ c.in_ok-place.place c.in_ok-method.method.now refl method.3.0 method.1)
-    (ap (λ (x : Before). x.methods) (count_read (map item_tree around.items.now) around.directory.before.now c.args.class b around.counted before.3.0 before.1))
+    (ap (λ (x : ItemsBefore). x.methods) (count_read (map item_tree around.items.now) around.directory.before.now c.args.class b around.counted before.3.0 before.1))

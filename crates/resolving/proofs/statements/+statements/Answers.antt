@@ -15,8 +15,8 @@ use Rattle.resolving.specs.Around.{program_in}
 use Rattle.resolving.specs.Binds.{binds_told}
 use Rattle.resolving.specs.Frames.{staying_model}
 use Rattle.resolving.specs.Reads.{reads}
-use Rattle.resolving.specs.Steps.{IsTold, walked}
-use Rattle.resolving.specs.Told.{Told, follow, made as remade, block_told, ended, others_told, awaited_as, awaited_message, awaited_params, cases_told, in_switch, statement_told, statements_told, test_told}
+use Rattle.resolving.specs.Steps.{IsResolvedPiece, walked}
+use Rattle.resolving.specs.Told.{ResolvedPiece, follow, made as remade, block_told, ended, others_told, awaited_as, awaited_message, awaited_params, cases_told, in_switch, statement_told, statements_told, test_told}
 use Rattle.resolving.proofs.BlockLemmas.{block_ends, if_told, made_told, number_is, told_as, test_ends}
 use Rattle.resolving.proofs.BodyLemmas.{sequence_told, walks_all, walks_more}
 use Rattle.resolving.proofs.CaseLemmas.{CasesGo, bound_in, case_ends, cases_end, cases_more, cases_start, first_inside, other_inside, switch_cases}
@@ -35,7 +35,7 @@ tell_statements-loop-statement-preserved t c = λ items own f round h.
     let xs = c.args.statements.now in
     let i = c.loop-statement.statement-index in
     let after = c.tell_statement.new.locals in
-    subst (λ l. IsTold text (walked (λ s. statement_told p own stays (statement_tree s)) (take (i + 1) xs) f) (map statement_model l) after) (sym {A = List Statement} c.in_ok-push.ensures.items)
+    subst (λ l. IsResolvedPiece text (walked (λ s. statement_told p own stays (statement_tree s)) (take (i + 1) xs) f) (map statement_model l) after) (sym {A = List Statement} c.in_ok-push.ensures.items)
     (walks_more text (λ s. statement_told p own stays (statement_tree s)) statement_model xs i c.statement-item.result f _ c.loop-statement.told.items c.loop-statement.locals after c.loop-statement-test.true c.statement-item.is
     (c.loop-statement.invariant items own f round h) (λ g here. c.in_ok-tell_statement.ensures items own g round here))
 
@@ -56,7 +56,7 @@ tell_tests-loop-test-preserved t c = λ items own f round h.
     let xs = c.args.tests.now in
     let i = c.loop-test.test-index in
     let after = c.tell_test.new.locals in
-    subst (λ l. IsTold text (walked (λ s. test_told p own stays (test_tree s)) (take (i + 1) xs) f) (map test_model l) after) (sym {A = List Test} c.in_ok-push.ensures.items)
+    subst (λ l. IsResolvedPiece text (walked (λ s. test_told p own stays (test_tree s)) (take (i + 1) xs) f) (map test_model l) after) (sym {A = List Test} c.in_ok-push.ensures.items)
     (walks_more text (λ s. test_told p own stays (test_tree s)) test_model xs i c.test-item.result f _ c.loop-test.told.items c.loop-test.locals after c.loop-test-test.true c.test-item.is
     (c.loop-test.invariant items own f round h) (λ g here. c.in_ok-tell_test.ensures items own g round here))
 
@@ -78,10 +78,10 @@ tell_block-returns t c = λ items own f round h.
     let after = c.leave.new.self in
     let sequence = statement_sequence (map statement_tree block.statements.items) in
     let t = statements_told p own stays sequence f in
-    let inner = subst (λ xs. IsTold text (statements_told p own stays (statement_sequence (map statement_tree xs)) f) (seen.statement_sequence (map statement_model told.items)) inside) c.deref.ensures.value (c.in_ok-statements.ensures items own f round h) in
+    let inner = subst (λ xs. IsResolvedPiece text (statements_told p own stays (statement_sequence (map statement_tree xs)) f) (seen.statement_sequence (map statement_model told.items)) inside) c.deref.ensures.value (c.in_ok-statements.ensures items own f round h) in
     let whole = block_model (made.Block.roll-Block (record { statements = told; forget = c.forget_past-forget.result })) in
-    subst (λ b. IsTold text (block_told p own stays b f) whole after) (sym (block_is block))
-    (subst (λ (b : BlockModel). IsTold text (ended block.close.place f t) b after) (sym (block_made told c.forget_past-forget.result))
+    subst (λ b. IsResolvedPiece text (block_told p own stays b f) whole after) (sym (block_is block))
+    (subst (λ (b : BlockModel). IsResolvedPiece text (ended block.close.place f t) b after) (sym (block_made told c.forget_past-forget.result))
     (block_ends text block.close.place f t _ inside after c.len-outer.result c.last-last.result c.last.result c.forget_past-forget.result (kept f t.frame (statements_extend p own stays sequence f))
     (c.len-outer.ensures text f h) (c.last-last.ensures text f h) (c.last.ensures text t.frame inner.frame) c.forget_past-forget.ensures c.leave.ensures inner))
 
@@ -94,11 +94,11 @@ tell_if-returns t c = λ items own f round h.
     let last = c.tell_otherwise.new.locals in
     let made_of = if_made c.in_ok-first.first c.in_ok-others.others c.in_ok-otherwise.otherwise in
     let whole = if_model (made.If.roll-If (record { first = c.in_ok-first.first; others = c.in_ok-others.others; otherwise = c.in_ok-otherwise.otherwise })) in
-    subst (λ (b : IfTree). IsTold text (follow seen.If (test_told p own stays b.first f) (others_told p own stays b.others)) (seen.If whole.first whole.others) last) (sym (if_is c.args.branches.now))
-    (subst (λ (i : IfModel). IsTold text (follow seen.If (test_told p own stays (test_tree parts.first) f) (others_told p own stays (trees.other_sequence (map test_tree parts.others.items) (option_map block_tree parts.otherwise)))) (seen.If i.first i.others) last) (sym made_of)
+    subst (λ (b : IfTree). IsResolvedPiece text (follow seen.If (test_told p own stays b.first f) (others_told p own stays b.others)) (seen.If whole.first whole.others) last) (sym (if_is c.args.branches.now))
+    (subst (λ (i : IfModel). IsResolvedPiece text (follow seen.If (test_told p own stays (test_tree parts.first) f) (others_told p own stays (trees.other_sequence (map test_tree parts.others.items) (option_map block_tree parts.otherwise)))) (seen.If i.first i.others) last) (sym made_of)
     (if_told p own stays (test_tree parts.first) (map test_tree parts.others.items) (option_map block_tree parts.otherwise) f _ _ _ c.tell_test.new.locals c.tell_tests.new.locals last
     (c.in_ok-first.ensures items own f round h)
-    (λ g here. subst (λ ts. IsTold text (walked (test_told p own stays) (map test_tree ts) g) (map test_model c.in_ok-others.others.items) c.tell_tests.new.locals) c.deref.ensures.value (c.in_ok-others.ensures items own g round here))
+    (λ g here. subst (λ ts. IsResolvedPiece text (walked (test_told p own stays) (map test_tree ts) g) (map test_model c.in_ok-others.others.items) c.tell_tests.new.locals) c.deref.ensures.value (c.in_ok-others.ensures items own g round here))
     (λ g here. c.in_ok-otherwise.ensures items own g round here)))
 
 pub tell_otherwise-returns-in_ok-block-in-Some : goal.tell_otherwise-returns-in_ok-block-in-Some
@@ -106,7 +106,7 @@ tell_otherwise-returns-in_ok-block-in-Some t c = λ items own f round h.
     let text = c.args.text.now in
     let p = program_in text items in
     let stays = staying_model c.args.stays in
-    subst (λ o. IsTold text (others_told p own stays (trees.last_other (option_map block_tree o)) f) (seen.Else (block_model c.in_ok-block-in-Some.block)) c.tell_block.new.locals) (sym c.in-Some.is)
+    subst (λ o. IsResolvedPiece text (others_told p own stays (trees.last_other (option_map block_tree o)) f) (seen.Else (block_model c.in_ok-block-in-Some.block)) c.tell_block.new.locals) (sym c.in-Some.is)
     (made_told text seen.Else _ _ c.tell_block.new.locals (c.in_ok-block-in-Some.ensures items own f round h))
 
 pub tell_statement-returns-in_ok-tell_block-in-Block : goal.tell_statement-returns-in_ok-tell_block-in-Block
@@ -128,7 +128,7 @@ tell_statement-returns-in_ok-told-in-While t c = λ items own f round h.
     let test = c.in_ok-told-in-While.told in
     let after = c.tell_test.new.locals in
     let tree = ap statement_tree c.in-While.is ∙ of_while c.in-While.test ∙ ap (λ t. trees.While (test_tree t)) (sym c.deref-in-While.ensures) in
-    let come = subst (λ stays. IsTold text (remade seen.While (test_told p own stays (test_tree c.deref-in-While.result.now) f)) (seen.While (test_model test)) after) (c.here-inside.ensures f (number_is c.last.result f.last (c.last.ensures text f h)))
+    let come = subst (λ stays. IsResolvedPiece text (remade seen.While (test_told p own stays (test_tree c.deref-in-While.result.now) f)) (seen.While (test_model test)) after) (c.here-inside.ensures f (number_is c.last.result f.last (c.last.ensures text f h)))
     (made_told text seen.While _ _ after (c.in_ok-told-in-While.ensures items own f round h)) in
     IfOk-weaker c.while_of.result _ _ (λ s is. told_as p own (staying_model c.args.stays) f tree is come) c.while_of.ensures
 
@@ -145,7 +145,7 @@ tell_statement-returns-in_default t c = λ items own f round h.
       continue = c.in_default.not-Continue;
       switch = c.in_default.not-Switch;
     }) in
-    subst (λ (t : Told StatementModel). IfOk c.tell_alone.result (λ s. IsTold text t (statement_model s) c.tell_alone.new.locals)) (sym alone.is) (c.tell_alone.ensures items own f round h)
+    subst (λ (t : ResolvedPiece StatementModel). IfOk c.tell_alone.result (λ s. IsResolvedPiece text t (statement_model s) c.tell_alone.new.locals)) (sym alone.is) (c.tell_alone.ensures items own f round h)
 
 pub tell_test-returns : goal.tell_test-returns
 tell_test-returns t c = λ items own f round h.
@@ -164,11 +164,11 @@ tell_statement-returns-in_ok-cases-in-Switch t c = λ items own f round h.
     let after = c.tell_cases.new.locals in
     let all : CaseTrees = trees.MoreCases tree.first (case_sequence tree.others) in
     let inside = c.in_switch-inside.ensures f (number_is c.last-in-Switch.result f.last (c.last-in-Switch.ensures text f h)) in
-    let come = subst (λ s. IsTold text (cases_told p own (staying_model c.in_switch-inside.result) (trees.MoreCases (switch_tree s).first (case_sequence (switch_tree s).others)) (switch_tree s).close.place f) (seen.case_sequence (map case_model cases.items)) after)
+    let come = subst (λ s. IsResolvedPiece text (cases_told p own (staying_model c.in_switch-inside.result) (trees.MoreCases (switch_tree s).first (case_sequence (switch_tree s).others)) (switch_tree s).close.place f) (seen.case_sequence (map case_model cases.items)) after)
     (c.deref-in-Switch.ensures ∙ sym c.deref-in-Switch-2.ensures) (c.in_ok-cases-in-Switch.ensures items own f round h) in
     told_as p own (staying_model c.args.stays) f (ap statement_tree c.in-Switch.is ∙ of_switch c.in-Switch.switch ∙ ap (λ s. trees.Switch (switch_tree s).word (switch_tree s).first (case_sequence (switch_tree s).others) (switch_tree s).close) (sym c.deref-in-Switch-2.ensures)) (seen_as.of_switch place cases ∙ ap (λ (w : SwitchTree). seen.Switch w.word.place (seen.case_sequence (map case_model cases.items))) (sym (switch_is switch)))
     (made_told text (seen.Switch tree.word.place) (cases_told p own (in_switch (staying_model c.args.stays) f) all tree.close.place f) _ after
-    (subst (λ stays. IsTold text (cases_told p own stays all tree.close.place f) (seen.case_sequence (map case_model cases.items)) after) inside come))
+    (subst (λ stays. IsResolvedPiece text (cases_told p own stays all tree.close.place f) (seen.case_sequence (map case_model cases.items)) after) inside come))
 
 pub tell_case-returns : goal.tell_case-returns
 tell_case-returns t c = λ items own f round h.
@@ -187,13 +187,13 @@ tell_case-returns t c = λ items own f round h.
     let sequence = statement_sequence (map statement_tree case.statements.items) in
     let b = bound_in p case f in
     let t = statements_told p own stays sequence b.frame in
-    let binds = subst (λ bs. IsTold text (binds_told p (awaited_params m) bs f) targets.items brought) c.deref.ensures.value
-    (subst (λ ps. IsTold text (binds_told p ps c.deref.result.now f) targets.items brought) params (c.in_ok-targets.ensures items own f round h)) in
-    let inner = subst (λ xs. IsTold text (statements_told p own stays (statement_sequence (map statement_tree xs)) b.frame) (seen.statement_sequence (map statement_model told.items)) inside) c.deref-2.ensures.value
+    let binds = subst (λ bs. IsResolvedPiece text (binds_told p (awaited_params m) bs f) targets.items brought) c.deref.ensures.value
+    (subst (λ ps. IsResolvedPiece text (binds_told p ps c.deref.result.now f) targets.items brought) params (c.in_ok-targets.ensures items own f round h)) in
+    let inner = subst (λ xs. IsResolvedPiece text (statements_told p own stays (statement_sequence (map statement_tree xs)) b.frame) (seen.statement_sequence (map statement_model told.items)) inside) c.deref-2.ensures.value
     (c.in_ok-statements.ensures items own b.frame round binds.frame) in
     case_ends p own stays c.args.behind f case c.case_endpoint-endpoint.result c.awaited_as.result targets (made.Block.roll-Block (record { statements = told; forget = c.forget_past-forget.result })) after
     (c.case_endpoint-endpoint.ensures items f h) (c.awaited_as.ensures ∙ ap (awaited_as case.message) meant) binds.is
-    (subst (λ (k : BlockModel). IsTold text (ended c.args.behind f t) k after) (sym (block_made told c.forget_past-forget.result))
+    (subst (λ (k : BlockModel). IsResolvedPiece text (ended c.args.behind f t) k after) (sym (block_made told c.forget_past-forget.result))
     (block_ends text c.args.behind f t _ inside after c.len-kept.result c.last-last.result c.last.result c.forget_past-forget.result (kept f t.frame (case_extends p own stays (awaited_params m) case.binds.items sequence f))
     (c.len-kept.ensures text f h) (c.last-last.ensures text f h) (c.last.ensures text t.frame inner.frame) c.forget_past-forget.ensures c.leave.ensures inner))
 
@@ -245,8 +245,8 @@ tell_cases-returns t c = λ items own f round h.
     let i = c.loop-next.next-index in
     let all = trees.MoreCases (case_tree switch.first) (case_sequence (map case_tree others)) in
     let after = c.tell_case-2.new.locals in
-    subst (λ (w : Told CasesModel). IsTold text w (seen.case_sequence (map case_model c.push-2.new.self.items)) after) (sym (switch_cases p own stays f c.args.switch.now))
-    (subst (λ l. IsTold text (cases_told p own stays all switch.close.place f) (seen.case_sequence (map case_model l)) after) (sym {A = List made.Case.Case} c.in_ok-push-2.ensures.items)
+    subst (λ (w : ResolvedPiece CasesModel). IsResolvedPiece text w (seen.case_sequence (map case_model c.push-2.new.self.items)) after) (sym (switch_cases p own stays f c.args.switch.now))
+    (subst (λ l. IsResolvedPiece text (cases_told p own stays all switch.close.place f) (seen.case_sequence (map case_model l)) after) (sym {A = List made.Case.Case} c.in_ok-push-2.ensures.items)
     (cases_end p own stays switch.close.place f all c.loop-next.told.items (case_tree c.loop-next.case.now) others i c.loop-next.locals after c.in_ok-last.last
     (subst (λ (l : List stated.Case.Case). length l ≤ i) c.deref-next-items.ensures.value c.loop-next-test.false)
     (c.loop-next.invariant.cases items own f round h) (λ g here. c.in_ok-last.ensures items own g round here)))

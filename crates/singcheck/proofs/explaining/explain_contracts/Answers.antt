@@ -5,7 +5,7 @@ use Rattle.std.proofs.lemmas.List.Elements.{All-append, All-weaker}
 use Rattle.analyse.proofs.FrontLemmas.{contains_at}
 use Rattle.source.specs.Findings.{finding_model}
 use Rattle.program.specs.Parts.{Parts, contract_parts, contract_model}
-use Rattle.contracts.specs.Conditions.{AreExactly, IsFault}
+use Rattle.contracts.specs.Conditions.{AreExactly, IsFlaw}
 use Rattle.traces.specs.Explained.{explained_model}
 use Rattle.traces.specs.Shown.{IsShown}
 use Rattle.traces.specs.declared.line.Explained.{Explained}
@@ -34,8 +34,8 @@ loop-number-preserved c =
     let turn = at_turn all n lt in
     record {
       found = broken_turn all n (map finding old) (map finding more) (map finding c.append.new.self.items) lt i.found
-          (λ s at. subst (λ (p : Parts). AreExactly (IsFault p) (map finding more)) (sym (parts_at resolved n parts s c.contract_at-contract.ensures at))
-          (subst (AreExactly (IsFault parts)) (sym c.in_ok-more.ensures.same) c.in_ok-broken.ensures.exactly))
+          (λ s at. subst (λ (p : Parts). AreExactly (IsFlaw p) (map finding more)) (sym (parts_at resolved n parts s c.contract_at-contract.ensures at))
+          (subst (AreExactly (IsFlaw parts)) (sym c.in_ok-more.ensures.same) c.in_ok-broken.ensures.exactly))
           (ap (map finding) items ∙ map-append finding old more);
       each = subst (All holds) (sym items) (All-append holds old more i.each
           (All-weaker (λ (e : Explained). IsShown c.args.named parts (explained_model e)) holds

@@ -1,7 +1,7 @@
 use Rattle.std.proofs.Common.{List, ℕ, subst, rules}
 use Rattle.std.specs.Prelude.{IfSome}
 use Rattle.std.specs.Io.KnownBytes.{Appends}
-use Rattle.devices.specs.Devices.{Begins}
+use Rattle.devices.specs.Devices.{TakesBeginning}
 use Rattle.devices.specs.Runs.{LeavesRest}
 use Rattle.devices.specs.declared.reading.TheConstants.{MAX_READ}
 use Rattle.singcheck.specs.Replays.{HasSomeEntry, LacksSchedule, Replays}
@@ -23,7 +23,7 @@ returns-in_err-write_all-clause-begun g c = λ told.
     let is = text_is (g.R.Source.remaining c.args.reader.now) (g.R.Source.remaining c.read_text.new.reader) c.in_ok-text.text.items MAX_READ c.in_ok-text.ensures.bytes c.in_ok-text.ensures.long c.in_ok-text.ensures.end in
     replay_begun c.args.entry.now (g.R.Source.remaining c.args.reader.now) (g.Q.Source.remaining c.args.schedule.now) (g.W.Sink.contents c.args.writer.now) (g.W.Sink.contents c.write_all.new.writer) c.in_ok-text.text.items answer.bytes.items answer.status is
     (subst (λ (t : List ℕ). IfSome (g.Q.Source.remaining c.args.schedule.now) (λ lines. Replays c.args.entry.now lines t answer.bytes.items answer.status)) c.deref.ensures.value c.in_ok-answer.ensures.replays)
-    (subst (λ b. Begins (g.W.Sink.contents c.args.writer.now) (g.W.Sink.contents c.write_all.new.writer) b) c.deref-2.ensures.value c.in_err-write_all.ensures.begun)
+    (subst (λ b. TakesBeginning (g.W.Sink.contents c.args.writer.now) (g.W.Sink.contents c.write_all.new.writer) b) c.deref-2.ensures.value c.in_err-write_all.ensures.begun)
 
 pub returns-clause-written : goal.returns-clause-written
 returns-clause-written g c =

@@ -1,6 +1,6 @@
 use Rattle.std.proofs.Common.{◌≡◌, List, ℕ, subst, sym}
 use Rattle.std.specs.Prelude.{Err}
-use Rattle.replays.specs.Schedules.{IsFirstMalformed, IsSchedule, Reads}
+use Rattle.replays.specs.Schedules.{IsFirstMalformed, IsSchedule, ReadsSchedule}
 use Rattle.singcheck.specs.declared.limits.TheConstants.{MAX_SCHEDULE_READ}
 use Rattle.singcheck.proofs.ReplayLemmas.{of_read, some_map}
 use Rattle.singcheck.proofs.Texts.{rest_is, text_is}
@@ -22,7 +22,7 @@ returns-in-Err-Malformed-clause-line g c = λ n told.
     let line = c.in-Err-Malformed.line in
     let same : line ≡ n = cc in
     let is = text_is (g.Q.Source.remaining c.args.schedule.now) (g.Q.Source.remaining c.read_up_to.new.reader) bytes MAX_SCHEDULE_READ c.in_ok-bytes.ensures.bytes c.in_ok-bytes.ensures.long c.in_ok-bytes.ensures.end in
-    let wrong = subst (λ (b : List ℕ). IsFirstMalformed b line) c.deref.ensures.value (subst (λ f. Reads c.deref.result.now (Err f)) c.in-Err-Malformed.field-0-is c.in-Err-Malformed.ensures) in
+    let wrong = subst (λ (b : List ℕ). IsFirstMalformed b line) c.deref.ensures.value (subst (λ f. ReadsSchedule c.deref.result.now (Err f)) c.in-Err-Malformed.field-0-is c.in-Err-Malformed.ensures) in
     of_read (λ xs. IsFirstMalformed xs n) (g.Q.Source.remaining c.args.schedule.now) bytes (λ xs. c.a_front_tells_all.ensures.line xs n) is (subst (IsFirstMalformed bytes) same wrong)
 
 pub returns-in-Ok-clause-rest : goal.returns-in-Ok-clause-rest

@@ -1,6 +1,6 @@
 use Rattle.std.proofs.Common.{◌≡◌, subst, rules}
 use Rattle.std.specs.Io.KnownBytes.{Appends}
-use Rattle.devices.specs.Devices.{Begins}
+use Rattle.devices.specs.Devices.{TakesBeginning}
 use Rattle.devices.specs.declared.fault.Status.TheVariants.{Empty}
 use Rattle.devices.specs.declared.reading.TheConstants.{MAX_READ}
 use Rattle.singcheck.specs.Checks.{Checks}
@@ -22,7 +22,7 @@ returns-in_err-write_all-clause-begun g c = λ told.
     let is = text_is (g.I.Source.remaining c.args.reader.now) (g.I.Source.remaining c.read_text.new.reader) c.in_ok-text.text.items MAX_READ c.in_ok-text.ensures.bytes c.in_ok-text.ensures.long c.in_ok-text.ensures.end in
     begins_is Checks (g.I.Source.remaining c.args.reader.now) (g.O.Sink.contents c.args.writer.now) (g.O.Sink.contents c.write_all.new.writer) c.in_ok-text.text.items report.bytes.items report.status MAX_READ checks_of_front is
     (subst (λ t. Checks t report.bytes.items report.status) c.deref.ensures.value c.in_ok-report.ensures.report)
-    (subst (λ b. Begins (g.O.Sink.contents c.args.writer.now) (g.O.Sink.contents c.write_all.new.writer) b) c.deref-2.ensures.value c.in_err-write_all.ensures.begun)
+    (subst (λ b. TakesBeginning (g.O.Sink.contents c.args.writer.now) (g.O.Sink.contents c.write_all.new.writer) b) c.deref-2.ensures.value c.in_err-write_all.ensures.begun)
 
 pub returns-clause-written : goal.returns-clause-written
 returns-clause-written g c =

@@ -3,7 +3,7 @@ use Rattle.std.specs.Prelude.{All, count_by}
 use Rattle.std.specs.Vec.{with_items}
 use Rattle.std.proofs.lemmas.List.{length_push, take_rest}
 use Rattle.std.proofs.lemmas.List.Elements.{All-drop}
-use Rattle.contracts.specs.declared.components.Status.TheVariants.{Complete, New}
+use Rattle.contracts.specs.declared.components.VertexStatus.TheVariants.{Complete, New}
 use Rattle.contracts.specs.Graphs.{groups}
 use Rattle.contracts.specs.Searches.{IsSearch, TellsComponent, is_new, status_at, written}
 use Rattle.contracts.proofs.RisingLemmas.{but_last}

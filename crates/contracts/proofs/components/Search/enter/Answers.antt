@@ -2,7 +2,7 @@ use Rattle.std.proofs.Common.{◌≡◌, ◌++◌, ◌∷◌, [], ◌∙◌, ◌
 use Rattle.std.proofs.Math.ListN.{set}
 use Rattle.std.proofs.lemmas.List.{length-append, length-map, length_push}
 use Rattle.std.specs.Prelude.{count_by}
-use Rattle.contracts.specs.declared.components.Status.TheVariants.{Pending}
+use Rattle.contracts.specs.declared.components.VertexStatus.TheVariants.{Pending}
 use Rattle.contracts.specs.Arcs.{arc}
 use Rattle.contracts.specs.Graphs.{groups, group_at}
 use Rattle.contracts.specs.Searches.{AreFound, is_new}

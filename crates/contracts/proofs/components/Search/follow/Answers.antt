@@ -1,6 +1,6 @@
 use Rattle.std.proofs.Common.{◌≡◌, ◌∙◌, ◌-◌, take, sym, ap, arith}
 use Rattle.std.proofs.lemmas.List.{get_or_read}
-use Rattle.contracts.specs.declared.components.Status.TheVariants.{New}
+use Rattle.contracts.specs.declared.components.VertexStatus.TheVariants.{New}
 use Rattle.contracts.specs.Graphs.{groups}
 use Rattle.contracts.specs.Searches.{status_at}
 use Rattle.contracts.proofs.ComponentLemmas.{next_joined, next_leads, next_off, next_within}

@@ -2,7 +2,7 @@ use Rattle.std.proofs.Common.{◌≡◌, ◌∙◌, List, [], ◌∷◌, length,
 use Rattle.std.specs.Prelude.{Contains}
 use Rattle.std.proofs.lemmas.Bool.{eqb-true, eqb-false}
 use Rattle.std.proofs.lemmas.List.{length-map}
-use Rattle.contracts.specs.Conditions.{FindingModel, finding_model, AreExactly, IsFault, IsSound}
+use Rattle.contracts.specs.Conditions.{FindingModel, finding_model, AreExactly, IsFlaw, IsSound}
 use Rattle.source.specs.declared.finding.Finding.{Finding}
 use Rattle.contracts.specs.Parts.{Parts, contract_parts}
 use Rattle.contracts.proofs.sound.Sound.judge.Goals as goal
@@ -21,7 +21,7 @@ returns-then-not-is_empty c =
     ((some.0, c.in_ok-found.ensures.exactly.right some.0 some.1), c.in_ok-found.ensures.exactly)
 
 -- where nothing is found, the contract is sound
-none_found : (parts : Parts) (found : List Finding) → AreExactly (IsFault parts) (map finding_model found) → length found ≡ 0 → IsSound parts
+none_found : (parts : Parts) (found : List Finding) → AreExactly (IsFlaw parts) (map finding_model found) → length found ≡ 0 → IsSound parts
 none_found parts found exactly none = λ f fault.
     let there = exactly.all f fault in
     let lt = there.1 in

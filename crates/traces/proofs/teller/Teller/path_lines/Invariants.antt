@@ -10,14 +10,14 @@ use Rattle.analyse.specs.Workers.{HasSeen, IsWorkerOf, own_of}
 use Rattle.traces.specs.Lines.{line_model, path_lines, start_lines}
 use Rattle.traces.proofs.teller.Teller.path_lines.Given as goal
 
-abbrev pub invariant-loop-place : goal.invariant-loop-place
-invariant-loop-place l = record {
+abbrev pub invariant-loop-index : goal.invariant-loop-index
+invariant-loop-index l = record {
   worker : IsWorkerOf l.rows l.worker;
   differ : Differ (own_of l.worker);
   count : length (pairs_of l.worker.seen) ≡ length (pairs_of l.fn.worker.seen);
   seen : (pairs : List outcomes.Pair) → HasSeen l.fn.worker pairs → HasSeen l.worker pairs;
   lines : (pairs steps : List outcomes.Pair) (first : outcomes.Pair) → HasSeen l.fn.worker pairs → slice_get pairs 0 ≡ Some first
-      → AllZip (λ place x. slice_get pairs place ≡ Some x) l.indices steps
-      → map line_model l.lines.items ++ path_lines (model_of l.self.program.now) (method_model l.self.method.now) (map (λ v. v.0) l.watched) ((l.point, row_model l.before) ∷ drop l.place-index steps)
+      → AllZip (λ index x. slice_get pairs index ≡ Some x) l.indices steps
+      → map line_model l.lines.items ++ path_lines (model_of l.self.program.now) (method_model l.self.method.now) (map (λ v. v.0) l.watched) ((l.point, row_model l.before) ∷ drop l.index-index steps)
       ≡ start_lines (model_of l.self.program.now) (method_model l.self.method.now) (map (λ v. v.0) l.watched) first.1 ++ path_lines (model_of l.self.program.now) (method_model l.self.method.now) (map (λ v. v.0) l.watched) (first ∷ steps);
 }
