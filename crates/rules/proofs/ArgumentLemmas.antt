@@ -1,5 +1,5 @@
 -- Checks of arguments: what was found stands for them, argument by argument.
-use Rattle.std.proofs.Common.{◌≡◌, ℕ, ◌+◌, ◌<◌, ◌≤◌, Bool, true, false, not, ◌||◌, ◌==◌, List, [], ◌∷◌, ◌++◌, length, drop, slice_index_or, Option, None, Some, if◌then◌else◌, refl, sym, ap, ◌∙◌, append_assoc, arith, zip, ◌⊎◌, inl, inr, min, ⊎_elim}
+use Rattle.std.proofs.Common.{◌≡◌, ℕ, ◌+◌, ◌<◌, ◌≤◌, Bool, true, false, not, ◌||◌, ◌==◌, List, [], ◌∷◌, ◌++◌, length, drop, slice_index_or, Option, None, Some, Ok, Err, if◌then◌else◌, refl, sym, ap, ◌∙◌, append_assoc, arith, zip, ◌⊎◌, inl, inr, min, ⊎_elim}
 use Rattle.std.specs.BTreeSet.{BTreeSet, contains, IsEmpty, Updates}
 use Rattle.std.specs.BTreeMap.{is_at}
 use Rattle.std.specs.List.{list_any}
@@ -15,10 +15,12 @@ use Rattle.rules.specs.Checks.{AreIn, StandsFor, check_model}
 use Rattle.rules.specs.Arguments.{claimed, given_before}
 use Rattle.rules.specs.Mentions.{name_of}
 use Rattle.rules.specs.Outcomes.{Check, Pair, checked, refused}
-use Rattle.rules.specs.Repeats.{first_again, told_again}
+use Rattle.rules.specs.Repeats.{first_again, require_none_again}
 use Rattle.rules.specs.Texts.{twice}
 use Rattle.rules.specs.declared.breach.Breach.{Breach}
 use Rattle.rows.specs.declared.row.Leaf.{Leaf}
+use Rattle.std.specs.Prelude.{Result, IsErrAnd}
+use Rattle.rules.proofs.CallLemmas.{passed_on}
 use Rattle.flow.proofs.EndpointLemmas.{same_test, at_same, was_not, was_there}
 
 -- so many arguments were looked at, the variables of these are in the set, and none of them was given before
@@ -64,22 +66,22 @@ none_in set empty = λ q. ap (list_any (is_at (nat_cmp q))) empty
 pub looked_first : (set : BTreeSet ℕ) (arguments : List Argument) → IsEmpty set → Looked set arguments 0
 looked_first set arguments empty = record { same = ([], none_in set empty, refl) }
 
-one : (m : MethodModel) (b : Bool) (x : Mention) (checks more : List Check) (again : Option Mention) (after : List Pair) → checked (checks ++ more) after ≡ checked (told_again m again ∷ more) after
-    → checked (refused b (twice (name_of m x.variable.0) x.place) ∷ (checks ++ more)) after ≡ checked (told_again m (if b then Some x else again) ∷ more) after
+one : (m : MethodModel) (b : Bool) (x : Mention) (checks more : List Check) (again : Option Mention) (after : List Pair) → checked (checks ++ more) after ≡ checked (require_none_again m again ∷ more) after
+    → checked (refused b (twice (name_of m x.variable.0) x.place) ∷ (checks ++ more)) after ≡ checked (require_none_again m (if b then Some x else again) ∷ more) after
 one m true x checks more again after h = refl
 one m false x checks more again after h = h
 
 -- the first one that was given before is the finding
-pub again_is : (m : MethodModel) (earlier : List ℕ) (arguments : List Argument) (more : List Check) (after : List Pair) → checked (given_before m earlier arguments ++ more) after ≡ checked (told_again m (first_again earlier arguments) ∷ more) after
+pub again_is : (m : MethodModel) (earlier : List ℕ) (arguments : List Argument) (more : List Check) (after : List Pair) → checked (given_before m earlier arguments ++ more) after ≡ checked (require_none_again m (first_again earlier arguments) ∷ more) after
 again_is m earlier [] more after = refl
 again_is m earlier (a ∷ arguments) more after =
     let x = a.mention in
     one m (is_among earlier x.variable.0) x (given_before m (x.variable.0 ∷ earlier) arguments) more (first_again (x.variable.0 ∷ earlier) arguments) after (again_is m (x.variable.0 ∷ earlier) arguments more after)
 
 -- what was found stands for the checks that none was given before
-pub again_stands : (m : MethodModel) (earlier : List ℕ) (arguments : List Argument) (again : Option Mention) (says : Breach → FindingModel) (found : Option Breach) → again ≡ first_again earlier arguments → check_model says found ≡ told_again m again → StandsFor says found (given_before m earlier arguments)
+pub again_stands : (m : MethodModel) (earlier : List ℕ) (arguments : List Argument) (again : Option Mention) (says : Breach → FindingModel) (found : Result (Unit {0}) Breach) → again ≡ first_again earlier arguments → check_model says found ≡ require_none_again m again → StandsFor says found (given_before m earlier arguments)
 again_stands m earlier arguments again says found is told =
-    record { all = λ more after. again_is m earlier arguments more after ∙ ap (λ a. checked (told_again m a ∷ more) after) (sym is) ∙ ap (λ f. checked (f ∷ more) after) (sym told) }
+    record { all = λ more after. again_is m earlier arguments more after ∙ ap (λ a. checked (require_none_again m a ∷ more) after) (sym is) ∙ ap (λ f. checked (f ∷ more) after) (sym told) }
 
 -- of these checks only those are left
 pub record Left (checks left : List Check) : Type 0 where
@@ -90,23 +92,26 @@ pub left_all : (checks : List Check) → Left checks checks
 left_all checks = record { all = λ more after. refl }
 
 module _ (says : Breach → FindingModel) where
-  left_behind : (checks before left rest : List Check) (found : Option Breach) → left ≡ before ++ rest → StandsFor says found before → Left checks left
+  left_behind : (checks before left rest : List Check) (found : Result (Unit {0}) Breach) → left ≡ before ++ rest → StandsFor says found before → Left checks left
       → (more : List Check) (after : List Pair) → checked (checks ++ more) after ≡ checked (check_model says found ∷ (rest ++ more)) after
   left_behind checks before left rest found is stands h more after =
       h.all more after ∙ ap (λ l. checked (l ++ more) after) is ∙ ap (λ l. checked l after) (append_assoc before rest more) ∙ stands.all (rest ++ more) after
 
   -- the first of those that are left went well
-  pub left_less : (checks before left rest : List Check) (found : Option Breach) → left ≡ before ++ rest → found ≡ None → StandsFor says found before → Left checks left → Left checks rest
-  left_less checks before left rest found is none stands h =
-      record { all = λ more after. left_behind checks before left rest found is stands h more after ∙ ap (λ f. checked (check_model says f ∷ (rest ++ more)) after) none }
+  pub left_less : (checks before left rest : List Check) → left ≡ before ++ rest → StandsFor says (Ok tt) before → Left checks left → Left checks rest
+  left_less checks before left rest is stands h = record { all = left_behind checks before left rest (Ok tt) is stands h }
 
   -- the first of those that are left failed
-  pub left_found : (checks before left rest : List Check) (found : Option Breach) (breach : Breach) → left ≡ before ++ rest → found ≡ Some breach → StandsFor says found before → Left checks left → StandsFor says (Some breach) checks
-  left_found checks before left rest found breach is some stands h =
-      record { all = λ more after. left_behind checks before left rest found is stands h more after ∙ ap (λ f. checked (check_model says f ∷ (rest ++ more)) after) some }
+  pub left_found : (checks before left rest : List Check) (answer : Result (Unit {0}) Breach) (breach : Breach) → left ≡ before ++ rest → IsErrAnd answer (λ b. b ≡ breach) → StandsFor says (Err breach) before → Left checks left
+      → StandsFor says answer checks
+  left_found checks before left rest answer breach is passed stands h = record {
+    all = λ more after.
+        left_behind checks before left rest (Err breach) is stands h more after
+        ∙ sym (ap (λ f. checked (check_model says f ∷ more) after) (passed_on answer breach passed));
+  }
 
   -- none is left
-  pub left_none : (checks left : List Check) → left ≡ [] → Left checks left → StandsFor says None checks
+  pub left_none : (checks left : List Check) → left ≡ [] → Left checks left → StandsFor says (Ok tt) checks
   left_none checks left is h = record { all = λ more after. h.all more after ∙ ap (λ l. checked (l ++ more) after) is }
 
 -- what is claimed of one argument more is gone

@@ -1,5 +1,6 @@
 -- Endpoints that were lent, variable by variable.
-use Rattle.std.proofs.Common.{◌≡◌, ℕ, suc, ◌+◌, ◌-◌, ◌<◌, ◌≤◌, List, [], ◌∷◌, length, map, ap, sym, ◌∙◌, arith, Bool, true, Option, Some}
+use Rattle.std.proofs.Common.{◌≡◌, ℕ, suc, ◌+◌, ◌-◌, ◌<◌, ◌≤◌, List, [], ◌∷◌, length, map, ap, sym, ◌∙◌, arith, Bool, true, Some}
+use Rattle.std.specs.Prelude.{Result}
 use Rattle.std.specs.List.{range_with_len}
 use Rattle.source.specs.declared.place.Place.{Place}
 use Rattle.program.specs.Methods.{MethodModel}
@@ -32,7 +33,7 @@ module _ (p : ProgramModel) (m : MethodModel) (row : List Leaf) (place : Place) 
       ap (λ n. map back_check (range_with_len v n)) left
 
   -- what is said of one that is not back stands for its check
-  pub told_back : (v : ℕ) (says : Breach → FindingModel) (found : Option Breach) → is_not_back p m row v ≡ true → check_model says found ≡ Some (not_back (name_of m v) place) → StandsFor says found (back_check v ∷ [])
+  pub told_back : (v : ℕ) (says : Breach → FindingModel) (found : Result (Unit {0}) Breach) → is_not_back p m row v ≡ true → check_model says found ≡ Some (not_back (name_of m v) place) → StandsFor says found (back_check v ∷ [])
   told_back v says found out told = record {
     all = λ more after. ap (λ (b : Bool). checked (refused b (not_back (name_of m v) place) ∷ more) after) out ∙ ap (λ f. checked (f ∷ more) after) (sym told);
   }

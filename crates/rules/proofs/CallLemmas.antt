@@ -1,44 +1,66 @@
--- Calls and starts: the checks of arguments, and behind them those of what takes a block.
-use Rattle.std.proofs.Common.{◌≡◌, Bool, false, List, [], ◌∷◌, ◌++◌, Option, None, Some, sym, ap, ◌∙◌, append-nil, append_assoc}
+-- Checks one after the other: what their answers stand for. A check that goes well answers `Ok`, and `?` passes a breach on.
+use Rattle.std.proofs.Common.{◌≡◌, Bool, true, false, List, [], ◌∷◌, ◌++◌, None, Ok, Err, sym, ap, ◌∙◌, append-nil, append_assoc}
+use Rattle.std.specs.Prelude.{Result, IsErrAnd}
 use Rattle.source.specs.Findings.{FindingModel}
 use Rattle.rules.specs.Checks.{StandsFor, check_model}
-use Rattle.rules.specs.Outcomes.{Check, Pair, checked, refused}
+use Rattle.rules.specs.Onwards.{onward_model, onward_of}
+use Rattle.rules.specs.Outcomes.{Check, Pair, Fails, checked, refused}
 use Rattle.rules.specs.declared.breach.Breach.{Breach}
+use Rattle.rules.specs.declared.onward.Onward.{Onward}
+use Rattle.rows.specs.declared.row.Leaf.{Leaf}
+
+-- a check answers a breach that another had
+pub passed_on : (answer : Result (Unit {0}) Breach) (breach : Breach) → IsErrAnd answer (λ b. b ≡ breach) → answer ≡ Err breach
+passed_on (Ok x) breach is = absurd is
+passed_on (Err b) breach is = ap (λ e. Err e) is
+
+-- the same checks said otherwise
+pub of_checks : {says : Breach → FindingModel} {answer : Result (Unit {0}) Breach} {checks others : List Check} → checks ≡ others → StandsFor says answer checks → StandsFor says answer others
+of_checks is stands = record { all = λ more after. ap (λ l. checked (l ++ more) after) (sym is) ∙ stands.all more after }
 
 module _ (says : Breach → FindingModel) where
+  -- a rule answers a breach that a check had
+  pub told_on : (answer : Result Onward Breach) (breach : Breach) (row : List Leaf) → IsErrAnd answer (λ b. b ≡ breach) → onward_model says (onward_of answer) row ≡ Fails (says breach)
+  told_on (Ok x) breach row is = absurd is
+  told_on (Err b) breach row is = ap (λ e. Fails (says e)) is
+
   -- nothing comes behind these checks
-  pub alone : (checks : List Check) (found : Option Breach) (answer : Option Breach) (after : List Pair) → found ≡ answer → StandsFor says found checks → checked (check_model says answer ∷ []) after ≡ checked checks after
-  alone checks found answer after is stands =
-      sym (ap (λ l. checked l after) (sym (append-nil checks)) ∙ stands.all [] after ∙ ap (λ f. checked (check_model says f ∷ []) after) is)
+  pub alone : (checks : List Check) (answer : Result (Unit {0}) Breach) (after : List Pair) → StandsFor says answer checks → checked (check_model says answer ∷ []) after ≡ checked checks after
+  alone checks answer after stands = sym (ap (λ l. checked l after) (sym (append-nil checks)) ∙ stands.all [] after)
 
   -- one check before others went well
-  pub behind_one : (check : Check) (checks : List Check) (found : Option Breach) (after : List Pair) → found ≡ None → check_model says found ≡ check
-      → checked checks after ≡ checked (check ∷ checks) after
-  behind_one check checks found after none is = ap (λ c. checked (c ∷ checks) after) (ap (check_model says) (sym none) ∙ is)
-
-  -- the first of two lists of checks went well
-  pub second_of : (checks behind : List Check) (found other answer : Option Breach) (after : List Pair) → found ≡ None → other ≡ answer → StandsFor says found checks → StandsFor says other behind
-      → checked (check_model says answer ∷ []) after ≡ checked (checks ++ behind) after
-  second_of checks behind found other answer after none is stands more =
-      alone behind other answer after is more ∙ sym (stands.all behind after ∙ ap (λ f. checked (check_model says f ∷ behind) after) none)
+  pub behind_one : (check : Check) (checks : List Check) (after : List Pair) → None ≡ check → checked checks after ≡ checked (check ∷ checks) after
+  behind_one check checks after is = ap (λ c. checked (c ∷ checks) after) is
 
   -- two lists of checks, of which the first went well
-  pub both_stand : (checks behind : List Check) (found other : Option Breach) → found ≡ None → StandsFor says found checks → StandsFor says other behind → StandsFor says other (checks ++ behind)
-  both_stand checks behind found other none stands more_stands = record {
+  pub both_stand : (checks behind : List Check) (answer : Result (Unit {0}) Breach) → StandsFor says (Ok tt) checks → StandsFor says answer behind → StandsFor says answer (checks ++ behind)
+  both_stand checks behind answer stands more_stands = record {
     all = λ more after.
-        ap (λ l. checked l after) (append_assoc checks behind more) ∙ stands.all (behind ++ more) after
-        ∙ ap (λ f. checked (check_model says f ∷ (behind ++ more)) after) none ∙ more_stands.all more after;
+        ap (λ l. checked l after) (append_assoc checks behind more) ∙ stands.all (behind ++ more) after ∙ more_stands.all more after;
   }
 
+  -- the same, where nothing comes behind
+  pub second_of : (checks behind : List Check) (answer : Result (Unit {0}) Breach) (after : List Pair) → StandsFor says (Ok tt) checks → StandsFor says answer behind
+      → checked (check_model says answer ∷ []) after ≡ checked (checks ++ behind) after
+  second_of checks behind answer after stands more_stands =
+      alone (checks ++ behind) answer after (both_stand checks behind answer stands more_stands)
+
   -- the first failed, whatever comes behind
-  pub first_stands : (checks behind : List Check) (found : Option Breach) (breach : Breach) → found ≡ Some breach → StandsFor says found checks → StandsFor says (Some breach) (checks ++ behind)
-  first_stands checks behind found breach is stands = record {
+  pub first_stands : (checks behind : List Check) (answer : Result (Unit {0}) Breach) (breach : Breach) → IsErrAnd answer (λ b. b ≡ breach) → StandsFor says (Err breach) checks → StandsFor says answer (checks ++ behind)
+  first_stands checks behind answer breach passed stands = record {
     all = λ more after.
-        ap (λ l. checked l after) (append_assoc checks behind more) ∙ stands.all (behind ++ more) after ∙ ap (λ f. checked (check_model says f ∷ (behind ++ more)) after) is;
+        ap (λ l. checked l after) (append_assoc checks behind more) ∙ stands.all (behind ++ more) after
+        ∙ sym (ap (λ f. checked (check_model says f ∷ more) after) (passed_on answer breach passed));
   }
 
   -- a check that went well, before others
-  pub passes : (fails : Bool) (told : FindingModel) (checks : List Check) (found : Option Breach) → fails ≡ false → StandsFor says found checks → StandsFor says found (refused fails told ∷ checks)
-  passes fails told checks found well stands = record {
+  pub passes : (fails : Bool) (told : FindingModel) (checks : List Check) (answer : Result (Unit {0}) Breach) → fails ≡ false → StandsFor says answer checks → StandsFor says answer (refused fails told ∷ checks)
+  passes fails told checks answer well stands = record {
     all = λ more after. ap (λ b. checked (refused b told ∷ (checks ++ more)) after) well ∙ stands.all more after;
+  }
+
+  -- a check that fails, before others
+  pub refuses : (fails : Bool) (told : FindingModel) (checks : List Check) (breach : Breach) → fails ≡ true → says breach ≡ told → StandsFor says (Err breach) (refused fails told ∷ checks)
+  refuses fails told checks breach failed is = record {
+    all = λ more after. ap (λ b. checked (refused b told ∷ (checks ++ more)) after) failed ∙ ap (λ f. Fails f) (sym is);
   }

@@ -11,9 +11,9 @@ use Rattle.rows.specs.declared.row.Leaf.{Leaf}
 use Rattle.rules.proofs.ScopeLemmas.{between_more, between_none, between_this, kept_append}
 
 -- a variable behind the outer one is another
-is_another : (v : VarId) (outer : Option VarId) (first : ℕ) → first ≤ v.0 → IfSome outer (λ o. o.0 < first) → is_this v outer ≡ false
-is_another v None first le out = refl
-is_another v (Some o) first le out = ne_eqb v.0 o.0 (λ e. omega (arith, le, out, e))
+require_another : (v : VarId) (outer : Option VarId) (first : ℕ) → first ≤ v.0 → IfSome outer (λ o. o.0 < first) → is_this v outer ≡ false
+require_another v None first le out = refl
+require_another v (Some o) first le out = ne_eqb v.0 o.0 (λ e. omega (arith, le, out, e))
 
 module _ (m : MethodModel) (row : List Leaf) (given : Option Mention) (outer : Option VarId) (first : ℕ) (is : IsFirstKept m row given first) where
   -- the first kept of the variables in scope where this one is the last
@@ -52,10 +52,10 @@ module _ (m : MethodModel) (row : List Leaf) (given : Option Mention) (outer : O
   first_from : (most : ℕ) (v : VarId) → IfSome outer (λ o. o.0 < first) → first ≤ v.0 → v.0 < most → All v.0 → kept_from most (Some v) ≡ Some first
   first_from zero v out le lt all = absurd (omega (arith, lt))
   first_from (suc most) v out le lt all = ⊎_elim
-      (λ more. one_more most v (Some first) (is_another v outer first le out)
+      (λ more. one_more most v (Some first) (require_another v outer first le out)
       (around most v (Some first) (λ u leads. first_from most u out (leads.1 more) (omega (arith, lt, leads.0)) (λ w low. all w (omega (arith, low, leads.0))))
       (λ leads. absurd (omega (arith, more, leads))) (outer_of m.variables v) (all v.0 (omega arith))))
-      (λ same. one_more most v None (is_another v outer first le out)
+      (λ same. one_more most v None (require_another v outer first le out)
       (around most v None (λ u leads. none_before most u (omega (arith, same, leads.0)) (λ w low. all w (omega (arith, low, leads.0)))) (λ leads. refl)
       (outer_of m.variables v) (all v.0 (omega arith)))
       ∙ (let e : v.0 ≡ first = omega (arith, le, same) in ap (if_kept m row given) e ∙ ap (λ (b : Bool). if b then Some first else None) is.kept))

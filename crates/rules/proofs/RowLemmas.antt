@@ -21,7 +21,7 @@ use Rattle.program.specs.declared.call.Argument.{Argument}
 use Rattle.program.specs.declared.statement.Mention.{Mention}
 use Rattle.rows.specs.Rows.{IsRowOf, leaf_at}
 use Rattle.rules.specs.Arguments.{all_arguments, all_fields, all_payloads, claimed, field_checks, given_leaf, lacks_edge, payload, sent_leaf, target_checks}
-use Rattle.rules.specs.Mentions.{given_back, has_nothing, has_something, is_another, is_not_lent}
+use Rattle.rules.specs.Mentions.{given_back, require_nothing, require_owned, require_another, require_not_lent}
 use Rattle.rules.specs.Outcomes.{Check, Fails, Goes, Pair, Step, checked, refused}
 use Rattle.rules.specs.RuleTable.{back_checks, instruction_outcome, value_checks, ways}
 use Rattle.rules.specs.Scopes.{declared_between}
@@ -109,7 +109,7 @@ module _ (p : ProgramModel) (m : MethodModel) where
 
   instruction_on : (i : Instruction) (row : List Leaf) (to : List Pair)
       → IsRowOf m row → instruction_outcome p m i row ≡ Goes to → AreRows to
-  instruction_on (Use v next) row to is e = leads_on (has_something m row v ∷ []) next row to is e
+  instruction_on (Use v next) row to is e = leads_on (require_owned m row v ∷ []) next row to is e
   instruction_on (New v arguments next) row to is e =
       let given = map payload arguments in
       let left = claimed row given in
@@ -118,21 +118,21 @@ module _ (p : ProgramModel) (m : MethodModel) where
   instruction_on (Exchange x next) row to is e =
       let ty = field_of p m x.holder.variable.0 x.field in
       let leaf = option_map_or declared_leaf ty Nothing in
-      leads_on (is_another m x.holder x.given ∷ has_something m row x.holder ∷ option_map_or (λ ty. field_checks m row ty (payload x.given)) ty [])
+      leads_on (require_another m x.holder x.given ∷ require_owned m row x.holder ∷ option_map_or (λ ty. field_checks m row ty (payload x.given)) ty [])
       next (set row x.given.variable.0 leaf) to (length-set row x.given.variable.0 leaf ∙ is) e
   instruction_on (NewChannel c next) row to is e =
       let first = State (first_state p c.contract.0) in
       let one = set row c.first.variable.0 first in
-      let checks = is_not_lent m c.first ∷ has_nothing m row c.first ∷ is_not_lent m c.second ∷ has_nothing m row c.second ∷ [] in
+      let checks = require_not_lent m c.first ∷ require_nothing m row c.first ∷ require_not_lent m c.second ∷ require_nothing m row c.second ∷ [] in
       leads_on checks next (set one c.second.variable.0 first) to (length-set one c.second.variable.0 first ∙ length-set row c.first.variable.0 first ∙ is) e
   instruction_on (Move v w next) row to is e =
       let moved = set row v.variable.0 (leaf_at row w.variable.0) in
-      let checks = is_another m v w ∷ is_not_lent m w ∷ has_something m row w ∷ is_not_lent m v ∷ has_nothing m row v ∷ [] in
+      let checks = require_another m v w ∷ require_not_lent m w ∷ require_owned m row w ∷ require_not_lent m v ∷ require_nothing m row v ∷ [] in
       let size = length-set moved w.variable.0 Nothing ∙ length-set row v.variable.0 (leaf_at row w.variable.0) ∙ is in
       leads_on checks next (set moved w.variable.0 Nothing) to size e
   instruction_on (Delete v next) row to is e =
       let freed = set row v.variable.0 Nothing in
-      leads_on (is_not_lent m v ∷ has_something m row v ∷ []) next freed to (length-set row v.variable.0 Nothing ∙ is) e
+      leads_on (require_not_lent m v ∷ require_owned m row v ∷ []) next freed to (length-set row v.variable.0 Nothing ∙ is) e
   instruction_on (Send place x message payloads next) row to is e =
       let gone = claimed row (map payload payloads) in
       let leaf = sent_leaf p (type_of m x.variable.0) message.0 (leaf_at row x.variable.0) in
@@ -140,7 +140,7 @@ module _ (p : ProgramModel) (m : MethodModel) where
       let ty = type_of m x.variable.0 in
       let name = message_name p ty message.0 in
       leads_on
-      (has_something m row x ∷ (all_payloads m row x name (brought p message.0) (map payload payloads) ++ refused (lacks_edge p ty message.0 leaf_now) (not_sent name place) ∷ []))
+      (require_owned m row x ∷ (all_payloads m row x name (brought p message.0) (map payload payloads) ++ refused (lacks_edge p ty message.0 leaf_now) (not_sent name place) ∷ []))
       next (set gone x.variable.0 leaf) to (length-set gone x.variable.0 leaf ∙ claimed_size row (map payload payloads) ∙ is) e
   instruction_on (Switch place cases) row to is e =
       subst AreRows (goes_on (switch_checks p m row place cases) (switch_pairs p m row cases) to e) (switch_on row cases is)

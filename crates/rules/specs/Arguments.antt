@@ -12,7 +12,7 @@ use Rattle.program.specs.declared.types.HeapType.{HeapType}
 use Rattle.program.specs.declared.statement.Mention.{Mention}
 use Rattle.contracts.specs.Leaving.{end_on}
 use Rattle.rules.specs.Endpoints.{declared_leaf, edges_out, in_state, is_wrong}
-use Rattle.rules.specs.Mentions.{has_nothing, has_something, is_lent, is_not_lent, name_of}
+use Rattle.rules.specs.Mentions.{require_nothing, require_owned, is_lent, require_not_lent, name_of}
 use Rattle.rules.specs.Outcomes.{Check, refused}
 use Rattle.rows.specs.Rows.{leaf_at}
 use Rattle.rules.specs.Texts.{lent, twice, wrong_for, wrong_for_call, wrong_for_field}
@@ -52,7 +52,7 @@ module _ (m : MethodModel) where
   -- The checks of what is given for a parameter: it is there, not lent where it is claimed, and in the state that the parameter asks.
   abbrev pub argument_checks : List Leaf → HeapType → Argument → List Check
   argument_checks row ty a =
-      has_something m row a.mention
+      require_owned m row a.mention
       ∷ refused (a.claimed && is_lent m a.mention.variable.0) (lent (name_of m a.mention.variable.0) a.mention.place)
       ∷ refused (is_wrong ty (leaf_at row a.mention.variable.0)) (wrong_for_call (name_of m a.mention.variable.0) a.mention.place)
       ∷ []
@@ -65,7 +65,7 @@ module _ (m : MethodModel) where
   -- one, this is said.
   abbrev pub taken_checks : List Leaf → (wrong : List ℕ → Place → FindingModel) → HeapType → Argument → List Check
   taken_checks row wrong ty a =
-      is_not_lent m a.mention ∷ has_something m row a.mention
+      require_not_lent m a.mention ∷ require_owned m row a.mention
       ∷ refused (is_wrong ty (leaf_at row a.mention.variable.0)) (wrong (name_of m a.mention.variable.0) a.mention.place)
       ∷ []
 
@@ -91,4 +91,4 @@ module _ (m : MethodModel) where
   -- the checks of what takes a block: it is not lent, and has nothing
   abbrev pub target_checks : List Leaf → Option Mention → List Check
   target_checks row None = []
-  target_checks row (Some v) = is_not_lent m v ∷ has_nothing m row v ∷ []
+  target_checks row (Some v) = require_not_lent m v ∷ require_nothing m row v ∷ []

@@ -1,7 +1,7 @@
 -- What a check answers, as the rule table has it.
-use Rattle.std.specs.Prelude.{◌≡◌, ◌<◌, ◌≤◌, ℕ, true, false, length, IfSome, List, [], ◌∷◌, ◌++◌, Option, None, Some, if◌then◌else◌}
+use Rattle.std.specs.Prelude.{◌≡◌, ◌<◌, ◌≤◌, ℕ, true, false, length, IfSome, List, [], ◌∷◌, ◌++◌, if◌then◌else◌}
+use Rattle.std.specs.Prelude.{Option, None, Some, Result, Ok, Err}
 use Rattle.std.specs.BTreeSet.{BTreeSet, contains}
-use Rattle.std.specs.Option.{option_map}
 use Rattle.std.specs.Ordering.{nat_cmp}
 use Rattle.source.specs.Findings.{FindingModel}
 use Rattle.program.specs.Lists.{is_among}
@@ -14,9 +14,10 @@ use Rattle.rules.specs.Outcomes.{Check, Pair, checked}
 use Rattle.rules.specs.declared.breach.Breach.{Breach}
 use Rattle.rows.specs.declared.row.Leaf.{Leaf}
 
--- the check that found this, by what breaches say
-abbrev pub check_model : (Breach → FindingModel) → Option Breach → Check
-check_model says found = option_map says found
+-- the check that answered this, by what breaches say
+abbrev pub check_model : (Breach → FindingModel) → Result (Unit {0}) Breach → Check
+check_model says (Ok x) = None
+check_model says (Err breach) = Some (says breach)
 
 -- the first of these variables that still has something, but for the one that is given
 abbrev pub first_kept : MethodModel → List Leaf → Option Mention → List ℕ → Option ℕ
@@ -57,6 +58,6 @@ IsPlain variables first outer (Some last) =
 abbrev pub AreIn : List ℕ → BTreeSet ℕ → Type 0
 AreIn listed set = (q : ℕ) → contains nat_cmp set q ≡ is_among listed q
 
--- What was found stands for these checks, whatever checks come behind them.
-pub record StandsFor (says : Breach → FindingModel) (found : Option Breach) (checks : List Check) : Type 0 where
-  pub all : (more : List Check) (after : List Pair) → checked (checks ++ more) after ≡ checked (check_model says found ∷ more) after
+-- The answer stands for these checks, whatever checks come behind them.
+pub record StandsFor (says : Breach → FindingModel) (answer : Result (Unit {0}) Breach) (checks : List Check) : Type 0 where
+  pub all : (more : List Check) (after : List Pair) → checked (checks ++ more) after ≡ checked (check_model says answer ∷ more) after

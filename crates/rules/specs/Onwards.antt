@@ -1,5 +1,5 @@
 -- What a step in place comes to: the answer, and the row that stands in place behind it.
-use Rattle.std.specs.Prelude.{◌≡◌, List, [], ◌∷◌, Option, None, Some, map}
+use Rattle.std.specs.Prelude.{◌≡◌, List, [], ◌∷◌, Option, None, Some, map, Result, Ok, Err}
 use Rattle.flow.specs.Graphs.{Instruction, Branch}
 use Rattle.flow.specs.declared.graph.Branches.{Branches}
 use Rattle.source.specs.Findings.{FindingModel}
@@ -24,6 +24,11 @@ abbrev pub KeepsRow : Onward → (before after : List Leaf) → Type 0
 KeepsRow (Changed point) before after = Unit {0}
 KeepsRow (Found breach) before after = Unit {0}
 KeepsRow _ before after = after ≡ before
+
+-- what a rule answers: where the method goes on, or what is wrong
+abbrev pub onward_of : Result Onward Breach → Onward
+onward_of (Ok onward) = onward
+onward_of (Err breach) = Found breach
 
 -- where a condition goes on, if one stands there
 abbrev pub condition_at : Option Instruction → Option Branches

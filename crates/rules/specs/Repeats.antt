@@ -34,5 +34,5 @@ abbrev pub repeated_in : Repeats → ℕ → Option Mention
 repeated_in repeats point = get nat_cmp repeats.firsts point
 
 -- what is said of what is given again
-abbrev pub told_again : MethodModel → Option Mention → Check
-told_again m again = option_map (λ x. twice (name_of m x.variable.0) x.place) again
+abbrev pub require_none_again : MethodModel → Option Mention → Check
+require_none_again m again = option_map (λ x. twice (name_of m x.variable.0) x.place) again

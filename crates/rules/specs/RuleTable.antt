@@ -18,7 +18,7 @@ use Rattle.rules.specs.Arguments.{all_arguments, all_fields, all_payloads, claim
 use Rattle.rules.specs.Arguments.{sent_leaf, target_checks}
 use Rattle.rules.specs.Endpoints.{brought, declared_leaf, field_of, fields_of, first_state, is_wrong, type_of, message_name}
 use Rattle.rules.specs.Endpoints.{parameter_types, result_of}
-use Rattle.rules.specs.Mentions.{given_back, has_nothing, has_something, is_another, is_lent, is_not_lent, name_of}
+use Rattle.rules.specs.Mentions.{given_back, require_nothing, require_owned, require_another, is_lent, require_not_lent, name_of}
 use Rattle.rules.specs.Outcomes.{Step, Goes, Fails, Pair, Check, checked, refused}
 use Rattle.rows.specs.Rows.{leaf_at}
 use Rattle.rules.specs.Scopes.{declared_between}
@@ -37,7 +37,7 @@ module _ (p : ProgramModel) (m : MethodModel) where
   abbrev pub value_checks : List Leaf → Option Mention → List Check
   value_checks row None = []
   value_checks row (Some v) =
-      is_not_lent m v ∷ has_something m row v
+      require_not_lent m v ∷ require_owned m row v
       ∷ refused (option_map_or (λ ty. is_wrong ty (leaf_at row v.variable.0)) m.result false)
       (wrong_for_result (name_of m v.variable.0) v.place) ∷ []
 
@@ -52,33 +52,33 @@ module _ (p : ProgramModel) (m : MethodModel) where
   -- An exchange with a field of this type. What the field held is in the state that the field asks.
   abbrev pub exchanged : List Leaf → stated.Exchange.Exchange → ℕ → Option HeapType → Step Pair FindingModel
   exchanged row e next ty =
-      checked
-      (is_another m e.holder e.given ∷ has_something m row e.holder
+      checked (require_another m e.holder e.given ∷ require_owned m row e.holder
       ∷ option_map_or (λ ty. field_checks m row ty (payload e.given)) ty [])
       ((next, set row e.given.variable.0 (option_map_or declared_leaf ty Nothing)) ∷ [])
 
   -- a line for each instruction
   abbrev pub instruction_outcome : Instruction → List Leaf → Step Pair FindingModel
-  instruction_outcome (Use v next) row = checked (has_something m row v ∷ []) ((next, row) ∷ [])
+  instruction_outcome (Use v next) row = checked (require_owned m row v ∷ []) ((next, row) ∷ [])
   instruction_outcome (New v arguments next) row =
       let given = map payload arguments in
       checked (all_fields m row (fields_of p m v.variable.0) given ++ target_checks m (claimed row given) (Some v))
       ((next, set (claimed row given) v.variable.0 Block) ∷ [])
   instruction_outcome (Exchange e next) row = exchanged row e next (field_of p m e.holder.variable.0 e.field)
   instruction_outcome (NewChannel c next) row =
-      checked (is_not_lent m c.first ∷ has_nothing m row c.first ∷ is_not_lent m c.second ∷ has_nothing m row c.second ∷ [])
+      checked
+      (require_not_lent m c.first ∷ require_nothing m row c.first ∷ require_not_lent m c.second ∷ require_nothing m row c.second ∷ [])
       (let first = State (first_state p c.contract.0) in (next, set (set row c.first.variable.0 first) c.second.variable.0 first) ∷ [])
   instruction_outcome (Move v w next) row =
-      checked (is_another m v w ∷ is_not_lent m w ∷ has_something m row w ∷ is_not_lent m v ∷ has_nothing m row v ∷ [])
+      checked (require_another m v w ∷ require_not_lent m w ∷ require_owned m row w ∷ require_not_lent m v ∷ require_nothing m row v ∷ [])
       ((next, set (set row v.variable.0 (leaf_at row w.variable.0)) w.variable.0 Nothing) ∷ [])
   instruction_outcome (Delete v next) row =
-      checked (is_not_lent m v ∷ has_something m row v ∷ []) ((next, set row v.variable.0 Nothing) ∷ [])
+      checked (require_not_lent m v ∷ require_owned m row v ∷ []) ((next, set row v.variable.0 Nothing) ∷ [])
   instruction_outcome (Send place e message payloads next) row =
       let ty = type_of m e.variable.0 in
       let leaf = leaf_at row e.variable.0 in
       let name = message_name p ty message.0 in
       checked
-      (has_something m row e
+      (require_owned m row e
       ∷ (all_payloads m row e name (brought p message.0) (map payload payloads)
       ++ refused (lacks_edge p ty message.0 leaf) (not_sent name place) ∷ []))
       ((next, set (claimed row (map payload payloads)) e.variable.0 (sent_leaf p ty message.0 leaf)) ∷ [])

@@ -15,82 +15,74 @@ ghost use Rattle.rows.specs.Leaves.{IsNumbered};
 ghost use Rattle.rows.specs.Rows.{leaf_at, row_model};
 
 use crate::breach::{Breach, Reason};
-use crate::checks::{gives_none_again, has_nothing, has_something, is_not_lent};
+use crate::checks::{require_none_again, require_not_lent, require_nothing, require_owned};
 use crate::endpoints::{declared_leaf, is_wrong};
 use crate::here::Here;
 use program::{Argument, HeapType, Mention};
 use rows::{Leaf, Row};
 
 /// That what is claimed of an argument is not lent.
-fn can_be_claimed(here: &Here<'_>, argument: Argument) -> Option<Breach>
+fn require_claimable(here: &Here<'_>, argument: Argument) -> Result<(), Breach>
     ensures { check_model (breach_model (model_of here.now.program.now) (method_model here.now.method.now)) result ≡ refused
         (argument.claimed && is_lent (method_model here.now.method.now) argument.mention.variable.0)
         (lent (name_of (method_model here.now.method.now) argument.mention.variable.0) argument.mention.place) }
 {
     if !argument.claimed {
-        return None;
+        return Ok(());
     }
-    is_not_lent(here, argument.mention)
+    require_not_lent(here, argument.mention)
 }
 
 /// That what is given for a parameter of this type is in its state.
-fn is_in_state(here: &Here<'_>, ty: HeapType, mention: Mention) -> Option<Breach>
+fn require_state(here: &Here<'_>, ty: HeapType, mention: Mention) -> Result<(), Breach>
     ensures { check_model (breach_model (model_of here.now.program.now) (method_model here.now.method.now)) result ≡ refused
         (is_wrong ty (leaf_at (row_model here.now.row.now) mention.variable.0))
         (wrong_for_call (name_of (method_model here.now.method.now) mention.variable.0) mention.place) }
 {
     if !is_wrong(ty, here.row.leaf(mention.variable)) {
-        return None;
+        return Ok(());
     }
-    Some(Breach::at(mention.place, Reason::WrongForCall(mention.variable)))
+    Err(Breach::at(mention.place, Reason::WrongForCall(mention.variable)))
 }
 
 /// That what an argument gives is there, not lent where it is claimed, and in the state that the parameter asks.
-fn can_give(here: &Here<'_>, ty: HeapType, argument: Argument) -> Option<Breach>
+fn require_argument(here: &Here<'_>, ty: HeapType, argument: Argument) -> Result<(), Breach>
     ensures { StandsFor (breach_model (model_of here.now.program.now) (method_model here.now.method.now)) result
         (argument_checks (method_model here.now.method.now) (row_model here.now.row.now) ty argument) }
 {
-    if let Some(breach) = has_something(here, argument.mention) {
-        return Some(breach);
-    }
-    if let Some(breach) = can_be_claimed(here, argument) {
-        return Some(breach);
-    }
-    is_in_state(here, ty, argument.mention)
+    require_owned(here, argument.mention)?;
+    require_claimable(here, argument)?;
+    require_state(here, ty, argument.mention)
 }
 
 /// The checks of arguments, for parameters of these types, where it is known which argument is the first to give a variable again.
-pub(crate) fn can_give_all(
+pub(crate) fn require_arguments(
     here: &Here<'_>,
     again: Option<Mention>,
     types: &[HeapType],
     arguments: &[Argument],
-) -> Option<Breach>
+) -> Result<(), Breach>
     requires { again ≡ first_again [] arguments.now }
     ensures { StandsFor (breach_model (model_of here.now.program.now) (method_model here.now.method.now)) result
         (all_arguments (method_model here.now.method.now) (row_model here.now.row.now) types.now arguments.now) }
 {
-    if let Some(breach) = gives_none_again(here, again) {
-        return Some(breach);
-    }
+    require_none_again(here, again)?;
     for number in 0..types.len().min(arguments.len()) {
-        if let Some(breach) = can_give(here, types[number], arguments[number]) {
-            return Some(breach);
-        }
+        require_argument(here, types[number], arguments[number])?;
     }
-    None
+    Ok(())
 }
 
 /// That what takes a block, if something does, is not lent and has nothing.
-pub(crate) fn can_take(here: &Here<'_>, target: Option<Mention>) -> Option<Breach>
+pub(crate) fn require_target(here: &Here<'_>, target: Option<Mention>) -> Result<(), Breach>
     ensures { StandsFor (breach_model (model_of here.now.program.now) (method_model here.now.method.now)) result
         (target_checks (method_model here.now.method.now) (row_model here.now.row.now) target) }
 {
-    let target = target?;
-    if let Some(breach) = is_not_lent(here, target) {
-        return Some(breach);
-    }
-    has_nothing(here, target)
+    let Some(target) = target else {
+        return Ok(());
+    };
+    require_not_lent(here, target)?;
+    require_nothing(here, target)
 }
 
 /// Takes away what is claimed of an argument.

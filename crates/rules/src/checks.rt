@@ -1,4 +1,4 @@
-//! The checks of a variable where it is named: each answers what is wrong where it fails.
+//! The checks of a variable where it is named: each answers what is wrong where it fails, and a rule passes that on.
 
 ghost use Rattle.std.specs.Prelude.{◌≡◌};
 ghost use Rattle.program.specs.Methods.{method_model};
@@ -7,7 +7,7 @@ ghost use Rattle.rules.specs.Checks.{check_model};
 ghost use Rattle.rules.specs.Programs.{model_of};
 ghost use Rattle.rows.specs.Rows.{row_model};
 ghost use Rattle.rules.specs.Mentions as table;
-ghost use Rattle.rules.specs.Repeats.{told_again};
+ghost use Rattle.rules.specs.Repeats.{require_none_again};
 
 use crate::breach::{Breach, Reason};
 use crate::here::Here;
@@ -44,54 +44,60 @@ pub(crate) fn lends(method: &Method, variable: VarId) -> bool
 }
 
 /// That the variable has something.
-pub(crate) fn has_something(here: &Here<'_>, mention: Mention) -> Option<Breach>
+pub(crate) fn require_owned(here: &Here<'_>, mention: Mention) -> Result<(), Breach>
     ensures { check_model (breach_model (model_of here.now.program.now) (method_model here.now.method.now)) result
-        ≡ table.has_something (method_model here.now.method.now) (row_model here.now.row.now) mention }
+        ≡ table.require_owned (method_model here.now.method.now) (row_model here.now.row.now) mention }
 {
     if here.row.owns(mention.variable) {
-        return None;
+        return Ok(());
     }
-    Some(Breach::at(mention.place, Reason::NotOwned(mention.variable)))
+    Err(Breach::at(mention.place, Reason::NotOwned(mention.variable)))
 }
 
 /// That the variable has nothing.
-pub(crate) fn has_nothing(here: &Here<'_>, mention: Mention) -> Option<Breach>
+pub(crate) fn require_nothing(here: &Here<'_>, mention: Mention) -> Result<(), Breach>
     ensures { check_model (breach_model (model_of here.now.program.now) (method_model here.now.method.now)) result
-        ≡ table.has_nothing (method_model here.now.method.now) (row_model here.now.row.now) mention }
+        ≡ table.require_nothing (method_model here.now.method.now) (row_model here.now.row.now) mention }
 {
     if !here.row.owns(mention.variable) {
-        return None;
+        return Ok(());
     }
-    Some(Breach::at(mention.place, Reason::Overwritten(mention.variable)))
+    Err(Breach::at(mention.place, Reason::Overwritten(mention.variable)))
 }
 
 /// That the variable is not lent.
-pub(crate) fn is_not_lent(here: &Here<'_>, mention: Mention) -> Option<Breach>
+pub(crate) fn require_not_lent(here: &Here<'_>, mention: Mention) -> Result<(), Breach>
     ensures { check_model (breach_model (model_of here.now.program.now) (method_model here.now.method.now)) result
-        ≡ table.is_not_lent (method_model here.now.method.now) mention }
+        ≡ table.require_not_lent (method_model here.now.method.now) mention }
 {
     if !lends(here.method, mention.variable) {
-        return None;
+        return Ok(());
     }
-    Some(Breach::at(mention.place, Reason::Lent(mention.variable)))
+    Err(Breach::at(mention.place, Reason::Lent(mention.variable)))
 }
 
 /// That nothing is given a second time. This is the first mention that gives something again, if one does.
-pub(crate) fn gives_none_again(here: &Here<'_>, again: Option<Mention>) -> Option<Breach>
+pub(crate) fn require_none_again(here: &Here<'_>, again: Option<Mention>) -> Result<(), Breach>
     ensures { check_model (breach_model (model_of here.now.program.now) (method_model here.now.method.now)) result
-        ≡ told_again (method_model here.now.method.now) again }
+        ≡ require_none_again (method_model here.now.method.now) again }
 {
-    let again = again?;
-    Some(Breach::at(again.place, Reason::Twice(again.variable)))
+    match again {
+        Some(again) => Err(Breach::at(again.place, Reason::Twice(again.variable))),
+        None => Ok(()),
+    }
 }
 
 /// That the source is another variable than the target.
-pub(crate) fn is_another(here: &Here<'_>, target: Mention, source: Mention) -> Option<Breach>
+pub(crate) fn require_another(
+    here: &Here<'_>,
+    target: Mention,
+    source: Mention,
+) -> Result<(), Breach>
     ensures { check_model (breach_model (model_of here.now.program.now) (method_model here.now.method.now)) result
-        ≡ table.is_another (method_model here.now.method.now) target source }
+        ≡ table.require_another (method_model here.now.method.now) target source }
 {
     if target.variable.0 != source.variable.0 {
-        return None;
+        return Ok(());
     }
-    Some(Breach::at(source.place, Reason::Twice(source.variable)))
+    Err(Breach::at(source.place, Reason::Twice(source.variable)))
 }

@@ -10,19 +10,19 @@ ghost use Rattle.rules.specs.Breaches.{breach_model};
 ghost use Rattle.rules.specs.Checks.{StandsFor};
 ghost use Rattle.rules.specs.Endpoints as table;
 ghost use Rattle.rows.specs.Leaves.{IsNumbered};
-ghost use Rattle.rules.specs.Onwards.{KeepsRow, onward_model};
+ghost use Rattle.rules.specs.Onwards.{KeepsRow, onward_model, onward_of};
 ghost use Rattle.rules.specs.Programs.{model_of};
 ghost use Rattle.rows.specs.Rows.{row_model};
 ghost use Rattle.rules.specs.RuleTable.{instruction_outcome};
 ghost use Rattle.rows.specs.declared.row.Leaf.TheVariants.{Nothing};
 
-use crate::arguments::can_take;
+use crate::arguments::require_target;
 use crate::breach::Breach;
-use crate::checks::{has_something, is_another};
+use crate::checks::{require_another, require_owned};
 use crate::endpoints::declared_leaf;
 use crate::here::{Here, Site};
 use crate::onward::Onward;
-use crate::payloads::{Taker, can_all_be_taken, can_be_taken, claim_payloads};
+use crate::payloads::{Taker, claim_payloads, require_payload, require_payloads};
 use program::{Exchange, HeapType, Mention};
 use rows::{Leaf, Row};
 
@@ -33,12 +33,12 @@ pub(crate) fn new(
     target: Mention,
     arguments: &[Mention],
     next: usize,
-) -> Onward
-    ensures outcome { onward_model (breach_model (model_of site.now.program.now) (method_model site.now.method.now)) result
+) -> Result<Onward, Breach>
+    ensures outcome { onward_model (breach_model (model_of site.now.program.now) (method_model site.now.method.now)) (onward_of result)
         (row_model row.new)
         ≡ instruction_outcome (model_of site.now.program.now) (method_model site.now.method.now) (New target arguments.now next)
         (row_model row.old) }
-    ensures kept { KeepsRow result (row_model row.old) (row_model row.new) }
+    ensures kept { KeepsRow (onward_of result) (row_model row.old) (row_model row.new) }
 {
     let here = Here {
         program: site.program,
@@ -46,30 +46,28 @@ pub(crate) fn new(
         row,
     };
     let types = site.program.fields_of(site.method, target.variable);
-    if let Some(breach) = can_all_be_taken(&here, Taker::Field, types, arguments) {
-        return Onward::Found(breach);
-    }
+    require_payloads(&here, Taker::Field, types, arguments)?;
     claim_payloads(row, arguments);
     let behind = Here {
         program: site.program,
         method: site.method,
         row,
     };
-    if let Some(breach) = can_take(&behind, Some(target)) {
-        return Onward::Found(breach);
-    }
+    require_target(&behind, Some(target))?;
     row.set(target.variable, Leaf::Block);
-    Onward::Changed(next)
+    Ok(Onward::Changed(next))
 }
 
 /// That what is given for a field, if there is such a field, is not lent, there, and in the state that the field asks.
-fn can_be_inside(here: &Here<'_>, field: Option<HeapType>, given: Mention) -> Option<Breach>
+fn require_field(here: &Here<'_>, field: Option<HeapType>, given: Mention) -> Result<(), Breach>
     ensures { StandsFor (breach_model (model_of here.now.program.now) (method_model here.now.method.now)) result
         (option_map_or (λ ty. field_checks (method_model here.now.method.now) (row_model here.now.row.now) ty (payload given))
         field []) }
 {
-    let ty = field?;
-    can_be_taken(here, Taker::Field, ty, given)
+    match field {
+        Some(ty) => require_payload(here, Taker::Field, ty, given),
+        None => Ok(()),
+    }
 }
 
 /// What comes out of a field, if there is such a field.
@@ -85,30 +83,29 @@ fn leaf_out_of(field: Option<HeapType>) -> Leaf
 }
 
 /// What a field holds and what a variable has change places.
-pub(crate) fn exchange(site: &Site<'_>, row: &mut Row, exchange: Exchange, next: usize) -> Onward
-    ensures outcome { onward_model (breach_model (model_of site.now.program.now) (method_model site.now.method.now)) result
+pub(crate) fn exchange(
+    site: &Site<'_>,
+    row: &mut Row,
+    exchange: Exchange,
+    next: usize,
+) -> Result<Onward, Breach>
+    ensures outcome { onward_model (breach_model (model_of site.now.program.now) (method_model site.now.method.now)) (onward_of result)
         (row_model row.new)
         ≡ instruction_outcome (model_of site.now.program.now) (method_model site.now.method.now) (graphs.Exchange exchange next)
         (row_model row.old) }
-    ensures kept { KeepsRow result (row_model row.old) (row_model row.new) }
+    ensures kept { KeepsRow (onward_of result) (row_model row.old) (row_model row.new) }
 {
     let here = Here {
         program: site.program,
         method: site.method,
         row,
     };
-    if let Some(breach) = is_another(&here, exchange.holder, exchange.given) {
-        return Onward::Found(breach);
-    }
-    if let Some(breach) = has_something(&here, exchange.holder) {
-        return Onward::Found(breach);
-    }
+    require_another(&here, exchange.holder, exchange.given)?;
+    require_owned(&here, exchange.holder)?;
     let field = site
         .program
         .field_of(site.method, exchange.holder.variable, exchange.field);
-    if let Some(breach) = can_be_inside(&here, field, exchange.given) {
-        return Onward::Found(breach);
-    }
+    require_field(&here, field, exchange.given)?;
     row.set(exchange.given.variable, leaf_out_of(field));
-    Onward::Changed(next)
+    Ok(Onward::Changed(next))
 }

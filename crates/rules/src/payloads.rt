@@ -19,7 +19,7 @@ ghost use Rattle.rows.specs.Rows.{leaf_at, row_model};
 ghost use Rattle.rules.specs.Takers.{besides, wrong_in};
 
 use crate::breach::{Breach, Reason};
-use crate::checks::{gives_none_again, has_something, is_not_lent};
+use crate::checks::{require_none_again, require_not_lent, require_owned};
 use crate::endpoints::is_wrong;
 use crate::here::Here;
 use program::{HeapType, Mention, MessageId, VarId};
@@ -94,61 +94,58 @@ fn first_again(taker: Taker, payloads: &[Mention]) -> Option<Mention>
 }
 
 /// That what goes there, where this type is asked, is in its state.
-fn is_in_state(here: &Here<'_>, taker: Taker, ty: HeapType, mention: Mention) -> Option<Breach>
+fn require_state(
+    here: &Here<'_>,
+    taker: Taker,
+    ty: HeapType,
+    mention: Mention,
+) -> Result<(), Breach>
     ensures { check_model (breach_model (model_of here.now.program.now) (method_model here.now.method.now)) result ≡ refused
         (is_wrong ty (leaf_at (row_model here.now.row.now) mention.variable.0))
         (wrong_in (model_of here.now.program.now) (method_model here.now.method.now) taker
         (name_of (method_model here.now.method.now) mention.variable.0) mention.place) }
 {
     if !is_wrong(ty, here.row.leaf(mention.variable)) {
-        return None;
+        return Ok(());
     }
     let reason = taker.wrong_state(mention.variable);
-    Some(Breach::at(mention.place, reason))
+    Err(Breach::at(mention.place, reason))
 }
 
 /// That what goes there is not lent, there, and in the state that is asked.
-pub(crate) fn can_be_taken(
+pub(crate) fn require_payload(
     here: &Here<'_>,
     taker: Taker,
     ty: HeapType,
     mention: Mention,
-) -> Option<Breach>
+) -> Result<(), Breach>
     ensures { StandsFor (breach_model (model_of here.now.program.now) (method_model here.now.method.now)) result
         (taken_checks (method_model here.now.method.now) (row_model here.now.row.now)
         (wrong_in (model_of here.now.program.now) (method_model here.now.method.now) taker) ty (payload mention)) }
 {
-    if let Some(breach) = is_not_lent(here, mention) {
-        return Some(breach);
-    }
-    if let Some(breach) = has_something(here, mention) {
-        return Some(breach);
-    }
-    is_in_state(here, taker, ty, mention)
+    require_not_lent(here, mention)?;
+    require_owned(here, mention)?;
+    require_state(here, taker, ty, mention)
 }
 
 /// The checks of all that goes there at once, where these types are asked.
-pub(crate) fn can_all_be_taken(
+pub(crate) fn require_payloads(
     here: &Here<'_>,
     taker: Taker,
     types: &[HeapType],
     payloads: &[Mention],
-) -> Option<Breach>
+) -> Result<(), Breach>
     ensures { StandsFor (breach_model (model_of here.now.program.now) (method_model here.now.method.now)) result
         (all_taken (method_model here.now.method.now) (besides taker) (row_model here.now.row.now)
         (wrong_in (model_of here.now.program.now) (method_model here.now.method.now) taker) types.now (map payload payloads.now)) }
 {
     let again = first_again(taker, payloads);
-    if let Some(breach) = gives_none_again(here, again) {
-        return Some(breach);
-    }
+    require_none_again(here, again)?;
     for number in 0..types.len().min(payloads.len()) {
         let (ty, given) = (types[number], payloads[number]);
-        if let Some(breach) = can_be_taken(here, taker, ty, given) {
-            return Some(breach);
-        }
+        require_payload(here, taker, ty, given)?;
     }
-    None
+    Ok(())
 }
 
 /// Takes away what goes there.

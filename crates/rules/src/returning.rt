@@ -8,7 +8,7 @@ ghost use Rattle.rules.specs.Breaches.{breach_model};
 ghost use Rattle.rules.specs.Checks.{StandsFor, check_model};
 ghost use Rattle.rules.specs.Endpoints as endpoints;
 ghost use Rattle.rules.specs.Mentions as mentions;
-ghost use Rattle.rules.specs.Onwards.{onward_model};
+ghost use Rattle.rules.specs.Onwards.{onward_model, onward_of};
 ghost use Rattle.rules.specs.Outcomes.{refused};
 ghost use Rattle.rules.specs.Texts.{wrong_for_result};
 ghost use Rattle.rules.specs.Programs.{model_of};
@@ -17,11 +17,11 @@ ghost use Rattle.rules.specs.RuleTable as table;
 ghost use Rattle.rules.specs.RuleTable.{back_checks, instruction_outcome, value_checks};
 
 use crate::breach::{Breach, Reason};
-use crate::checks::{has_something, is_lent_role, is_not_lent};
+use crate::checks::{is_lent_role, require_not_lent, require_owned};
 use crate::endpoints::is_wrong;
 use crate::here::Here;
 use crate::onward::Onward;
-use crate::scopes::is_given_back;
+use crate::scopes::require_given_back;
 use flow::Returning;
 use program::{Mention, Method, VarId};
 use rows::Leaf;
@@ -29,8 +29,8 @@ use source::Place;
 
 /// The method ends. What it gives is its own and in the state of the result, of the other variables in scope those that are not lent
 /// have nothing, and each endpoint that is lent is back in its state.
-pub(crate) fn return_(here: &Here<'_>, returning: Returning) -> Onward
-    ensures { onward_model (breach_model (model_of here.now.program.now) (method_model here.now.method.now)) result
+pub(crate) fn return_(here: &Here<'_>, returning: Returning) -> Result<Onward, Breach>
+    ensures { onward_model (breach_model (model_of here.now.program.now) (method_model here.now.method.now)) (onward_of result)
         (row_model here.now.row.now)
         ≡ instruction_outcome (model_of here.now.program.now) (method_model here.now.method.now)
         (graphs.Return returning.place returning.value returning.scope) (row_model here.now.row.now) }
@@ -40,45 +40,39 @@ pub(crate) fn return_(here: &Here<'_>, returning: Returning) -> Onward
         value,
         scope,
     } = returning;
-    if let Some(breach) = can_return(here, value) {
-        return Onward::Found(breach);
-    }
-    if let Some(breach) = is_given_back(here, place, value, None, scope) {
-        return Onward::Found(breach);
-    }
-    match are_back(here, place) {
-        Some(breach) => Onward::Found(breach),
-        None => Onward::Ends,
-    }
+    require_value(here, value)?;
+    require_given_back(here, place, value, None, scope)?;
+    require_back(here, place)?;
+    Ok(Onward::Ends)
 }
 
 /// That what a method gives is in the state of its result.
-fn is_in_state(here: &Here<'_>, value: Mention) -> Option<Breach>
+fn require_state(here: &Here<'_>, value: Mention) -> Result<(), Breach>
     ensures { check_model (breach_model (model_of here.now.program.now) (method_model here.now.method.now)) result ≡ refused
         (option_map_or (λ ty. endpoints.is_wrong ty (leaf_at (row_model here.now.row.now) value.variable.0))
         (method_model here.now.method.now).result false)
         (wrong_for_result (mentions.name_of (method_model here.now.method.now) value.variable.0) value.place) }
 {
-    let ty = here.method.result?;
+    let Some(ty) = here.method.result else {
+        return Ok(());
+    };
     if !is_wrong(ty, here.row.leaf(value.variable)) {
-        return None;
+        return Ok(());
     }
-    Some(Breach::at(value.place, Reason::WrongForResult(value.variable)))
+    Err(Breach::at(value.place, Reason::WrongForResult(value.variable)))
 }
 
 /// That what a method gives, if it is of the exchange heap, is not lent, there, and in the state of the result.
-fn can_return(here: &Here<'_>, value: Option<Mention>) -> Option<Breach>
+fn require_value(here: &Here<'_>, value: Option<Mention>) -> Result<(), Breach>
     ensures { StandsFor (breach_model (model_of here.now.program.now) (method_model here.now.method.now)) result
         (value_checks (model_of here.now.program.now) (method_model here.now.method.now) (row_model here.now.row.now) value) }
 {
-    let value = value?;
-    if let Some(breach) = is_not_lent(here, value) {
-        return Some(breach);
-    }
-    if let Some(breach) = has_something(here, value) {
-        return Some(breach);
-    }
-    is_in_state(here, value)
+    let Some(value) = value else {
+        return Ok(());
+    };
+    require_not_lent(here, value)?;
+    require_owned(here, value)?;
+    require_state(here, value)
 }
 
 /// Whether an endpoint was lent, and is neither cut off nor in its declared state. The variable is looked up only where it has an
@@ -106,14 +100,14 @@ fn is_lent_elsewhere(method: &Method, variable: VarId, state: u32) -> bool
 }
 
 /// That each endpoint which was lent is cut off, or back in its state.
-fn are_back(here: &Here<'_>, place: Place) -> Option<Breach>
+fn require_back(here: &Here<'_>, place: Place) -> Result<(), Breach>
     ensures { StandsFor (breach_model (model_of here.now.program.now) (method_model here.now.method.now)) result
         (back_checks (model_of here.now.program.now) (method_model here.now.method.now) (row_model here.now.row.now) place) }
 {
     for variable in 0..here.method.variables.len() {
         if is_not_back(here, VarId(variable)) {
-            return Some(Breach::at(place, Reason::NotBack(VarId(variable))));
+            return Err(Breach::at(place, Reason::NotBack(VarId(variable))));
         }
     }
-    None
+    Ok(())
 }

@@ -180,17 +180,19 @@ fn first_outwards(
 
 /// That the variables which go out of scope at this place have nothing, but for the one that is given: those in scope where
 /// `last` is the last one, without those in scope where `outer` is.
-pub(crate) fn is_given_back(
+pub(crate) fn require_given_back(
     here: &Here<'_>,
     place: Place,
     given: Option<Mention>,
     outer: Option<VarId>,
     last: Option<VarId>,
-) -> Option<Breach>
+) -> Result<(), Breach>
     ensures { StandsFor (breach_model (model_of here.now.program.now) (method_model here.now.method.now)) result
         (given_back (method_model here.now.method.now) (row_model here.now.row.now) place given
         (declared_between (method_model here.now.method.now) outer last)) }
 {
-    let variable = first_kept(here, given, outer, last)?;
-    Some(Breach::at(place, Reason::StillOwned(variable)))
+    match first_kept(here, given, outer, last) {
+        Some(variable) => Err(Breach::at(place, Reason::StillOwned(variable))),
+        None => Ok(()),
+    }
 }

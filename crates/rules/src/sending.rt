@@ -8,30 +8,30 @@ ghost use Rattle.rules.specs.Arguments as table;
 ghost use Rattle.rules.specs.Arguments.{lacks_edge};
 ghost use Rattle.rules.specs.Breaches.{breach_model};
 ghost use Rattle.rows.specs.Leaves.{IsNumbered};
-ghost use Rattle.rules.specs.Onwards.{KeepsRow, onward_model};
+ghost use Rattle.rules.specs.Onwards.{KeepsRow, onward_model, onward_of};
 ghost use Rattle.rules.specs.Programs.{model_of};
 ghost use Rattle.rows.specs.Rows.{row_model};
 ghost use Rattle.rules.specs.RuleTable.{instruction_outcome};
 
 use crate::breach::{Breach, Reason};
-use crate::checks::has_something;
+use crate::checks::require_owned;
 use crate::endpoints::type_of;
 use crate::here::{Here, Site};
 use crate::lowered::Program;
 use crate::onward::Onward;
-use crate::payloads::{Taker, can_all_be_taken, claim_payloads};
+use crate::payloads::{Taker, claim_payloads, require_payloads};
 use flow::Sending;
 use program::{HeapType, MessageId};
 use rows::{Leaf, Row};
 
 /// A message is sent. What it takes with it is gone, and its endpoint is in the next state, or still cut off.
-pub(crate) fn send(site: &Site<'_>, row: &mut Row, sending: &Sending) -> Onward
-    ensures outcome { onward_model (breach_model (model_of site.now.program.now) (method_model site.now.method.now)) result
+pub(crate) fn send(site: &Site<'_>, row: &mut Row, sending: &Sending) -> Result<Onward, Breach>
+    ensures outcome { onward_model (breach_model (model_of site.now.program.now) (method_model site.now.method.now)) (onward_of result)
         (row_model row.new)
         ≡ instruction_outcome (model_of site.now.program.now) (method_model site.now.method.now)
         (instruction_model (Instr.Send sending.now))
         (row_model row.old) }
-    ensures kept { KeepsRow result (row_model row.old) (row_model row.new) }
+    ensures kept { KeepsRow (onward_of result) (row_model row.old) (row_model row.new) }
 {
     let here = Here {
         program: site.program,
@@ -39,26 +39,22 @@ pub(crate) fn send(site: &Site<'_>, row: &mut Row, sending: &Sending) -> Onward
         row,
     };
     let (endpoint, message) = (sending.endpoint, sending.message);
-    if let Some(breach) = has_something(&here, endpoint) {
-        return Onward::Found(breach);
-    }
+    require_owned(&here, endpoint)?;
     let payloads = sending.payloads.as_slice();
     let types = site.program.brought(message);
     let taker = Taker::Message { endpoint, message };
-    if let Some(breach) = can_all_be_taken(&here, taker, types, payloads) {
-        return Onward::Found(breach);
-    }
+    require_payloads(&here, taker, types, payloads)?;
     let ty = type_of(site.method, endpoint.variable);
     let leaf = row.leaf(endpoint.variable);
     let sent = sent_leaf(site.program, ty, message, leaf);
     let Some(after) = sent else {
         let endpoint = endpoint.variable;
         let reason = Reason::NotSent { endpoint, message };
-        return Onward::Found(Breach::at(sending.place, reason));
+        return Err(Breach::at(sending.place, reason));
     };
     claim_payloads(row, payloads);
     row.set(endpoint.variable, after);
-    Onward::Changed(sending.next)
+    Ok(Onward::Changed(sending.next))
 }
 
 /// What an endpoint has behind a send of the message: nothing is answered where it is in a state that does not send it.

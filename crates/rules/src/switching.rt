@@ -11,7 +11,7 @@ ghost use Rattle.rules.specs.Breaches.{breach_model};
 ghost use Rattle.rules.specs.Checks.{StandsFor};
 ghost use Rattle.rules.specs.Endpoints.{declared_leaf};
 ghost use Rattle.rows.specs.Leaves.{IsNumbered};
-ghost use Rattle.rules.specs.Mentions.{has_something};
+ghost use Rattle.rules.specs.Mentions.{require_owned};
 ghost use Rattle.rules.specs.Onwards.{onward_model};
 ghost use Rattle.rules.specs.Programs.{model_of};
 ghost use Rattle.rows.specs.Rows.{row_model};
@@ -21,7 +21,7 @@ ghost use Rattle.rules.specs.Switches as table;
 ghost use Rattle.rules.specs.Switches.{bound_leaves};
 
 use crate::breach::{Breach, Reason};
-use crate::checks::has_something;
+use crate::checks::require_owned;
 use crate::endpoints::{declared_leaf, type_of};
 use crate::here::Here;
 use crate::onward::Onward;
@@ -44,34 +44,34 @@ pub(crate) fn switch(
         ≡ instruction_outcome (model_of here.now.program.now) (method_model here.now.method.now)
         (graphs.Switch place (cases_model cases.now)) (row_model here.now.row.now)) }
 {
-    if let Some(breach) = are_there(here, cases.endpoints()) {
-        return Ok(Onward::Found(breach));
+    match require_cases(here, place, cases) {
+        Ok(()) => Ok(Onward::Ways(ways(here, cases, spare)?)),
+        Err(breach) => Ok(Onward::Found(breach)),
     }
+}
+
+/// That each endpoint is there, that they are not all to send, and that each message which may come has a case.
+fn require_cases(here: &Here<'_>, place: Place, cases: &Cases) -> Result<(), Breach>
+    ensures { StandsFor (breach_model (model_of here.now.program.now) (method_model here.now.method.now)) result
+        (table.switch_checks (model_of here.now.program.now) (method_model here.now.method.now) (row_model here.now.row.now) place
+        (cases_model cases.now)) }
+{
+    require_all_owned(here, cases.endpoints())?;
     if are_to_send(here, cases.endpoints()) {
-        return Ok(Onward::Found(Breach::at(place, Reason::NothingToReceive)));
+        return Err(Breach::at(place, Reason::NothingToReceive));
     }
-    if let Some(breach) = are_covered(here, cases) {
-        return Ok(Onward::Found(breach));
-    }
-    let mut pairs = spare.no_pairs();
-    let endpoints = cases.endpoints();
-    for endpoint in endpoints {
-        come_at(here, cases, *endpoint, spare, &mut pairs)?;
-    }
-    Ok(Onward::Ways(pairs))
+    require_all_covered(here, cases)
 }
 
 /// That each endpoint has something.
-fn are_there(here: &Here<'_>, endpoints: &[Mention]) -> Option<Breach>
+fn require_all_owned(here: &Here<'_>, endpoints: &[Mention]) -> Result<(), Breach>
     ensures { StandsFor (breach_model (model_of here.now.program.now) (method_model here.now.method.now)) result
-        (map (has_something (method_model here.now.method.now) (row_model here.now.row.now)) endpoints.now) }
+        (map (require_owned (method_model here.now.method.now) (row_model here.now.row.now)) endpoints.now) }
 {
     for endpoint in endpoints {
-        if let Some(breach) = has_something(here, *endpoint) {
-            return Some(breach);
-        }
+        require_owned(here, *endpoint)?;
     }
-    None
+    Ok(())
 }
 
 /// Whether an endpoint is in a state in which it sends.
@@ -112,7 +112,7 @@ fn awaited_edges<'a>(here: &Here<'a>, endpoint: Mention) -> &'a [Edge]
 }
 
 /// That each message which may come at an endpoint has a case.
-fn is_covered(here: &Here<'_>, cases: &Cases, endpoint: Mention) -> Option<Breach>
+fn require_covered(here: &Here<'_>, cases: &Cases, endpoint: Mention) -> Result<(), Breach>
     ensures { StandsFor (breach_model (model_of here.now.program.now) (method_model here.now.method.now)) result
         (table.covered (model_of here.now.program.now) (method_model here.now.method.now) (row_model here.now.row.now)
         (cases_model cases.now)
@@ -123,25 +123,23 @@ fn is_covered(here: &Here<'_>, cases: &Cases, endpoint: Mention) -> Option<Breac
     for edge in awaited {
         if cases.find(variable, Some(edge.message)).is_none() {
             let (endpoint, message) = (variable, edge.message);
-            return Some(Breach::at(place, Reason::NotCovered { endpoint, message }));
+            return Err(Breach::at(place, Reason::NotCovered { endpoint, message }));
         }
     }
-    None
+    Ok(())
 }
 
 /// That each message which may come at one of the endpoints has a case.
-fn are_covered(here: &Here<'_>, cases: &Cases) -> Option<Breach>
+fn require_all_covered(here: &Here<'_>, cases: &Cases) -> Result<(), Breach>
     ensures { StandsFor (breach_model (model_of here.now.program.now) (method_model here.now.method.now)) result
         (flat_map (table.covered (model_of here.now.program.now) (method_model here.now.method.now) (row_model here.now.row.now)
         (cases_model cases.now)) (first_mentions [] (cases_model cases.now))) }
 {
     let endpoints = cases.endpoints();
     for endpoint in endpoints {
-        if let Some(breach) = is_covered(here, cases, *endpoint) {
-            return Some(breach);
-        }
+        require_covered(here, cases, *endpoint)?;
     }
-    None
+    Ok(())
 }
 
 /// What the variables take that a case binds.
@@ -214,4 +212,20 @@ fn come_at(
         receive(here, cases, endpoint.variable, *edge, spare, pairs)?;
     }
     close(here, cases, endpoint.variable, spare, pairs)
+}
+
+/// Where a switch goes on, endpoint by endpoint.
+///
+/// `Memory` is returned if a growth was refused.
+fn ways(here: &Here<'_>, cases: &Cases, spare: &mut Spare) -> Result<Vec<(usize, Row)>, Memory>
+    ensures { IfOk result (λ pairs. map pair_model pairs.items
+        ≡ table.switch_pairs (model_of here.now.program.now) (method_model here.now.method.now) (row_model here.now.row.now)
+        (cases_model cases.now)) }
+{
+    let mut pairs = spare.no_pairs();
+    let endpoints = cases.endpoints();
+    for endpoint in endpoints {
+        come_at(here, cases, *endpoint, spare, &mut pairs)?;
+    }
+    Ok(pairs)
 }

@@ -8,7 +8,7 @@ ghost use Rattle.flow.specs.declared.graph.Instr.{Instr};
 ghost use Rattle.source.specs.Findings.{FindingModel};
 ghost use Rattle.program.specs.Methods.{method_model};
 ghost use Rattle.rules.specs.Breaches.{breach_model};
-ghost use Rattle.rules.specs.Onwards.{KeepsRow, onward_model};
+ghost use Rattle.rules.specs.Onwards.{KeepsRow, onward_model, onward_of};
 ghost use Rattle.rules.specs.Outcomes.{Goes, Fails};
 ghost use Rattle.rules.specs.Programs.{model_of};
 ghost use Rattle.rules.specs.Repeats.{first_again, given_again, repeated_in};
@@ -18,14 +18,14 @@ ghost use Rattle.rules.specs.declared.breach.Breach.{Breach as BreachModel};
 ghost use Rattle.rules.specs.declared.breach.Reason.TheVariants as reasons;
 ghost use Rattle.rows.specs.declared.row.Leaf.{Leaf as LeafModel};
 
-use crate::arguments::{can_give_all, can_take, claim_all, give};
+use crate::arguments::{claim_all, give, require_arguments, require_target};
 use crate::breach::{Breach, Reason};
-use crate::checks::{has_nothing, has_something, is_another, is_not_lent};
+use crate::checks::{require_another, require_not_lent, require_nothing, require_owned};
 use crate::fields::{self, new};
 use crate::here::{Here, Site};
 use crate::onward::Onward;
 use crate::returning::return_;
-use crate::scopes::is_given_back;
+use crate::scopes::require_given_back;
 use crate::sending::send;
 use crate::switching::switch;
 use flow::{Branches, Calling, Instr, Starting};
@@ -55,141 +55,138 @@ pub(crate) fn apply(
         row,
     };
     match instruction {
-        Instr::Use { at, next } => Ok(use_(&here, *at, *next)),
+        Instr::Use { at, next } => answer(use_(&here, *at, *next)),
         Instr::New {
             target,
             arguments,
             next,
-        } => Ok(new(site, row, *target, arguments, *next)),
-        Instr::NewChannel { channel, next } => Ok(new_channel(site, row, *channel, *next)),
+        } => answer(new(site, row, *target, arguments, *next)),
+        Instr::NewChannel { channel, next } => answer(new_channel(site, row, *channel, *next)),
         Instr::Move {
             target,
             source,
             next,
-        } => Ok(move_(site, row, *target, *source, *next)),
-        Instr::Delete { at, next } => Ok(delete(site, row, *at, *next)),
-        Instr::Exchange { exchange, next } => Ok(fields::exchange(site, row, *exchange, *next)),
-        Instr::Send(sending) => Ok(send(site, row, sending)),
+        } => answer(move_(site, row, *target, *source, *next)),
+        Instr::Delete { at, next } => answer(delete(site, row, *at, *next)),
+        Instr::Exchange { exchange, next } => answer(fields::exchange(site, row, *exchange, *next)),
+        Instr::Send(sending) => answer(send(site, row, sending)),
         Instr::Switch { place, cases } => switch(&here, *place, cases, spare),
-        Instr::Call(calling) => Ok(call(site, row, calling)),
-        Instr::Start(starting) => Ok(start(site, row, starting)),
+        Instr::Call(calling) => answer(call(site, row, calling)),
+        Instr::Start(starting) => answer(start(site, row, starting)),
         Instr::Branch { branches, .. } => Ok(branch(*branches)),
-        Instr::Forget { forget, next } => Ok(forget_(&here, *forget, *next)),
-        Instr::Return(returning) => Ok(return_(&here, *returning)),
+        Instr::Forget { forget, next } => answer(forget_(&here, *forget, *next)),
+        Instr::Return(returning) => answer(return_(&here, *returning)),
         Instr::Stop { place } => Ok(stop(*place)),
     }
 }
 
+/// What a rule comes to, as a step answers it: a breach is an answer too.
+fn answer(told: Result<Onward, Breach>) -> Result<Onward, Memory>
+    ensures { result ≡ Ok (onward_of told) }
+{
+    match told {
+        Ok(onward) => Ok(onward),
+        Err(breach) => Ok(Onward::Found(breach)),
+    }
+}
+
 /// A read or a write of the block that a variable has. The row stays as it is.
-fn use_(here: &Here<'_>, at: Mention, next: usize) -> Onward
-    ensures { onward_model (breach_model (model_of here.now.program.now) (method_model here.now.method.now)) result
+fn use_(here: &Here<'_>, at: Mention, next: usize) -> Result<Onward, Breach>
+    ensures { onward_model (breach_model (model_of here.now.program.now) (method_model here.now.method.now)) (onward_of result)
         (row_model here.now.row.now)
         ≡ instruction_outcome (model_of here.now.program.now) (method_model here.now.method.now) (Use at next)
         (row_model here.now.row.now) }
 {
-    match has_something(here, at) {
-        Some(breach) => Onward::Found(breach),
-        None => Onward::Same(next),
-    }
+    require_owned(here, at)?;
+    Ok(Onward::Same(next))
 }
 
 /// Two variables take the two ends of a new channel, each in the first state of its contract.
-fn new_channel(site: &Site<'_>, row: &mut Row, channel: Channel, next: usize) -> Onward
-    ensures outcome { onward_model (breach_model (model_of site.now.program.now) (method_model site.now.method.now)) result
+fn new_channel(
+    site: &Site<'_>,
+    row: &mut Row,
+    channel: Channel,
+    next: usize,
+) -> Result<Onward, Breach>
+    ensures outcome { onward_model (breach_model (model_of site.now.program.now) (method_model site.now.method.now)) (onward_of result)
         (row_model row.new)
         ≡ instruction_outcome (model_of site.now.program.now) (method_model site.now.method.now) (graphs.NewChannel channel next)
         (row_model row.old) }
-    ensures kept { KeepsRow result (row_model row.old) (row_model row.new) }
+    ensures kept { KeepsRow (onward_of result) (row_model row.old) (row_model row.new) }
 {
     let here = Here {
         program: site.program,
         method: site.method,
         row,
     };
-    if let Some(breach) = is_not_lent(&here, channel.first) {
-        return Onward::Found(breach);
-    }
-    if let Some(breach) = has_nothing(&here, channel.first) {
-        return Onward::Found(breach);
-    }
-    if let Some(breach) = is_not_lent(&here, channel.second) {
-        return Onward::Found(breach);
-    }
-    if let Some(breach) = has_nothing(&here, channel.second) {
-        return Onward::Found(breach);
-    }
+    require_not_lent(&here, channel.first)?;
+    require_nothing(&here, channel.first)?;
+    require_not_lent(&here, channel.second)?;
+    require_nothing(&here, channel.second)?;
     let state = site.program.first_state(channel.contract);
     row.set(channel.first.variable, Leaf::State(state.0));
     row.set(channel.second.variable, Leaf::State(state.0));
-    Onward::Changed(next)
+    Ok(Onward::Changed(next))
 }
 
 /// The target takes what the source has, which then has nothing.
-fn move_(site: &Site<'_>, row: &mut Row, target: Mention, source: Mention, next: usize) -> Onward
-    ensures outcome { onward_model (breach_model (model_of site.now.program.now) (method_model site.now.method.now)) result
+fn move_(
+    site: &Site<'_>,
+    row: &mut Row,
+    target: Mention,
+    source: Mention,
+    next: usize,
+) -> Result<Onward, Breach>
+    ensures outcome { onward_model (breach_model (model_of site.now.program.now) (method_model site.now.method.now)) (onward_of result)
         (row_model row.new)
         ≡ instruction_outcome (model_of site.now.program.now) (method_model site.now.method.now) (Move target source next)
         (row_model row.old) }
-    ensures kept { KeepsRow result (row_model row.old) (row_model row.new) }
+    ensures kept { KeepsRow (onward_of result) (row_model row.old) (row_model row.new) }
 {
     let here = Here {
         program: site.program,
         method: site.method,
         row,
     };
-    if let Some(breach) = is_another(&here, target, source) {
-        return Onward::Found(breach);
-    }
-    if let Some(breach) = is_not_lent(&here, source) {
-        return Onward::Found(breach);
-    }
-    if let Some(breach) = has_something(&here, source) {
-        return Onward::Found(breach);
-    }
-    if let Some(breach) = is_not_lent(&here, target) {
-        return Onward::Found(breach);
-    }
-    if let Some(breach) = has_nothing(&here, target) {
-        return Onward::Found(breach);
-    }
+    require_another(&here, target, source)?;
+    require_not_lent(&here, source)?;
+    require_owned(&here, source)?;
+    require_not_lent(&here, target)?;
+    require_nothing(&here, target)?;
     let taken = row.leaf(source.variable);
     row.set(target.variable, taken);
     row.set(source.variable, Leaf::Nothing);
-    Onward::Changed(next)
+    Ok(Onward::Changed(next))
 }
 
 /// Frees what a variable has.
-fn delete(site: &Site<'_>, row: &mut Row, freed: Mention, next: usize) -> Onward
-    ensures outcome { onward_model (breach_model (model_of site.now.program.now) (method_model site.now.method.now)) result
+fn delete(site: &Site<'_>, row: &mut Row, freed: Mention, next: usize) -> Result<Onward, Breach>
+    ensures outcome { onward_model (breach_model (model_of site.now.program.now) (method_model site.now.method.now)) (onward_of result)
         (row_model row.new)
         ≡ instruction_outcome (model_of site.now.program.now) (method_model site.now.method.now) (Delete freed next)
         (row_model row.old) }
-    ensures kept { KeepsRow result (row_model row.old) (row_model row.new) }
+    ensures kept { KeepsRow (onward_of result) (row_model row.old) (row_model row.new) }
 {
     let here = Here {
         program: site.program,
         method: site.method,
         row,
     };
-    if let Some(breach) = is_not_lent(&here, freed) {
-        return Onward::Found(breach);
-    }
-    if let Some(breach) = has_something(&here, freed) {
-        return Onward::Found(breach);
-    }
+    require_not_lent(&here, freed)?;
+    require_owned(&here, freed)?;
     row.set(freed.variable, Leaf::Nothing);
-    Onward::Changed(next)
+    Ok(Onward::Changed(next))
 }
 
 /// A call. What is claimed is gone, what is lent comes back as it was, and what takes something has it.
-fn call(site: &Site<'_>, row: &mut Row, calling: &Calling) -> Onward
+fn call(site: &Site<'_>, row: &mut Row, calling: &Calling) -> Result<Onward, Breach>
     requires { repeated_in site.now.repeats.now site.now.point ≡ first_again [] calling.now.arguments.items }
-    ensures outcome { onward_model (breach_model (model_of site.now.program.now) (method_model site.now.method.now)) result
+    ensures outcome { onward_model (breach_model (model_of site.now.program.now) (method_model site.now.method.now)) (onward_of result)
         (row_model row.new)
         ≡ instruction_outcome (model_of site.now.program.now) (method_model site.now.method.now)
         (instruction_model (Instr.Call calling.now))
         (row_model row.old) }
-    ensures kept { KeepsRow result (row_model row.old) (row_model row.new) }
+    ensures kept { KeepsRow (onward_of result) (row_model row.old) (row_model row.new) }
 {
     let here = Here {
         program: site.program,
@@ -198,31 +195,27 @@ fn call(site: &Site<'_>, row: &mut Row, calling: &Calling) -> Onward
     };
     let types = site.program.parameter_types(calling.method);
     let again = site.repeats.at(site.point);
-    if let Some(breach) = can_give_all(&here, again, types, &calling.arguments) {
-        return Onward::Found(breach);
-    }
+    require_arguments(&here, again, types, &calling.arguments)?;
     claim_all(row, &calling.arguments);
     let behind = Here {
         program: site.program,
         method: site.method,
         row,
     };
-    if let Some(breach) = can_take(&behind, calling.target) {
-        return Onward::Found(breach);
-    }
+    require_target(&behind, calling.target)?;
     let result = site.program.result_of(calling.method);
     give(row, result, calling.target);
-    Onward::Changed(calling.next)
+    Ok(Onward::Changed(calling.next))
 }
 
 /// The start of a method. What it claims is gone.
-fn start(site: &Site<'_>, row: &mut Row, starting: &Starting) -> Onward
+fn start(site: &Site<'_>, row: &mut Row, starting: &Starting) -> Result<Onward, Breach>
     requires { repeated_in site.now.repeats.now site.now.point ≡ first_again [] starting.now.arguments.items }
-    ensures outcome { onward_model (breach_model (model_of site.now.program.now) (method_model site.now.method.now)) result
+    ensures outcome { onward_model (breach_model (model_of site.now.program.now) (method_model site.now.method.now)) (onward_of result)
         (row_model row.new)
         ≡ instruction_outcome (model_of site.now.program.now) (method_model site.now.method.now)
         (instruction_model (Instr.Start starting.now)) (row_model row.old) }
-    ensures kept { KeepsRow result (row_model row.old) (row_model row.new) }
+    ensures kept { KeepsRow (onward_of result) (row_model row.old) (row_model row.new) }
 {
     let here = Here {
         program: site.program,
@@ -231,11 +224,9 @@ fn start(site: &Site<'_>, row: &mut Row, starting: &Starting) -> Onward
     };
     let types = site.program.parameter_types(starting.method);
     let again = site.repeats.at(site.point);
-    if let Some(breach) = can_give_all(&here, again, types, &starting.arguments) {
-        return Onward::Found(breach);
-    }
+    require_arguments(&here, again, types, &starting.arguments)?;
     claim_all(row, &starting.arguments);
-    Onward::Changed(starting.next)
+    Ok(Onward::Changed(starting.next))
 }
 
 /// A condition. The row stays as it is, each way that it can go.
@@ -250,17 +241,15 @@ fn branch(branches: Branches) -> Onward
 }
 
 /// Variables go out of scope; they have nothing.
-fn forget_(here: &Here<'_>, forget: Forget, next: usize) -> Onward
-    ensures { onward_model (breach_model (model_of here.now.program.now) (method_model here.now.method.now)) result
+fn forget_(here: &Here<'_>, forget: Forget, next: usize) -> Result<Onward, Breach>
+    ensures { onward_model (breach_model (model_of here.now.program.now) (method_model here.now.method.now)) (onward_of result)
         (row_model here.now.row.now)
         ≡ instruction_outcome (model_of here.now.program.now) (method_model here.now.method.now) (graphs.Forget forget next)
         (row_model here.now.row.now) }
 {
     let last = Some(forget.last);
-    match is_given_back(here, forget.place, None, forget.outer, last) {
-        Some(breach) => Onward::Found(breach),
-        None => Onward::Same(next),
-    }
+    require_given_back(here, forget.place, None, forget.outer, last)?;
+    Ok(Onward::Same(next))
 }
 
 /// The end of a method that ought to have given something.

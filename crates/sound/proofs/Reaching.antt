@@ -28,7 +28,7 @@ use Rattle.rules.specs.Arguments.{all_arguments, all_fields, all_payloads, claim
 use Rattle.rules.specs.Arguments.{sent_leaf, target_checks}
 use Rattle.rules.specs.Endpoints.{brought, declared_leaf, fields_of, result_of, first_state, message_name, parameter_types, type_of}
 use Rattle.rows.specs.Leaves.{is_something}
-use Rattle.rules.specs.Mentions.{is_lent, is_kept, has_something, given_back, is_not_lent, has_nothing, is_another}
+use Rattle.rules.specs.Mentions.{is_lent, is_kept, require_owned, given_back, require_not_lent, require_nothing, require_another}
 use Rattle.rules.specs.Outcomes.{Goes, Pair, refused}
 use Rattle.rows.specs.Rows.{leaf_at, leaf_or_nothing, is_owned}
 use Rattle.rules.specs.RuleTable.{exchanged, instruction_outcome, value_checks, back_checks}
@@ -66,7 +66,7 @@ case_is P (x ∷ cases) v n c h e = by (x.endpoint.variable.0 == v) (awaits x.aw
     by true false i j k more = more k
     by false b i j k more = more k
 
-pub passed_owned : (m : MethodModel) (row : List Leaf) (es : List Mention) → Passed (map (has_something m row) es)
+pub passed_owned : (m : MethodModel) (row : List Leaf) (es : List Mention) → Passed (map (require_owned m row) es)
     → Each (λ e. is_owned row e.variable.0 ≡ true) es
 passed_owned m row [] h = tt
 passed_owned m row (e ∷ es) h =
@@ -168,7 +168,7 @@ module _ (p : ProgramModel) (m : MethodModel) (scope : (point variable : ℕ) �
   step_in : (from : ℕ) (row : List Leaf) (i : Instruction) (all : List Pair) → IsFit p m scope from i → NoneOut (from, row)
       → instruction_outcome p m i row ≡ Goes all → Each NoneOut all
   step_in from row (Use v next) all fit h e = let k =
-      checked_passed (has_something m row v ∷ []) ((next, row) ∷ []) all e in subst (λ ps. Each NoneOut ps) k.1
+      checked_passed (require_owned m row v ∷ []) ((next, row) ∷ []) all e in subst (λ ps. Each NoneOut ps) k.1
       (keeps_all from next row fit h, tt)
   step_in from row (New v arguments next) all fit h e =
       let given = map payload arguments in
@@ -183,12 +183,12 @@ module _ (p : ProgramModel) (m : MethodModel) (scope : (point variable : ℕ) �
       let ty = field_known m p x.holder.variable.0 x.field fit.holder fit.holder_there ∙ fit.field_there in
       let l = declared_leaf fit.ty in
       let k = checked_passed
-      (is_another m x.holder x.given ∷ has_something m row x.holder ∷ field_checks m row fit.ty (payload x.given))
+      (require_another m x.holder x.given ∷ require_owned m row x.holder ∷ field_checks m row fit.ty (payload x.given))
       ((next, set row x.given.variable.0 l) ∷ []) all (sym (ap (λ (o : Option HeapType). exchanged p m row x next o) ty) ∙ e) in
       subst (λ ps. Each NoneOut ps) k.1
       (set_in next row x.given.variable.0 l fit.in_scope (keeps_all from next row fit.keeps h), tt)
   step_in from row (Move v u next) all fit h e =
-      let k = checked_passed (is_another m v u ∷ is_not_lent m u ∷ has_something m row u ∷ is_not_lent m v ∷ has_nothing m row v ∷ [])
+      let k = checked_passed (require_another m v u ∷ require_not_lent m u ∷ require_owned m row u ∷ require_not_lent m v ∷ require_nothing m row v ∷ [])
       ((next, set (set row v.variable.0 (leaf_at row u.variable.0)) u.variable.0 leaf.Nothing) ∷ []) all e in
       subst (λ ps. Each NoneOut ps) k.1 (
         set_nothing next (set row v.variable.0 (leaf_at row u.variable.0)) u.variable.0
@@ -196,11 +196,11 @@ module _ (p : ProgramModel) (m : MethodModel) (scope : (point variable : ℕ) �
         tt,
       )
   step_in from row (Delete v next) all fit h e = let k =
-      checked_passed (is_not_lent m v ∷ has_something m row v ∷ [])
+      checked_passed (require_not_lent m v ∷ require_owned m row v ∷ [])
       ((next, set row v.variable.0 leaf.Nothing) ∷ []) all e in subst (λ ps. Each NoneOut ps) k.1
       (set_nothing next row v.variable.0 (keeps_all from next row fit h), tt)
   step_in from row (NewChannel c next) all fit h e =
-      let k = checked_passed (is_not_lent m c.first ∷ has_nothing m row c.first ∷ is_not_lent m c.second ∷ has_nothing m row c.second
+      let k = checked_passed (require_not_lent m c.first ∷ require_nothing m row c.first ∷ require_not_lent m c.second ∷ require_nothing m row c.second
       ∷ []) ((
         next,
         set (set row c.first.variable.0 (leaf.State (first_state p c.contract.0))) c.second.variable.0
@@ -218,7 +218,7 @@ module _ (p : ProgramModel) (m : MethodModel) (scope : (point variable : ℕ) �
       let name = message_name p ty message.0 in
       let k =
       checked_passed
-      (has_something m row e
+      (require_owned m row e
       ∷ (all_payloads m row e name (brought p message.0) (map payload payloads)
       ++ refused (lacks_edge p ty message.0 l) (not_sent name place) ∷ []))
       ((next, set (claimed row (map payload payloads)) e.variable.0 (sent_leaf p ty message.0 l)) ∷ []) all eq
@@ -232,7 +232,7 @@ module _ (p : ProgramModel) (m : MethodModel) (scope : (point variable : ℕ) �
       )
   step_in from row (Switch place cases) all fit h e =
       let k = checked_passed (switch_checks p m row place cases) (switch_pairs p m row cases) all e in
-      let owned = passed_owned m row (first_mentions [] cases) (passed_left (map (has_something m row) (first_mentions [] cases)) _ k.0) in
+      let owned = passed_owned m row (first_mentions [] cases) (passed_left (map (require_owned m row) (first_mentions [] cases)) _ k.0) in
       subst (λ ps. Each NoneOut ps) k.1
       (each_flat NoneOut (comes_at p m row cases) (first_mentions [] cases)
       (each_map (λ x. is_owned row x.variable.0 ≡ true) (λ x. Each NoneOut (comes_at p m row cases x)) (first_mentions [] cases)

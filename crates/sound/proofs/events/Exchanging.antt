@@ -10,7 +10,7 @@ use Rattle.program.specs.declared.statement.Exchange as stated
 use Rattle.flow.specs.Graphs.{Exchange}
 use Rattle.rules.specs.Arguments.{field_checks, payload}
 use Rattle.rules.specs.Endpoints.{declared_leaf, field_of, is_wrong}
-use Rattle.rules.specs.Mentions.{has_something, is_another, is_lent}
+use Rattle.rules.specs.Mentions.{require_owned, require_another, is_lent}
 use Rattle.rows.specs.Rows.{is_owned, leaf_at}
 use Rattle.rules.specs.RuleTable.{exchanged}
 use Rattle.machine.specs.Blocks.{exchanged_block, is_own_still}
@@ -72,7 +72,7 @@ good_exchange p bound w self choice f rest m e next h fit =
     let k = g.ty in
     let type_is : field_of p m hv e.field ≡ Some k = field_known m p hv e.field g.holder g.holder_there ∙ g.field_there in
     let row' = set h.row xv (declared_leaf k) in
-    let checks = is_another m e.holder e.given ∷ has_something m h.row e.holder ∷ field_checks m h.row k (payload e.given) in
+    let checks = require_another m e.holder e.given ∷ require_owned m h.row e.holder ∷ field_checks m h.row k (payload e.given) in
     let passed = all_pass checks ((next, row') ∷ []) (λ finding q. h.passes finding
     (ap (λ (o : Option HeapType). exchanged p m h.row e next o) type_is ∙ q)) in
     let other = not_refused (hv == xv) _ passed.0 in

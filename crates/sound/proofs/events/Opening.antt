@@ -16,7 +16,7 @@ use Rattle.program.specs.declared.types.Side.{Side}
 use Rattle.program.specs.declared.statement.Channel as made
 use Rattle.flow.specs.Graphs.{NewChannel}
 use Rattle.rules.specs.Endpoints.{first_state}
-use Rattle.rules.specs.Mentions.{is_lent, has_nothing, is_not_lent}
+use Rattle.rules.specs.Mentions.{is_lent, require_nothing, require_not_lent}
 use Rattle.rules.specs.Outcomes.{Check}
 use Rattle.rows.specs.Rows.{leaf_at, is_owned}
 use Rattle.rows.specs.declared.row.Leaf.TheVariants as leaf
@@ -137,7 +137,7 @@ module _ (p : ProgramModel) (bound : QueueBounds) (w : World) (self choice : ℕ
   row' = set (set h.row v1 (leaf.State start)) v2 (leaf.State start)
 
   abbrev checks : List Check
-  checks = is_not_lent m c.first ∷ has_nothing m h.row c.first ∷ is_not_lent m c.second ∷ has_nothing m h.row c.second ∷ []
+  checks = require_not_lent m c.first ∷ require_nothing m h.row c.first ∷ require_not_lent m c.second ∷ require_nothing m h.row c.second ∷ []
 
   passed : Passed checks
   passed = all_pass checks ((next, row') ∷ []) h.passes

@@ -25,7 +25,7 @@ use Rattle.contracts.specs.Leaving.{sign_from, edges_from, end_on}
 use Rattle.contracts.specs.TwoEnds.{Leads, NeverLonger}
 use Rattle.rules.specs.Arguments.{claimed, given_before, lacks_edge, sent_leaf}
 use Rattle.rules.specs.Endpoints.{brought, edges_of, edges_out, message_name, type_of}
-use Rattle.rules.specs.Mentions.{has_something}
+use Rattle.rules.specs.Mentions.{require_owned}
 use Rattle.rules.specs.Outcomes.{refused}
 use Rattle.rows.specs.Rows.{leaf_at, is_owned}
 use Rattle.sound.proofs.Parameters.{each_taken, type_known}
@@ -285,7 +285,7 @@ good_send p bound w self choice f rest m longer sound place e message payloads n
     let l = leaf_at h.row v in
     let wrong = λ (x : List ℕ) (at : Place). wrong_for x name at in
     let lacks = refused (lacks_edge p (type_of m v) message.0 l) (not_sent name place) ∷ [] in
-    let checks = has_something m h.row e ∷ ((given_before m (v ∷ []) args ++ each_taken m h.row wrong types payloads) ++ lacks) in
+    let checks = require_owned m h.row e ∷ ((given_before m (v ∷ []) args ++ each_taken m h.row wrong types payloads) ++ lacks) in
     let row' = set (claimed h.row args) v (sent_leaf p (type_of m v) message.0 l) in
     let passed = all_pass checks ((next, row') ∷ []) h.passes in
     let owned = not_false (is_owned h.row v) (not_refused (not (is_owned h.row v)) _ passed.0) in

@@ -22,7 +22,7 @@ use Rattle.contracts.specs.Bounds.{sign_to}
 use Rattle.contracts.specs.Leaving.{edges_from, end_on}
 use Rattle.contracts.specs.TwoEnds.{Leads, HeldAlways}
 use Rattle.rules.specs.Endpoints.{brought, edges_of, message_name, type_of, edges_in, in_state}
-use Rattle.rules.specs.Mentions.{is_lent, has_something, name_of}
+use Rattle.rules.specs.Mentions.{is_lent, require_owned, name_of}
 use Rattle.rules.specs.Outcomes.{Pair, Check, refused}
 use Rattle.rows.specs.Rows.{leaf_at, is_owned}
 use Rattle.rules.specs.Steps.{outcome, entry_of}
@@ -81,10 +81,10 @@ module _ (p : ProgramModel) (bound : QueueBounds) (w : World) (self choice : ℕ
   passed = all_pass all_checks pairs h.passes
 
   owned_all : Each (λ e. is_owned h.row e.variable.0 ≡ true) es
-  owned_all = passed_owned m h.row es (passed_left (map (has_something m h.row) es) later passed)
+  owned_all = passed_owned m h.row es (passed_left (map (require_owned m h.row) es) later passed)
 
   covered_all : Each (λ e. Passed (covered p m h.row cases e)) es
-  covered_all = passed_flat (covered p m h.row cases) es (passed_right (map (has_something m h.row) es) later passed).1
+  covered_all = passed_flat (covered p m h.row cases) es (passed_right (map (require_owned m h.row) es) later passed).1
 
   reaches : (y : Pair) → Contains pairs y → Reached (outcome p f.method) (entry_of p f.method) y
   reaches y c = h.onward pairs y (passed_goes all_checks pairs passed) c

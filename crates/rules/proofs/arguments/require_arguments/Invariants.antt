@@ -3,7 +3,7 @@ use Rattle.program.specs.Methods.{method_model}
 use Rattle.rules.specs.Arguments.{all_arguments, argument_checks}
 use Rattle.rows.specs.Rows.{row_model}
 use Rattle.rules.proofs.ArgumentLemmas.{Left}
-use Rattle.rules.proofs.arguments.can_give_all.Given as goal
+use Rattle.rules.proofs.arguments.require_arguments.Given as goal
 
 abbrev pub invariant-loop-number : goal.invariant-loop-number
 invariant-loop-number l =

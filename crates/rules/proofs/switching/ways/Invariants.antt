@@ -7,7 +7,7 @@ use Rattle.rows.specs.Rows.{row_model}
 use Rattle.rules.specs.Steps.{pair_model}
 use Rattle.rules.specs.Switches.{comes_at}
 use Rattle.rules.proofs.SwitchLemmas.{Adds}
-use Rattle.rules.proofs.switching.switch.Given as goal
+use Rattle.rules.proofs.switching.ways.Given as goal
 
 abbrev pub invariant-loop-endpoint : goal.invariant-loop-endpoint
 invariant-loop-endpoint l =

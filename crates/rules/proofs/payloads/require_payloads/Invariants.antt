@@ -5,7 +5,7 @@ use Rattle.rules.specs.Programs.{model_of}
 use Rattle.rows.specs.Rows.{row_model}
 use Rattle.rules.specs.Takers.{besides, wrong_in}
 use Rattle.rules.proofs.ArgumentLemmas.{Left}
-use Rattle.rules.proofs.payloads.can_all_be_taken.Given as goal
+use Rattle.rules.proofs.payloads.require_payloads.Given as goal
 
 abbrev pub invariant-loop-number : goal.invariant-loop-number
 invariant-loop-number l =

@@ -6,7 +6,7 @@ use Rattle.rules.specs.Programs.{model_of}
 use Rattle.rows.specs.Rows.{row_model}
 use Rattle.rules.specs.Switches.{covered}
 use Rattle.rules.proofs.ArgumentLemmas.{Left}
-use Rattle.rules.proofs.switching.are_covered.Given as goal
+use Rattle.rules.proofs.switching.require_all_covered.Given as goal
 
 abbrev pub invariant-loop-endpoint : goal.invariant-loop-endpoint
 invariant-loop-endpoint l =

@@ -4,7 +4,7 @@ use Rattle.rows.specs.Rows.{row_model}
 use Rattle.rules.specs.RuleTable.{back_checks}
 use Rattle.rules.proofs.ArgumentLemmas.{Left}
 use Rattle.rules.proofs.BackLemmas.{back_from}
-use Rattle.rules.proofs.returning.are_back.Given as goal
+use Rattle.rules.proofs.returning.require_back.Given as goal
 
 abbrev pub invariant-loop-variable : goal.invariant-loop-variable
 invariant-loop-variable l =

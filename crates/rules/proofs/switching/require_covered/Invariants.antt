@@ -6,7 +6,7 @@ use Rattle.rows.specs.Rows.{row_model}
 use Rattle.rules.proofs.ArgumentLemmas.{Left}
 use Rattle.rules.proofs.SwitchLemmas.{edge_checks}
 use Rattle.rules.specs.Switches.{awaited_edges, covered}
-use Rattle.rules.proofs.switching.is_covered.Given as goal
+use Rattle.rules.proofs.switching.require_covered.Given as goal
 
 abbrev pub invariant-loop-edge : goal.invariant-loop-edge
 invariant-loop-edge l =

@@ -1,0 +1,20 @@
+use Rattle.std.proofs.Common.{◌≤◌, [], length, map, subst}
+use Rattle.flow.specs.Cases.{first_mentions}
+use Rattle.flow.specs.Graphs.{cases_model}
+use Rattle.program.specs.Methods.{method_model}
+use Rattle.rules.specs.Programs.{model_of}
+use Rattle.rows.specs.Rows.{row_model}
+use Rattle.rules.specs.Steps.{pair_model}
+use Rattle.rules.specs.Switches.{comes_at}
+use Rattle.rules.proofs.SwitchLemmas.{adds_all}
+use Rattle.rules.proofs.switching.ways.Goals as goal
+
+pub returns : goal.returns
+returns c =
+    let p = model_of c.args.here.now.program.now in
+    let m = method_model c.args.here.now.method.now in
+    let row = row_model c.args.here.now.row.now in
+    let cases = cases_model c.args.cases.now in
+    let named = first_mentions [] cases in
+    let le : length named ≤ c.loop-endpoint.endpoint-index = subst (λ es. length es ≤ c.loop-endpoint.endpoint-index) c.endpoints-endpoints.ensures c.loop-endpoint-test.false in
+    adds_all (comes_at p m row cases) [] (map pair_model c.loop-endpoint.pairs.items) named c.loop-endpoint.endpoint-index le c.loop-endpoint.invariant
