@@ -10,6 +10,8 @@ mod fields;
 #[cfg(test)]
 mod interning;
 #[cfg(test)]
+mod leaves;
+#[cfg(test)]
 mod steps;
 #[cfg(test)]
 mod transfers;

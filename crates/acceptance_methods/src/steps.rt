@@ -176,7 +176,8 @@ fn has_a_task_for_each_method(rt: HostRuntime) -> Result<(), Fail> {
     match left.next() {
         Some(task) => {
             assert!(rt; task.method() == MethodId(0));
-            task.give_up();
+            let (method, _) = task.spend();
+            assert!(rt; method == MethodId(0));
         }
         None => assert!(rt; false),
     }
