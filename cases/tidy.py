@@ -100,10 +100,12 @@ FILES = {'crates.txt': 'low:\nhigh: low\n', 'README.md': PAGE, 'docs/ARCHITECTUR
          'crates/low/specs/Shapes.antt': SHAPES, 'crates/high/specs/Shapes.antt': RELATIONS,
          'crates/low/specs/Wide.antt': DEFINITION, 'crates/low/specs/Gives.antt': GIVES,
          'crates/high/specs/Long.antt': '-- A line.\n' * 401, 'bench/times.py': '# %s\n' % ('ä' * 139),
-         'crates/low/proofs/Lemmas.antt': LEMMAS, 'crates/high/proofs/Lemmas.antt': AGAIN}
+         'crates/low/proofs/Lemmas.antt': LEMMAS, 'crates/high/proofs/Lemmas.antt': AGAIN,
+         **{'crates/low/%s/%d.edit' % (folder, k): '' for folder in ('edits', 'out') for k in range(41)}}
 FOUND = ['crates/low/src/lib.rt:3 no doc comment on Bare, it is public',
          'crates/low/src/lib.rt:8 long function told, 43 lines', 'crates/low/src/lib.rt:8 many arguments of told, 7 arguments',
          'crates/low/src/lib.rt:8 bare participle told, name it by a verb or by what it returns',
+         'crates/low/edits:1 crowded folder, 41 files',
          'crates/low/specs/Wide.antt:2 wide line in IsWide, 141 columns', 'crates/high/specs/Long.antt:1 long file, 401 lines',
          'crates/high/src/lib.rt:3 type Place twice, also crates/low/src/lib.rt:2',
          'crates/high/src/lib.rt:4 type Thing twice, also crates/low/src/named.rt:1',

@@ -165,7 +165,7 @@ def folder_of(name):
 
 
 def edits_of(name):
-    return sorted(folder_of(name).glob('*.patch' if name == RULES else '*.edit'))
+    return sorted(folder_of(name).rglob('*.patch' if name == RULES else '*.edit'), key=lambda edit: edit.stem)
 
 
 def rests_on(name, edit):
