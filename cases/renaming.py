@@ -24,15 +24,34 @@ pub fn lies(place: usize) -> usize {
 PROOF = """use Rattle.low.specs.place.Places.{got}
 
 pub returns : goal.returns
-returns c = c.index-place.ensures ∙ got_at c.args.place c.span.place
+returns c = c.index-place.ensures ∙ got_at c.args.place c.span.place c.loop-place.place (record { place = c.place })
 """
 EDIT = 'file: src/lib.rt\nold:     list[place].place\nnew:     list[0].place\nold:     work();\nnew:     work(place);\n'
 RENAMED = {
     'crates/low/src/lib.rt': CODE.replace('], place:', '], number:').replace('now place', 'now number').replace('[place]', '[number]'),
-    'crates/low/proofs/lib/at/Answers.antt': PROOF.replace('index-place', 'index-number').replace('args.place', 'args.number'),
+    'crates/low/proofs/lib/at/Answers.antt': PROOF.replace('index-place', 'index-number').replace('args.place', 'args.number')
+        .replace('loop-place.place', 'loop-number.number'),
     'crates/low/edits/first_one.edit': EDIT.replace('[place]', '[number]').replace('(place)', '(number)')}
 FILES = {'crates.txt': 'low:\n', 'crates/low/src/lib.rt': CODE, 'crates/low/proofs/lib/at/Answers.antt': PROOF,
          'crates/low/edits/first_one.edit': EDIT}
+
+
+DEFINITIONS = {
+    'crates/low/specs/Names.antt': "-- where it is held\nabbrev pub held : ℕ → ℕ\nheld n = n\n",
+    'crates/low/specs/Given.antt': 'pub use Rattle.low.specs.Names.{held, kept}\n',
+    'crates/high/src/at.rt':
+        'ghost use Rattle.low.specs.Names as names;\n\nfn at()\n    ensures { names.held 0 ≡ h.held }\n{\n    held()\n}\n',
+    'crates/high/proofs/Lemmas.antt':
+        'use Rattle.low.specs.Given.{\n  kept, held}\n\nfirst : held 0 ≡ 0\nfirst = c.held-1 ∙ held kept.held -- held\n',
+    'crates/high/proofs/Left.antt': 'use Rattle.low.specs.Names.{held}\n\nsecond : (held : ℕ) → held ≡ held\n',
+    'crates/high/proofs/Other.antt': 'third : held 0 ≡ 0\n'}
+DEFINED = {
+    'crates/low/specs/Names.antt': "-- where it is held\nabbrev pub owner_of : ℕ → ℕ\nowner_of n = n\n",
+    'crates/low/specs/Given.antt': 'pub use Rattle.low.specs.Names.{owner_of, kept}\n',
+    'crates/high/src/at.rt': DEFINITIONS['crates/high/src/at.rt'].replace('names.held', 'names.owner_of'),
+    'crates/high/proofs/Lemmas.antt':
+        'use Rattle.low.specs.Given.{\n  kept, owner_of}\n\nfirst : owner_of 0 ≡ 0\nfirst = c.held-1 ∙ owner_of kept.held -- held\n',
+    'crates/high/proofs/Left.antt': DEFINITIONS['crates/high/proofs/Left.antt'].replace('{held}', '{owner_of}')}
 
 
 def called(top, *words):
@@ -79,6 +98,16 @@ def a_word_of_a_crate(_):
         return found + unlike(CODE.replace('fn at(', 'fn span_of('), text)
 
 
+def a_definition(_):
+    with tempfile.TemporaryDirectory() as folder:
+        top = pathlib.Path(folder)
+        made(top, {**FILES, **DEFINITIONS, 'crates.txt': 'low:\nhigh: low\n'})
+        ran = called(top, 'tools/rename', '--definition', 'low::Names', 'held', 'owner_of')
+        found = unlike((1, 'tools/rename: left to hand: crates/high/proofs/Left.antt\n'), (ran.returncode, ran.stderr))
+        found += [line for name, text in {**DEFINITIONS, **DEFINED}.items() for line in unlike(text, (top / name).read_text())]
+        return found + unlike(1, called(top, 'tools/rename', '--definition', 'low::Names', 'owner_of', 'kept').returncode)
+
+
 def trials_are_carried_over(_):
     with tempfile.TemporaryDirectory() as folder:
         top = pathlib.Path(folder)
@@ -116,4 +145,4 @@ def a_file_moves_below(_):
 
 
 TESTS = [('renaming/' + test.__name__, test) for test in (
-    a_value_of_a_function, a_word_of_a_crate, trials_are_carried_over, a_file_moves_below)]
+    a_value_of_a_function, a_word_of_a_crate, a_definition, trials_are_carried_over, a_file_moves_below)]
