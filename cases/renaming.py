@@ -125,6 +125,22 @@ def trials_are_carried_over(_):
         return found + unlike('low\n', called(top, './edits', '--due').stdout)
 
 
+def fields_taken_over(_):
+    """A record that names each field is the same as one that only names those that differ."""
+    with tempfile.TemporaryDirectory() as folder:
+        top = pathlib.Path(folder)
+        head, spec = 'abbrev pub in_front : Span → Span\n', 'crates/low/specs/Fronts.antt'
+        made(top, {**FILES, spec: head + 'in_front s = record {\n  start = s.start;\n  place = at s;\n  end = s.end;\n}\n'})
+        found = []
+        for text, due in (('s { place = at s }', ''), ('s { place = at t }', 'low\n'), ('t { place = at s }', 'low\n'),
+                          ('s { place = at s; end = s.start }', 'low\n'), ('{ start = s.start; place = at s; end = s.end }', '')):
+            (top / spec).write_text(head + 'in_front s = record %s\n' % text)
+            subprocess.run(['git', 'checkout', '-q', 'HEAD', 'crates/low/edits/TRIED'], cwd=top, check=True)
+            called(top, './edits', '--carry', 'HEAD', 'a=a')
+            found += unlike((text, due), (text, called(top, './edits', '--due').stdout))
+        return found
+
+
 def a_file_moves_below(_):
     with tempfile.TemporaryDirectory() as folder:
         top = pathlib.Path(folder)
@@ -145,4 +161,4 @@ def a_file_moves_below(_):
 
 
 TESTS = [('renaming/' + test.__name__, test) for test in (
-    a_value_of_a_function, a_word_of_a_crate, a_definition, trials_are_carried_over, a_file_moves_below)]
+    a_value_of_a_function, a_word_of_a_crate, a_definition, trials_are_carried_over, fields_taken_over, a_file_moves_below)]

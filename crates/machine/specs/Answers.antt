@@ -117,47 +117,19 @@ claimed_in variables taken (a ∷ arguments) =
 
 -- the endpoint at an address goes on to a state
 abbrev pub in_state : (a state : ℕ) → ℕ → Block → Block
-in_state a state j b = record {
-  ty = b.ty;
-  owner = b.owner;
-  peer = b.peer;
-  state = if j == a then state else b.state;
-  queue = b.queue;
-  fields = b.fields;
-}
+in_state a state j b = record b { state = if j == a then state else b.state }
 
 -- a message goes to the queue of the endpoint at an address
 abbrev pub queued : ℕ → MessageHeld → ℕ → Block → Block
-queued to m j b = record {
-  ty = b.ty;
-  owner = b.owner;
-  peer = b.peer;
-  state = b.state;
-  queue = if j == to then b.queue ++ m ∷ [] else b.queue;
-  fields = b.fields;
-}
+queued to m j b = record b { queue = if j == to then b.queue ++ m ∷ [] else b.queue }
 
 -- the endpoint at an address has these messages left in its queue
 abbrev pub left_in : ℕ → List MessageHeld → ℕ → Block → Block
-left_in a messages j b = record {
-  ty = b.ty;
-  owner = b.owner;
-  peer = b.peer;
-  state = b.state;
-  queue = if j == a then messages else b.queue;
-  fields = b.fields;
-}
+left_in a messages j b = record b { queue = if j == a then messages else b.queue }
 
 -- a field of the block at an address holds this
 abbrev pub with_field : (at field given : ℕ) → ℕ → Block → Block
-with_field at field given j b = record {
-  ty = b.ty;
-  owner = b.owner;
-  peer = b.peer;
-  state = b.state;
-  queue = b.queue;
-  fields = if j == at then set b.fields field given else b.fields;
-}
+with_field at field given j b = record b { fields = if j == at then set b.fields field given else b.fields }
 
 -- the message at the front of a queue
 abbrev pub front_of : List MessageHeld → Option ℕ

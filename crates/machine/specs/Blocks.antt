@@ -20,14 +20,7 @@ use Rattle.machine.specs.declared.worlds.Owner.TheVariants.{Process, Queue, Insi
 
 -- these blocks go to an owner
 abbrev pub handed : Owner → List ℕ → ℕ → Block → Block
-handed to given j b = record {
-  ty = b.ty;
-  owner = if is_among given j then to else b.owner;
-  peer = b.peer;
-  state = b.state;
-  queue = b.queue;
-  fields = b.fields;
-}
+handed to given j b = record b { owner = if is_among given j then to else b.owner }
 
 -- whether the owner is a block that meets the condition
 abbrev pub in_block_of : Owner → (ℕ → Bool) → Bool
@@ -51,11 +44,8 @@ in_queue_of _ P = false
 
 -- The blocks that go are freed. Their queues are emptied, and what these owned goes to the channel. Their fields hold nothing any more.
 abbrev pub freed_block : (goes : ℕ → Bool) → ℕ → Block → Block
-freed_block goes j b = record {
-  ty = b.ty;
+freed_block goes j b = record b {
   owner = if goes j then Freed else (if in_queue_of b.owner goes then Channel else b.owner);
-  peer = b.peer;
-  state = b.state;
   queue = if goes j then [] else b.queue;
   fields = if goes j then [] else b.fields;
 }
@@ -63,36 +53,26 @@ freed_block goes j b = record {
 -- What the block at the address given and what a field of the block at the address at held change places: the one is inside that block
 -- now, and the other is a process's.
 abbrev pub exchanged_block : (self at field given held : ℕ) → ℕ → Block → Block
-exchanged_block self at field given held j b = record {
-  ty = b.ty;
+exchanged_block self at field given held j b = record b {
   owner = if j == given then Inside at else (if j == held then Process self else b.owner);
-  peer = b.peer;
-  state = b.state;
-  queue = b.queue;
   fields = if j == at then set b.fields field given else b.fields;
 }
 
 -- The endpoint at a sends: it goes on to a state, what is given goes to an owner, and the message goes to the queue of the endpoint
 -- at the address to, unless that is gone.
 abbrev pub sent_block : (a state to : ℕ) (gone : Bool) → MessageHeld → ℕ → Block → Block
-sent_block a state to gone m j b = record {
-  ty = b.ty;
+sent_block a state to gone m j b = record b {
   owner = if is_among m.payload j then (if gone then Channel else Queue to) else b.owner;
-  peer = b.peer;
   state = if j == a then state else b.state;
   queue = if (j == to) && not gone then b.queue ++ m ∷ [] else b.queue;
-  fields = b.fields;
 }
 
 -- the endpoint at a receives the front of its queue for a process
 abbrev pub received_block : (self a state : ℕ) → MessageHeld → List MessageHeld → ℕ → Block → Block
-received_block self a state m rest j b = record {
-  ty = b.ty;
+received_block self a state m rest j b = record b {
   owner = if is_among m.payload j then Process self else b.owner;
-  peer = b.peer;
   state = if j == a then state else b.state;
   queue = if j == a then rest else b.queue;
-  fields = b.fields;
 }
 
 -- a new block of a process, with these addresses in its fields

@@ -6,14 +6,7 @@ use Rattle.machine.specs.declared.worlds.Owner.TheVariants.{Inside}
 
 -- the block at an address has these left in its fields
 abbrev pub fields_left : ℕ → List ℕ → ℕ → Block → Block
-fields_left x rest j b = record {
-  ty = b.ty;
-  owner = b.owner;
-  peer = b.peer;
-  state = b.state;
-  queue = b.queue;
-  fields = if j == x then rest else b.fields;
-}
+fields_left x rest j b = record b { fields = if j == x then rest else b.fields }
 
 -- The block at x gives up its last field, which held inner.
 pub record IsPopped (old new : List Block) (x inner : ℕ) : Type 0 where

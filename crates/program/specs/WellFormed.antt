@@ -107,45 +107,15 @@ pub record Setting : Type 0 where
 
 -- where this one is the last in scope
 abbrev pub reached : Setting → Option VarId → Setting
-reached s scope = record {
-  contracts = s.contracts;
-  messages = s.messages;
-  structs = s.structs;
-  methods = s.methods;
-  variables = s.variables;
-  result = s.result;
-  scope = scope;
-  at_break = s.at_break;
-  at_continue = s.at_continue;
-}
+reached s scope = record s { scope = scope }
 
 -- in a switch that stands there
 abbrev pub in_switch : Setting → Setting
-in_switch s = record {
-  contracts = s.contracts;
-  messages = s.messages;
-  structs = s.structs;
-  methods = s.methods;
-  variables = s.variables;
-  result = s.result;
-  scope = s.scope;
-  at_break = s.scope;
-  at_continue = s.at_continue;
-}
+in_switch s = record s { at_break = s.scope }
 
 -- in a loop that stands there
 abbrev pub in_loop : Setting → Setting
-in_loop s = record {
-  contracts = s.contracts;
-  messages = s.messages;
-  structs = s.structs;
-  methods = s.methods;
-  variables = s.variables;
-  result = s.result;
-  scope = s.scope;
-  at_break = s.scope;
-  at_continue = s.scope;
-}
+in_loop s = record s { at_break = s.scope; at_continue = s.scope }
 
 -- the endpoints of cases, and those of the cases that wait for the close
 abbrev pub endpoints : CasesModel → List ℕ
