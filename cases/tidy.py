@@ -93,6 +93,17 @@ rows kinds = []
 
 in_a_list : List Kind → Symbol
 in_a_list kinds = kinds
+
+module _ (n : ℕ) where
+  unfoldable pub moved : ℕ
+      → ℕ
+  moved k = k
+
+  moved_less : (k : ℕ) → moved k ≡ k
+  moved_less k = refl
+
+abbrev pub typed : Kind → List Symbol
+typed kind = []
 """
 PAGE = 'See `low/src/lib.rt`, `low/src/gone.rt`, `old/src/lib.rt`, `low::sum`, `low::missing`, `out/program` and `NAME/src/lib.rt`.\n'
 FILES = {'crates.txt': 'low:\nhigh: low\n', 'README.md': PAGE, 'docs/ARCHITECTURE.md': GLOSSARY,
@@ -104,7 +115,8 @@ FILES = {'crates.txt': 'low:\nhigh: low\n', 'README.md': PAGE, 'docs/ARCHITECTUR
          **{'crates/low/%s/%d.edit' % (folder, k): '' for folder in ('edits', 'out') for k in range(41)}}
 FOUND = ['crates/low/src/lib.rt:3 no doc comment on Bare, it is public',
          'crates/low/src/lib.rt:8 long function told, 43 lines', 'crates/low/src/lib.rt:8 many arguments of told, 7 arguments',
-         'crates/low/src/lib.rt:8 bare participle told, name it by a verb or by what it returns',
+         'crates/low/src/lib.rt:8 bare participle told, name it by a verb or by what comes of it',
+         'crates/low/specs/Gives.antt:18 bare participle moved, name it by a verb or by what comes of it',
          'crates/low/edits:1 crowded folder, 41 files',
          'crates/low/specs/Wide.antt:2 wide line in IsWide, 141 columns', 'crates/high/specs/Long.antt:1 long file, 401 lines',
          'crates/high/src/lib.rt:3 type Place twice, also crates/low/src/lib.rt:2',

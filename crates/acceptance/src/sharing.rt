@@ -136,20 +136,20 @@ fn is_each_once(done: &[Done<u32>]) -> bool {
     seen == [true; 7]
 }
 
-/// Seats that tell their places: they count from a thousand times their place on.
+/// Seats that tell their indices: they count from a thousand times their index on.
 fn numbers_of_seats(alloc: Global, count: u64) -> Result<Vec<u64>, Fail> {
     let mut seats = Vec::new(alloc);
-    for place in 0..count {
-        seats.push(place.wrapping_mul(1000))?;
+    for index in 0..count {
+        seats.push(index.wrapping_mul(1000))?;
     }
     Ok(seats)
 }
 
-/// How many tasks were run in such seats. There is no number if one of them is not in its place.
+/// How many tasks were run in such seats. There is no number if one of them is not at its index.
 fn run_in(seats: &[u64]) -> Option<u64> {
     let mut count = 0u64;
-    for (place, seat) in seats.iter().enumerate() {
-        if seat / 1000 != place as u64 {
+    for (index, seat) in seats.iter().enumerate() {
+        if seat / 1000 != index as u64 {
             return None;
         }
         count = count.wrapping_add(seat % 1000);

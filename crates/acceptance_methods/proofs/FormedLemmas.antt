@@ -7,7 +7,7 @@ use Rattle.program.specs.Parts.{contract_model}
 use Rattle.program.specs.Programs.{type_lists}
 use Rattle.program.specs.Scopes.{Grows}
 use Rattle.program.specs.Statements.{statement_sequence}
-use Rattle.program.specs.WellFormed.{AreStatements, AreWellFormed, Setting, in_loop, is_parameter, reached, setting}
+use Rattle.program.specs.WellFormed.{AreStatements, AreWellFormed, Setting, in_loop, is_parameter, with_last, setting}
 use Rattle.program.specs.declared.contract.Contract.{Contract}
 use Rattle.program.specs.declared.types.HeapType.{HeapType}
 use Rattle.program.specs.declared.method.Method.{Method}
@@ -30,7 +30,7 @@ stays = record { count = 0; by = refl }
 
 -- where the statements of the loop stand
 abbrev inside : Setting
-inside = in_loop (reached (setting [] [] structs (method ∷ []) method None) (Some record { 0 = 1 }))
+inside = in_loop (with_last (setting [] [] structs (method ∷ []) method None) (Some record { 0 = 1 }))
 
 turn : AreStatements inside (statement_sequence (new 0 [] ∷ exchange ∷ deletes 0 ∷ [])) (Some record { 0 = 1 })
 turn = (

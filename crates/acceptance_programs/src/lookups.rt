@@ -11,7 +11,7 @@ fn span(start: u32, end: u32) -> Span {
 }
 
 #[test]
-fn first_places_of_names(rt: HostRuntime) -> Result<(), Fail> {
+fn first_indices_of_names(rt: HostRuntime) -> Result<(), Fail> {
     let alloc = rt.alloc();
     let names = [span(0, 1), span(2, 4), span(5, 6)];
     let table = Table::of(alloc, b"a bb a", &names)?;

@@ -156,15 +156,15 @@ fn every_beginning_of_a_text(rt: HostRuntime) -> Result<(), Fail> {
 }
 
 #[test]
-fn every_word_in_every_place(rt: HostRuntime) -> Result<(), Fail> {
+fn every_word_at_every_index(rt: HostRuntime) -> Result<(), Fail> {
     for text in TEXTS {
         let mut words: Vec<&str> = text.split_whitespace().collect(rt.alloc())?;
         let mut rests = start(rt.alloc())?;
         for number in 0..words.len() {
             let word = words.get(number).copied().unwrap_or("");
             for (other, _) in WORDS {
-                if let Some(place) = words.get_mut(number) {
-                    *place = other;
+                if let Some(slot) = words.get_mut(number) {
+                    *slot = other;
                 }
                 let wanted = first_wrong(rt.alloc(), rests.clone()?, &words, number)?;
                 let tokens = tokens_of(rt.alloc(), &words)?;
@@ -173,8 +173,8 @@ fn every_word_in_every_place(rt: HostRuntime) -> Result<(), Fail> {
                     "{other} as word {number} of {text}"
                 );
             }
-            if let Some(place) = words.get_mut(number) {
-                *place = word;
+            if let Some(slot) = words.get_mut(number) {
+                *slot = word;
             }
             rests = step(rt.alloc(), rests, word)?;
         }

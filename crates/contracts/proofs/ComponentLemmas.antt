@@ -68,20 +68,20 @@ arc_off graph statuses pending bounds rest from end is s = record {
 }
 
 -- an arc from the last component to a pending vertex joins all components from there on
-pub joined_to : (graph : List (List ℕ)) (statuses : List VertexStatus) (pending bounds new : List ℕ) (arcs : List Arc) (from place : ℕ) → from < length pending → place < length pending
-    → HasEdge graph (get_or pending from 0) (get_or pending place 0) → ((b : ℕ) → Contains bounds b → b ≤ from) → AreBoundsTo place bounds new
+pub joined_to : (graph : List (List ℕ)) (statuses : List VertexStatus) (pending bounds new : List ℕ) (arcs : List Arc) (from index : ℕ) → from < length pending → index < length pending
+    → HasEdge graph (get_or pending from 0) (get_or pending index 0) → ((b : ℕ) → Contains bounds b → b ≤ from) → AreBoundsTo index bounds new
     → IsSearch graph statuses pending bounds arcs → IsSearch graph statuses pending new arcs
-joined_to graph statuses pending bounds new arcs from place in_from in_place edge last kept s = record {
+joined_to graph statuses pending bounds new arcs from index in_from in_place edge last kept s = record {
   long = s.long;
   placed = s.placed;
   held = s.held;
   joined = λ i j in_i in_j before. ⊎_elim
       (λ more. let round = s.joined i from in_i in_from (λ b c _. last b c) in
-      let on = s.joined place j in_place in_j (λ b c le. before b (kept.all b c le) (omega (arith, le, more))) in
-      leads_on graph (get_or pending i 0) (get_or pending place 0) (get_or pending j 0)
-      (leads_along graph (get_or pending i 0) (get_or pending from 0) (get_or pending place 0) round edge) on)
+      let on = s.joined index j in_place in_j (λ b c le. before b (kept.all b c le) (omega (arith, le, more))) in
+      leads_on graph (get_or pending i 0) (get_or pending index 0) (get_or pending j 0)
+      (leads_along graph (get_or pending i 0) (get_or pending from 0) (get_or pending index 0) round edge) on)
       (λ less. s.joined i j in_i in_j (λ b c le. before b (kept.all b c (omega (arith, le, less))) le))
-      (cases_lt place i);
+      (cases_lt index i);
   followed = λ i w lt at. ⊎_elim
       (λ left. inl left)
       (λ done. ⊎_elim
@@ -124,8 +124,8 @@ module _ (graph : List (List ℕ)) (statuses : List VertexStatus) (pending bound
   pub next_off : (less : List Arc) → less ≡ take (length arcs - 1) arcs → status_at statuses end ≡ Complete → IsSearch graph statuses pending bounds less
   next_off less taken is = off bounds less taken (inl is) s
 
-  pub next_joined : (limits : List ℕ) (less : List Arc) (place : ℕ) → less ≡ take (length arcs - 1) arcs → status_at statuses end ≡ Pending place → AreBoundsTo place bounds limits → IsSearch graph statuses pending limits less
-  next_joined limits less place taken is kept =
-      let at = s.placed end place is in
-      off limits less taken (inr (place, is, λ b c _. (kept.right b c).1))
-      (joined_to graph statuses pending bounds limits arcs next.1.0 place edge.0 at.0 (subst (HasEdge graph (get_or pending next.1.0 0)) (sym at.1) edge.1) next.1.2 kept s)
+  pub next_joined : (limits : List ℕ) (less : List Arc) (index : ℕ) → less ≡ take (length arcs - 1) arcs → status_at statuses end ≡ Pending index → AreBoundsTo index bounds limits → IsSearch graph statuses pending limits less
+  next_joined limits less index taken is kept =
+      let at = s.placed end index is in
+      off limits less taken (inr (index, is, λ b c _. (kept.right b c).1))
+      (joined_to graph statuses pending bounds limits arcs next.1.0 index edge.0 at.0 (subst (HasEdge graph (get_or pending next.1.0 0)) (sym at.1) edge.1) next.1.2 kept s)

@@ -10,7 +10,7 @@ use Rattle.program.specs.declared.number.MessageId.{MessageId}
 use Rattle.program.specs.declared.number.StateId.{StateId}
 use Rattle.contracts.specs.Bounds.{IsBound}
 use Rattle.contracts.specs.Walks.{IsWalk, HasSign}
-use Rattle.contracts.specs.TwoEnds.{opposite, Leads, Ends, Sends, TakesFront, Move, Moves, begun, IsHeld, HeldAlways, NeverLonger, OnceAsLong}
+use Rattle.contracts.specs.TwoEnds.{opposite, Leads, Ends, Sends, TakesFront, Move, Moves, ends_at_start, IsHeld, HeldAlways, NeverLonger, OnceAsLong}
 use Rattle.contracts.proofs.SoundLemmas.{IsDirected, directed}
 
 -- these messages lead from p to q along edges of one sign
@@ -139,7 +139,7 @@ pub held_always : HeldAlways
 held_always parts n ends whole sound moves = ⊎_elim
     (λ a. inl (held_is parts.edges Send ends a))
     (λ b. inr (held_is parts.edges Receive ends b))
-    (moves_held parts.edges n (begun parts.first) ends (directed parts whole sound) (inl (record { empty = refl; walk = refl })) moves)
+    (moves_held parts.edges n (ends_at_start parts.first) ends (directed parts whole sound) (inl (record { empty = refl; walk = refl })) moves)
 
 walk_push : (edges : List Edge) (way : List Edge) (p q u : StateId) (m : MessageId) (s : Sign) → IsWalk edges p way q → Leads edges q m s u → (more : List Edge) × IsWalk edges p more u
 walk_push edges [] p q u m s walk edge = (edge.0 ∷ [], (edge.1, edge.2 ∙ sym walk, edge.5))
@@ -186,7 +186,7 @@ within edges first ends Send bound b r (inr h) = let e = ap length h.empty in om
 
 pub never_longer : NeverLonger
 never_longer parts n ends s bound whole sound b moves = within parts.edges parts.first ends s bound b
-    (moves_reached parts.edges parts.first n (begun parts.first) ends (λ _. ([], refl)) moves)
+    (moves_reached parts.edges parts.first n (ends_at_start parts.first) ends (λ _. ([], refl)) moves)
     (held_always parts n ends whole sound moves)
 
 -- what the side s has, and its peer
@@ -200,7 +200,7 @@ pick Receive a b Receive = a
 far : Sign → StateId → StateId → List MessageId → Ends
 far s p q ms = record { state = pick s q p; queue = pick s ms [] }
 
-first_sent : (edges : List Edge) (s : Sign) (p : StateId) (m : MessageId) (u : StateId) → Leads edges p m s u → Move edges (begun p) (far s p u (m ∷ []))
+first_sent : (edges : List Edge) (s : Sign) (p : StateId) (m : MessageId) (u : StateId) → Leads edges p m s u → Move edges (ends_at_start p) (far s p u (m ∷ []))
 unfolding far pick
 first_sent edges Send p m u edge = (Send, inl (record { message = m; edge = edge; other = refl; sent = refl; same = refl }))
 first_sent edges Receive p m u edge = (Receive, inl (record { message = m; edge = edge; other = refl; sent = refl; same = refl }))
@@ -210,7 +210,7 @@ unfolding far pick
 sent_on edges Send p q m u done edge = (Send, inl (record { message = m; edge = edge; other = refl; sent = refl; same = refl }))
 sent_on edges Receive p q m u done edge = (Receive, inl (record { message = m; edge = edge; other = refl; sent = refl; same = refl }))
 
-taken_off : (edges : List Edge) (s : Sign) (p : StateId) (m : MessageId) (u : StateId) → Leads edges p m s u → Move edges (far s p u (m ∷ [])) (begun u)
+taken_off : (edges : List Edge) (s : Sign) (p : StateId) (m : MessageId) (u : StateId) → Leads edges p m s u → Move edges (far s p u (m ∷ [])) (ends_at_start u)
 unfolding far pick
 taken_off edges Send p m u edge = (Send, inr (record { message = m; edge = edge; other = refl; taken = refl; same = refl }))
 taken_off edges Receive p m u edge = (Receive, inr (record { message = m; edge = edge; other = refl; taken = refl; same = refl }))
@@ -220,12 +220,12 @@ moves_on edges zero a b c first more = subst (λ x. (k : ℕ) × Moves edges k x
 moves_on edges (suc n) a b c first more = let rest = moves_on edges n first.0 b c first.2 more in (suc rest.0, (first.0, first.1, rest.1))
 
 -- each edge is sent and taken at once
-both_go : (edges : List Edge) (way : List Edge) (p q : StateId) → IsWalk edges p way q → (k : ℕ) × Moves edges k (begun p) (begun q)
-both_go edges [] p q walk = (0, ap begun walk)
+both_go : (edges : List Edge) (way : List Edge) (p q : StateId) → IsWalk edges p way q → (k : ℕ) × Moves edges k (ends_at_start p) (ends_at_start q)
+both_go edges [] p q walk = (0, ap ends_at_start walk)
 both_go edges (e ∷ way) p q walk =
     let edge : Leads edges p e.message e.sign e.to = (e, walk.0, walk.1, refl, refl, refl) in
     let rest = both_go edges way e.to q walk.2 in
-    (suc (suc rest.0), (far e.sign p e.to (e.message ∷ []), first_sent edges e.sign p e.message e.to edge, (begun e.to, taken_off edges e.sign p e.message e.to edge, rest.1)))
+    (suc (suc rest.0), (far e.sign p e.to (e.message ∷ []), first_sent edges e.sign p e.message e.to edge, (ends_at_start e.to, taken_off edges e.sign p e.message e.to edge, rest.1)))
 
 -- the messages of a walk are sent one by one
 all_sent : (edges : List Edge) (s : Sign) (p q to : StateId) (done ms : List MessageId) → Path edges s q ms to → (k : ℕ) × Moves edges k (far s p q done) (far s p to (done ++ ms))
@@ -239,8 +239,8 @@ unfolding far pick
 queue_far Send p q ms = refl
 queue_far Receive p q ms = refl
 
-sends_walk : (edges : List Edge) (s : Sign) (p q : StateId) (ms : List MessageId) → Path edges s p ms q → (ends : Ends) × ((k : ℕ) × Moves edges k (begun p) ends) × (ends.queue s ≡ ms)
-sends_walk edges s p q [] walk = (begun p, (0, refl), refl)
+sends_walk : (edges : List Edge) (s : Sign) (p q : StateId) (ms : List MessageId) → Path edges s p ms q → (ends : Ends) × ((k : ℕ) × Moves edges k (ends_at_start p) ends) × (ends.queue s ≡ ms)
+sends_walk edges s p q [] walk = (ends_at_start p, (0, refl), refl)
 sends_walk edges s p q (m ∷ ms) walk =
     let rest = all_sent edges s p walk.0 q (m ∷ []) ms walk.2 in
     (far s p q (m ∷ ms), (suc rest.0, (far s p walk.0 (m ∷ []), first_sent edges s p m walk.0 walk.1, rest.1)), queue_far s p q (m ∷ ms))
@@ -250,5 +250,5 @@ once_as_long parts s bound b =
     let edges = parts.edges in
     let go = both_go edges b.way parts.first b.from b.reached in
     let sent = sends_walk edges s b.from b.to (map (λ (e : Edge). e.message) b.walk) (walk_path edges s b.walk b.from b.to b.leads b.one_sign) in
-    let all = moves_on edges go.0 (begun parts.first) (begun b.from) sent.0 go.1 sent.1 in
+    let all = moves_on edges go.0 (ends_at_start parts.first) (ends_at_start b.from) sent.0 go.1 sent.1 in
     (all.0, (sent.0, all.1, ap length sent.2 ∙ length-map b.walk (λ (e : Edge). e.message) ∙ b.long))

@@ -6,7 +6,7 @@ use Rattle.std.proofs.lemmas.List.{get_or-replicate, get_or-set_other, length-re
 use Rattle.std.proofs.lemmas.List.Elements.{All-contains}
 use Rattle.std.proofs.lemmas.Bool.{cases_eq, cases_Bool, true≢false}
 use Rattle.contracts.specs.Graphs.{Walk, HasEdge, InRange, OnRing, IsHeight, height_at, group_at}
-use Rattle.contracts.specs.Marking.{IsMarked, unmarked}
+use Rattle.contracts.specs.Marking.{IsMarked, count_of_unmarked}
 use Rattle.contracts.specs.Rings.{AreRings}
 use Rattle.contracts.specs.Peeling.{AreHeights, IsHeightSettled}
 use Rattle.contracts.specs.Reached.{IsLongest, counted_height}
@@ -15,7 +15,7 @@ use Rattle.contracts.proofs.Rings.{in_row, no_ring, walk_on}
 
 -- from a vertex without a height one comes to a ring; the marked ones were passed
 ring_from : (graph : List (List ℕ)) (heights : List (Option ℕ)) → InRange graph → ((v : ℕ) → v < length graph → IsHeightSettled graph heights v)
-    → (fuel : ℕ) (marks : List Bool) (v : ℕ) → length marks ≡ length graph → unmarked marks ≡ fuel → v < length graph → height_at heights v ≡ None
+    → (fuel : ℕ) (marks : List Bool) (v : ℕ) → length marks ≡ length graph → count_of_unmarked marks ≡ fuel → v < length graph → height_at heights v ≡ None
     → ((u : ℕ) → IsMarked marks u → (n : ℕ) × Walk graph u v (suc n)) → (u : ℕ) × OnRing graph u
 ring_from graph heights range settled zero marks v long left lt none passed = ⊎_elim
     (λ marked. (v, passed v marked))
@@ -48,7 +48,7 @@ known graph heights range settled quiet v lt = decide (height_at heights v) refl
     decide : (o : Option ℕ) → height_at heights v ≡ o → (n : ℕ) × (height_at heights v ≡ Some n)
     decide (Some n) is = (n, is)
     decide None is =
-        let ring = ring_from graph heights range settled (unmarked (replicate (length graph) false)) (replicate (length graph) false) v (length-replicate (length graph) false) refl lt is
+        let ring = ring_from graph heights range settled (count_of_unmarked (replicate (length graph) false)) (replicate (length graph) false) v (length-replicate (length graph) false) refl lt is
         (λ u marked. absurd (none_marked (length graph) u marked)) in
         absurd (quiet ring.0 ring.1)
 

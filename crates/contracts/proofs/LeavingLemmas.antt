@@ -18,7 +18,7 @@ use Rattle.program.specs.declared.number.StateId.{StateId}
 use Rattle.contracts.specs.Conditions.{IsSound}
 use Rattle.contracts.specs.Leaving.{same_sign, leaves, all_from, edges_from, end_on, name_among}
 use Rattle.contracts.specs.Parts.{Parts, message_model, state_ids, IsWhole}
-use Rattle.contracts.specs.Positions.{listed}
+use Rattle.contracts.specs.Positions.{numbers_of}
 use Rattle.contracts.specs.Walks.{IsNext}
 use Rattle.contracts.proofs.ArcLemmas.{none_in}
 use Rattle.contracts.proofs.PartLemmas.{all_from as each_from, contains_map}
@@ -180,20 +180,20 @@ name_nowhere (m ∷ messages) x none =
     ∙ sym (cond-false (m.id.0 == x) (string_bytes m.name) (name_among (map message_model messages) x) (false_from_ne_true (m.id.0 == x) (λ e. none m (contains_head m messages) (eqb-true m.id.0 x e))))
 
 -- at the position of a number stands the first message that has it
-pub name_there : (messages : List Message) (numbers : Listing) (x i : ℕ) (d : Message) → listed numbers ≡ map (λ (m : Message). m.id.0) messages → i < length (listed numbers) → get_or (listed numbers) i 0 ≡ x → string_bytes (get_or messages i d).name ≡ name_among (map message_model messages) x
+pub name_there : (messages : List Message) (numbers : Listing) (x i : ℕ) (d : Message) → numbers_of numbers ≡ map (λ (m : Message). m.id.0) messages → i < length (numbers_of numbers) → get_or (numbers_of numbers) i 0 ≡ x → string_bytes (get_or messages i d).name ≡ name_among (map message_model messages) x
 name_there messages numbers x i d named lt is = name_first messages x i d (below i lt) (at i lt ∙ is) (λ k less same.
     let a = group k (omega (arith, less, lt)) in
     let b = group i lt in
     let e = at k (omega (arith, less, lt)) in
     absurd (omega (arith, a, b, e, same, is, less)))
   where
-    group : (k : ℕ) → k < length (listed numbers) → get_or (listed numbers) k 0 ≡ numbers.first + k
+    group : (k : ℕ) → k < length (numbers_of numbers) → get_or (numbers_of numbers) k 0 ≡ numbers.first + k
     group k less = get_or-range_with_len numbers.first numbers.count k 0 (let size = length-range_with_len numbers.first numbers.count in omega (arith, less, size))
 
-    below : (k : ℕ) → k < length (listed numbers) → k < length messages
+    below : (k : ℕ) → k < length (numbers_of numbers) → k < length messages
     below k less = let size = ap length named in let same = length-map messages (λ (m : Message). m.id.0) in omega (arith, less, size, same)
 
-    at : (k : ℕ) → k < length (listed numbers) → (get_or messages k d).id.0 ≡ get_or (listed numbers) k 0
+    at : (k : ℕ) → k < length (numbers_of numbers) → (get_or messages k d).id.0 ≡ get_or (numbers_of numbers) k 0
     at k less = sym (ap (λ l. get_or l k 0) named ∙ get_or-map (λ (m : Message). m.id.0) messages k d 0 (below k less))
 
 -- where a number is not listed, no message has it

@@ -11,7 +11,7 @@ use Rattle.std.proofs.lemmas.Map.Lookups.{exact_pairs, exact_unsigned}
 use Rattle.lemmas.proofs.FirstPlaces.{found_lt, first_by, is_equal}
 use Rattle.contracts.specs.Parts.{AreConsecutive}
 use Rattle.contracts.specs.declared.positions.Listing.{Listing}
-use Rattle.contracts.specs.Positions.{listed, pair_cmp}
+use Rattle.contracts.specs.Positions.{numbers_of, pair_cmp}
 use Rattle.contracts.proofs.PartLemmas.{IsOnce, get_again}
 
 -- numbers that go up by one are known by the first and their count
@@ -37,7 +37,7 @@ in_row first count n low high =
     (n - first, omega (arith, low, high, size), get_or-range_with_len first count (n - first) n (omega (arith, low, high)) ∙ omega (arith, low))
 
 -- each number of a listing stands at one place
-pub listed_once : (l : Listing) → IsOnce (listed l)
+pub listed_once : (l : Listing) → IsOnce (numbers_of l)
 listed_once l = record {
   same = λ v w lt_v lt_w same.
       let size = length-range_with_len l.first l.count in

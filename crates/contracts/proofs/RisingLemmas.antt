@@ -66,8 +66,8 @@ pub push_back : {A : Type 0} (xs rest new : List A) (x : A) → xs ≡ rest ++ x
 push_back xs rest new x is taken = is ∙ ap (λ l. l ++ x ∷ []) (sym (but_last xs rest new x is taken))
 
 -- all arcs begin before a place where the last one does
-pub all_before : (arcs rest : List Arc) (last : Arc) (place : ℕ) → arcs ≡ rest ++ last ∷ [] → AreRising (map (λ (a : Arc). a.from) arcs) → last.from < place → (a : Arc) → Contains arcs a → a.from < place
-all_before arcs rest last place is rise lt a c =
+pub all_before : (arcs rest : List Arc) (last : Arc) (index : ℕ) → arcs ≡ rest ++ last ∷ [] → AreRising (map (λ (a : Arc). a.from) arcs) → last.from < index → (a : Arc) → Contains arcs a → a.from < index
+all_before arcs rest last index is rise lt a c =
     let from : Arc → ℕ = λ x. x.from in
     let same : map from arcs ≡ map from rest ++ last.from ∷ [] = ap (map from) is ∙ map-append from rest (last ∷ []) in
     let le = rising_last (map from rest) last.from a.from (subst AreRising same rise) (subst (λ l. Contains l a.from) same (contains_map from arcs a c)) in

@@ -7,7 +7,7 @@ use Rattle.std.proofs.lemmas.List.Sums.{sum_by-set, sum_by-cons}
 use Rattle.std.proofs.lemmas.Bool.{cases_eq, cases_lt}
 use Rattle.contracts.specs.declared.components.VertexStatus.{VertexStatus}
 use Rattle.contracts.specs.declared.components.VertexStatus.TheVariants.{New, Pending, Complete}
-use Rattle.contracts.specs.Searches.{is_new, status_at, written}
+use Rattle.contracts.specs.Searches.{is_new, status_at, set_at_each}
 
 pub status_cases : (s : VertexStatus) → (s ≡ New) ⊎ (((p : ℕ) × (s ≡ Pending p)) ⊎ (s ≡ Complete))
 status_cases New = inl refl
@@ -25,7 +25,7 @@ pub pending_same : (p q : ℕ) → Pending p ≡ Pending q → p ≡ q
 pending_same p q same = cc
 
 -- as many vertices are new, if none was at these places
-pub written_new : (statuses : List VertexStatus) (vs : List ℕ) (x : VertexStatus) → is_new x ≡ false → ((v : ℕ) → Contains vs v → is_new (status_at statuses v) ≡ false) → count_by is_new (written statuses vs x) ≡ count_by is_new statuses
+pub written_new : (statuses : List VertexStatus) (vs : List ℕ) (x : VertexStatus) → is_new x ≡ false → ((v : ℕ) → Contains vs v → is_new (status_at statuses v) ≡ false) → count_by is_new (set_at_each statuses vs x) ≡ count_by is_new statuses
 written_new statuses [] x old met = refl
 written_new statuses (v ∷ vs) x old met = ⊎_elim
     (λ lt. let e = sum_by-set f statuses v x New lt in
@@ -37,7 +37,7 @@ written_new statuses (v ∷ vs) x old met = ⊎_elim
     (cases_eq u v)) in
     omega (arith, e, none, had, rest))
     (λ past. let same = set_past statuses v x past in
-    ap (λ l. count_by is_new (written l vs x)) same ∙ written_new statuses vs x old (λ u c. met u (let k = c.1 in (suc c.0, omega (arith, k), c.2))))
+    ap (λ l. count_by is_new (set_at_each l vs x)) same ∙ written_new statuses vs x old (λ u c. met u (let k = c.1 in (suc c.0, omega (arith, k), c.2))))
     (cases_lt v (length statuses))
   where
     f : VertexStatus → ℕ

@@ -8,8 +8,8 @@ use Rattle.program.specs.declared.contract.Edge.{Edge}
 use Rattle.contracts.specs.declared.positions.Listing.{Listing}
 
 -- the numbers of a listing, each one more than the one before it
-abbrev pub listed : Listing → List ℕ
-listed l = range_with_len l.first l.count
+abbrev pub numbers_of : Listing → List ℕ
+numbers_of l = range_with_len l.first l.count
 
 -- how pairs of numbers are compared
 abbrev pub pair_cmp : ℕ × ℕ → ℕ × ℕ → Ordering

@@ -4,15 +4,15 @@ use Rattle.contracts.specs.Graphs.{Walk}
 use Rattle.contracts.specs.Marking.{IsMarked}
 
 -- each vertex leads where it does in the one graph and in the other
-abbrev pub joined : List (List ℕ) → List (List ℕ) → List (List ℕ)
-joined [] more = more
-joined (group ∷ groups) [] = group ∷ groups
-joined (group ∷ groups) (other ∷ others) = (group ++ other) ∷ joined groups others
+abbrev pub union : List (List ℕ) → List (List ℕ) → List (List ℕ)
+union [] more = more
+union (group ∷ groups) [] = group ∷ groups
+union (group ∷ groups) (other ∷ others) = (group ++ other) ∷ union groups others
 
 -- exactly what can be reached from the first vertex along edges of both graphs is marked
 pub record AreReached (sends receives : List (List ℕ)) (first : ℕ) (marks : List Bool) : Type 0 where
-  pub right : (v : ℕ) → IsMarked marks v → (n : ℕ) × Walk (joined sends receives) first v n
-  pub all : (v n : ℕ) → Walk (joined sends receives) first v n → IsMarked marks v
+  pub right : (v : ℕ) → IsMarked marks v → (n : ℕ) × Walk (union sends receives) first v n
+  pub all : (v n : ℕ) → Walk (union sends receives) first v n → IsMarked marks v
 
 -- the greatest length of a walk from a marked vertex
 pub record IsLongest (graph : List (List ℕ)) (marks : List Bool) (n : ℕ) : Type 0 where

@@ -15,7 +15,7 @@ status_at statuses v = get_or statuses v New
 
 abbrev pub is_new : VertexStatus → Bool
 is_new New = true
-is_new (Pending place) = false
+is_new (Pending index) = false
 is_new Complete = false
 
 -- the numbers do not fall along the list
@@ -91,9 +91,9 @@ IsNextEnd arcs bounds end = (rest : List Arc) × ((from : ℕ) × (arcs ≡ rest
     × ((b : ℕ) → Contains bounds b → b ≤ from))
 
 -- the bounds up to an index
-pub record AreBoundsTo (place : ℕ) (old new : List ℕ) : Type 0 where
-  pub right : (b : ℕ) → Contains new b → Contains old b × (b ≤ place)
-  pub all : (b : ℕ) → Contains old b → b ≤ place → Contains new b
+pub record AreBoundsTo (index : ℕ) (old new : List ℕ) : Type 0 where
+  pub right : (b : ℕ) → Contains new b → Contains old b × (b ≤ index)
+  pub all : (b : ℕ) → Contains old b → b ≤ index → Contains new b
   pub rise : AreRising new
   pub fewer : length new ≤ length old
 
@@ -104,9 +104,9 @@ pub record TellsComponent (graph : List (List ℕ)) (component : List ℕ) (on_r
   pub no : (v : ℕ) → component ≡ v ∷ [] → HasEdge graph v v → on_ring ≡ true
 
 -- the list with the item at each of the indices
-abbrev pub written : {A : Type 0} → List A → List ℕ → A → List A
-written xs [] x = xs
-written xs (v ∷ vs) x = written (slice_set xs v x) vs x
+abbrev pub set_at_each : {A : Type 0} → List A → List ℕ → A → List A
+set_at_each xs [] x = xs
+set_at_each xs (v ∷ vs) x = set_at_each (slice_set xs v x) vs x
 
 -- all vertices, each once, and with its successors before it but for those that lead back to it
 pub record IsFinishing (graph : List (List ℕ)) (order : List ℕ) : Type 0 where

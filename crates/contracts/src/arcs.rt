@@ -5,7 +5,7 @@ ghost use Rattle.contracts.specs.Graphs.{InRange, groups};
 ghost use Rattle.contracts.specs.Arcs.{AreArcs, IsDrawn, EndsListed};
 ghost use Rattle.contracts.specs.Rings.{AreRings};
 ghost use Rattle.contracts.specs.Peeling.{AreHeights};
-ghost use Rattle.contracts.specs.Positions.{listed};
+ghost use Rattle.contracts.specs.Positions.{numbers_of};
 ghost use Rattle.program.specs.declared.limits.TheConstants.{MOST_STATES};
 
 use crate::grouping::groups_of;
@@ -47,10 +47,10 @@ impl SignGraph {
         states: Listing,
         sign: Sign,
     ) -> Result<SignGraph, AllocError>
-        requires few { length (listed states) ≤ MOST_STATES }
-        requires listed { EndsListed (listed states) edges.now }
+        requires few { length (numbers_of states) ≤ MOST_STATES }
+        requires listed { EndsListed (numbers_of states) edges.now }
         ensures range { IfOk result (λ graph. InRange (groups graph.groups)) }
-        ensures drawn { IfOk result (λ graph. IsDrawn (listed states) edges.now
+        ensures drawn { IfOk result (λ graph. IsDrawn (numbers_of states) edges.now
             (λ e. e.sign ≡ sign) (groups graph.groups)) }
         ensures heights { IfOk result (λ graph. AreHeights (groups graph.groups) graph.heights.items) }
         ensures rings { IfOk result (λ graph. AreRings (groups graph.groups) graph.rings.items) }
@@ -87,9 +87,9 @@ fn arcs_of(
     states: Listing,
     sign: Sign,
 ) -> Result<Vec<Arc>, AllocError>
-    requires listed { EndsListed (listed states) edges.now }
+    requires listed { EndsListed (numbers_of states) edges.now }
     ensures arcs { IfOk result
-        (λ arcs. AreArcs (listed states) edges.now sign arcs.items) }
+        (λ arcs. AreArcs (numbers_of states) edges.now sign arcs.items) }
 {
     let mut arcs = Vec::with_capacity(alloc, edges.len())?; // room that is not written to costs nothing
     for edge in edges {

@@ -10,7 +10,7 @@ ghost use Rattle.contracts.specs.Arcs.{arc};
 ghost use Rattle.contracts.specs.Graphs.{groups, InRange};
 ghost use Rattle.contracts.specs.Rings.{AreRings};
 ghost use Rattle.contracts.specs.Searches.{AreBoundsTo, AreRising, IsFinishing, IsIdle, IsKept, IsMet, IsNextEnd};
-ghost use Rattle.contracts.specs.Searches.{CanReach, StayMet, TellsComponent, status_at, steps_left, written};
+ghost use Rattle.contracts.specs.Searches.{CanReach, StayMet, TellsComponent, status_at, steps_left, set_at_each};
 ghost use Rattle.contracts.specs.declared.arcs.Arc.{Arc};
 
 use crate::arcs::Arc;
@@ -222,7 +222,7 @@ fn are_on_ring(graph: &Groups<usize>, component: &[usize]) -> bool
 /// Writes an item to each of the indices.
 fn write_each<T: Copy>(items: &mut [T], indices: &[usize], item: T)
     requires { All (λ p. p < length items.old) indices.now }
-    ensures { items.new ≡ written items.old indices.now item }
+    ensures { items.new ≡ set_at_each items.old indices.now item }
 {
     for index in indices {
         items[*index] = item;

@@ -6,7 +6,7 @@ ghost use Rattle.contracts.specs.Conditions.{IsFlaw, finding_model, sign_of as s
 ghost use Rattle.contracts.specs.Drawings.{IsDrawing};
 ghost use Rattle.contracts.specs.Found.{FoundBelow};
 ghost use Rattle.contracts.specs.Orders.{IsOrder};
-ghost use Rattle.contracts.specs.Positions.{listed};
+ghost use Rattle.contracts.specs.Positions.{numbers_of};
 ghost use Rattle.contracts.specs.Parts.{IsWhole, contract_parts, message_ids, state_model, message_model};
 
 use crate::drawing::{Drawing, drawing_of};
@@ -88,7 +88,7 @@ fn sign_of(direction: Direction) -> Sign
 
 /// The message that has the number.
 fn message_of(contract: &Contract, messages: Listing, id: MessageId) -> &Message
-    requires numbers { listed messages ≡ map (λ m. m.id.0) contract.now.messages.items }
+    requires numbers { numbers_of messages ≡ map (λ m. m.id.0) contract.now.messages.items }
     requires listed { Contains (message_ids (contract_parts contract.now)) id }
     ensures its { result.now.id ≡ id }
     ensures listed { Contains contract.now.messages.items result.now }
@@ -103,7 +103,7 @@ fn against_directions(
     messages: Listing,
 ) -> Result<Vec<Finding>, Memory>
     requires whole { IsWhole (contract_parts contract.now) }
-    requires numbers { listed messages ≡ map (λ m. m.id.0) contract.now.messages.items }
+    requires numbers { numbers_of messages ≡ map (λ m. m.id.0) contract.now.messages.items }
     ensures found { IfOk result (λ found. FoundBelow (IsAgainst
         (map message_model contract.now.messages.items) contract.now.edges.items)
         (length contract.now.edges.items) (map finding_model found.items)) }
@@ -127,7 +127,7 @@ fn twice_in_states(
     order: &[usize],
 ) -> Result<Vec<Finding>, Memory>
     requires whole { IsWhole (contract_parts contract.now) }
-    requires numbers { listed messages ≡ map (λ m. m.id.0) contract.now.messages.items }
+    requires numbers { numbers_of messages ≡ map (λ m. m.id.0) contract.now.messages.items }
     requires ordered { IsOrder contract.now.edges.items order.now }
     ensures found { IfOk result (λ found. FoundBelow (IsTwice
         (map message_model contract.now.messages.items) contract.now.edges.items)

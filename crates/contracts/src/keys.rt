@@ -2,7 +2,7 @@
 
 ghost use Rattle.std.specs.Prelude.{◌≡◌, IfOk, map};
 ghost use Rattle.contracts.specs.Parts.{IsWhole, contract_parts};
-ghost use Rattle.contracts.specs.Positions.{listed};
+ghost use Rattle.contracts.specs.Positions.{numbers_of};
 
 use crate::positions::Listing;
 use program::{Contract, Edge, Message, State};
@@ -11,7 +11,7 @@ use std::alloc::{AllocError, Global};
 /// The numbers of the states of a contract.
 pub fn states_of(contract: &Contract) -> Listing
     requires whole { IsWhole (contract_parts contract.now) }
-    ensures { listed result ≡ map (λ s. s.id.0) contract.now.states.items }
+    ensures { numbers_of result ≡ map (λ s. s.id.0) contract.now.states.items }
 {
     Listing::new(contract.first.0, contract.states.len())
 }
@@ -19,7 +19,7 @@ pub fn states_of(contract: &Contract) -> Listing
 /// The numbers of the messages of a contract.
 pub fn messages_of(contract: &Contract) -> Listing
     requires whole { IsWhole (contract_parts contract.now) }
-    ensures { listed result ≡ map (λ m. m.id.0) contract.now.messages.items }
+    ensures { numbers_of result ≡ map (λ m. m.id.0) contract.now.messages.items }
 {
     match contract.messages.first() {
         Some(message) => Listing::new(message.id.0, contract.messages.len()),

@@ -5,7 +5,7 @@ ghost use Rattle.contracts.specs.Arcs.{EndsListed};
 ghost use Rattle.contracts.specs.Bounds.{sign_to};
 ghost use Rattle.contracts.specs.Graphs.{groups};
 ghost use Rattle.contracts.specs.Leaving.{AreLeaving, AreSources, edge_at, sign_from};
-ghost use Rattle.contracts.specs.Positions.{listed};
+ghost use Rattle.contracts.specs.Positions.{numbers_of};
 
 use crate::arcs::Arc;
 use crate::grouping::groups_of;
@@ -20,8 +20,8 @@ pub(crate) fn edges_by_state(
     edges: &[Edge],
     states: Listing,
 ) -> Result<Groups<Edge>, AllocError>
-    requires listed { EndsListed (listed states) edges.now }
-    ensures { IfOk result (λ leaving. AreLeaving (listed states) edges.now (groups leaving)) }
+    requires listed { EndsListed (numbers_of states) edges.now }
+    ensures { IfOk result (λ leaving. AreLeaving (numbers_of states) edges.now (groups leaving)) }
 {
     let sources = sources_of(alloc, edges, states)?;
     let indices = groups_of(alloc, states.len(), &sources)?;
@@ -35,8 +35,8 @@ pub(crate) fn edges_by_state(
 
 /// For each edge an arc from the position of its state to its own index.
 fn sources_of(alloc: Global, edges: &[Edge], states: Listing) -> Result<Vec<Arc>, AllocError>
-    requires listed { EndsListed (listed states) edges.now }
-    ensures { IfOk result (λ sources. AreSources (listed states) edges.now (length edges.now) sources.items) }
+    requires listed { EndsListed (numbers_of states) edges.now }
+    ensures { IfOk result (λ sources. AreSources (numbers_of states) edges.now (length edges.now) sources.items) }
 {
     let mut sources = Vec::with_capacity(alloc, edges.len())?;
     for i in 0..edges.len() {

@@ -1,7 +1,7 @@
 //! Where numbers stand that go up by one.
 
 ghost use Rattle.std.specs.Prelude.{◌≡◌, ◌<◌, ◌↔◌, IsTrue, Contains, length, slice_index};
-ghost use Rattle.contracts.specs.Positions.{listed};
+ghost use Rattle.contracts.specs.Positions.{numbers_of};
 
 /// Numbers that go up by one: the first of them, and how many there are.
 #[derive(Clone, Copy)]
@@ -15,30 +15,30 @@ impl Listing {
 
     /// So many numbers from this one on.
     pub fn new(first: u32, count: usize) -> Listing
-        ensures { listed result ≡ range_with_len first count }
+        ensures { numbers_of result ≡ range_with_len first count }
     {
         Listing { first, count }
     }
 
     /// How many numbers there are.
     pub fn len(self) -> usize
-        ensures { result ≡ length (listed self) }
+        ensures { result ≡ length (numbers_of self) }
     {
         self.count
     }
 
     /// Whether a number is one of them.
     pub fn has(self, number: u32) -> bool
-        ensures { IsTrue result ↔ Contains (listed self) number }
+        ensures { IsTrue result ↔ Contains (numbers_of self) number }
     {
         number >= self.first && ((number - self.first) as usize) < self.count
     }
 
     /// The position of one of the numbers.
     pub fn position(self, number: u32) -> usize
-        requires { Contains (listed self) number }
-        ensures within { result < length (listed self) }
-        ensures at { slice_index (listed self) result ≡ number }
+        requires { Contains (numbers_of self) number }
+        ensures within { result < length (numbers_of self) }
+        ensures at { slice_index (numbers_of self) result ≡ number }
     {
         (number - self.first) as usize
     }

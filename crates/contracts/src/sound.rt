@@ -11,7 +11,7 @@ ghost use Rattle.contracts.specs.Leaving.{AreLeaving, all_from, edges_from, end_
 ghost use Rattle.contracts.specs.Drawings.{IsDrawing};
 ghost use Rattle.contracts.specs.Parts.{IsWhole, contract_parts, message_model};
 ghost use Rattle.contracts.specs.Orders.{IsOrder};
-ghost use Rattle.contracts.specs.Positions.{listed};
+ghost use Rattle.contracts.specs.Positions.{numbers_of};
 ghost use Rattle.contracts.specs.Walks.{IsNext};
 
 use crate::bounds::Bounds;
@@ -93,8 +93,8 @@ pub struct Sound {
     ghost to_imp: { ∥ IsBound contract.value.edges.items contract.value.first Send bounds.to_imp ∥₁ },
     ghost to_exp: { ∥ IsBound contract.value.edges.items contract.value.first Receive bounds.to_exp ∥₁ },
     ghost ordered: { ∥ IsOrder edges.items order.items ∥₁ },
-    ghost named: { listed numbers ≡ map (λ m. m.id.0) messages.items } by { Prim.hlevel props },
-    ghost leave: { AreLeaving (listed states) contract.value.edges.items (groups leaving) } by { Prim.hlevel props },
+    ghost named: { numbers_of numbers ≡ map (λ m. m.id.0) messages.items } by { Prim.hlevel props },
+    ghost leave: { AreLeaving (numbers_of states) contract.value.edges.items (groups leaving) } by { Prim.hlevel props },
 }
 
 /// What a contract is judged to be.

@@ -2,7 +2,7 @@
 
 ghost use Rattle.std.specs.Prelude.{◌≡◌, ◌<◌, ◌↔◌, IfOk, IsTrue, All, get_or};
 ghost use Rattle.contracts.specs.Parts.{AreConsecutive, IsWhole, contract_parts};
-ghost use Rattle.contracts.specs.Positions.{EndsHave, listed};
+ghost use Rattle.contracts.specs.Positions.{EndsHave, numbers_of};
 ghost use Rattle.program.specs.declared.limits.TheConstants.{MOST_STATES};
 
 use crate::keys::{message_numbers, state_numbers};
@@ -58,7 +58,7 @@ fn are_consecutive(numbers: &[u32], first: u32) -> bool
 
 /// Whether the states and the messages of the edges are listed.
 fn are_listed(edges: &[Edge], states: Listing, messages: Listing) -> bool
-    ensures { IsTrue result ↔ All (EndsHave (listed states) (listed messages)) edges.now }
+    ensures { IsTrue result ↔ All (EndsHave (numbers_of states) (numbers_of messages)) edges.now }
 {
     for edge in edges {
         let ends = states.has(edge.from.0) & states.has(edge.to.0);

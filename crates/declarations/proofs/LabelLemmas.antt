@@ -80,29 +80,29 @@ states_more counted before xs i x states more s old new lt is all one id told pl
     ∙ ap (λ p. record { id = record { 0 = before + i }; name = (counted x).name; place = p }) place)
 
 -- the part of a message that is found is that of its name
-pub shared_there : (labels : Labels) (names : List ℕ) (message : Span) (place : ℕ) (part : Part) (h : AreLabels labels names)
-    → first_of (words_at labels.text.now h.messages) (word_at labels.text.now message) ≡ Some place → slice_get labels.by_message.items place ≡ Some part
+pub shared_there : (labels : Labels) (names : List ℕ) (message : Span) (index : ℕ) (part : Part) (h : AreLabels labels names)
+    → first_of (words_at labels.text.now h.messages) (word_at labels.text.now message) ≡ Some index → slice_get labels.by_message.items index ≡ Some part
     → Stands names part (in_parentheses labels.text.now message)
-shared_there labels names message place part h found at behind =
+shared_there labels names message index part h found at behind =
     let text = labels.text.now in
     let word = word_at text message in
     let messages = h.messages in
-    let m = get_or messages place message in
+    let m = get_or messages index message in
     let parts = labels.by_message.items in
     let part_in = part_of (names ++ behind) in
-    let first = position-Some (same_word word) (words_at text messages) place word found in
+    let first = position-Some (same_word word) (words_at text messages) index word found in
     let below = first.0 in
     let size = length-map messages (word_at text) in
-    let lt : place < length messages = omega (arith, below, size) in
-    let same : word ≡ word_at text m = same_text word (get_or (words_at text messages) place word) (sym first.1) ∙ get_or-map (word_at text) messages place message word lt in
-    sym (get_or_from_slice_get (map part_in parts) place (part_in part) (part_in part) (slice_get-map part_in parts place ∙ ap (option_map part_in) at))
-    ∙ ap (λ l. get_or l place (part_in part)) (h.each behind)
-    ∙ get_or-map (in_parentheses text) messages place message (part_in part) lt
+    let lt : index < length messages = omega (arith, below, size) in
+    let same : word ≡ word_at text m = same_text word (get_or (words_at text messages) index word) (sym first.1) ∙ get_or-map (word_at text) messages index message word lt in
+    sym (get_or_from_slice_get (map part_in parts) index (part_in part) (part_in part) (slice_get-map part_in parts index ∙ ap (option_map part_in) at))
+    ∙ ap (λ l. get_or l index (part_in part)) (h.each behind)
+    ∙ get_or-map (in_parentheses text) messages index message (part_in part) lt
     ∙ ap (λ w. codes "(" ++ (utf8_lossy w ++ codes ")")) (sym same)
 
-pub shared_part : (labels : Labels) (names : List ℕ) (message : Span) (place : ℕ) (found : Option (Bor Part)) (h : AreLabels labels names)
-    → Some place ≡ first_of (words_at labels.text.now h.messages) (word_at labels.text.now message) → IsItemAt labels.by_message.items place found
+pub shared_part : (labels : Labels) (names : List ℕ) (message : Span) (index : ℕ) (found : Option (Bor Part)) (h : AreLabels labels names)
+    → Some index ≡ first_of (words_at labels.text.now h.messages) (word_at labels.text.now message) → IsItemAt labels.by_message.items index found
     → IfSome (option_copied found) (λ part. Stands names part (in_parentheses labels.text.now message))
-shared_part labels names message place None h first look = tt
-shared_part labels names message place (Some part) h first look =
-    shared_there labels names message place part.now h (sym first) (slice_get_read labels.by_message.items _ place part.now refl look.3.0 look.1)
+shared_part labels names message index None h first look = tt
+shared_part labels names message index (Some part) h first look =
+    shared_there labels names message index part.now h (sym first) (slice_get_read labels.by_message.items _ index part.now refl look.3.0 look.1)

@@ -31,11 +31,11 @@ pub indices : {X : Type 0} (g : X → StateTree) (xs : List X) (named : List ℕ
 indices g xs named is = ap length is ∙ singles (λ b. length (counted_states b)) [] (map g xs) ∙ length-map xs g
 
 -- the state that a name means
-pub record NamedAt (text : List ℕ) (first : ℕ) (states : List StateTree) (name : Span) (named : List ℕ) (place : ℕ) : Type 0 where
-  pub within : place < length named
-  pub low : place ≤ get_or named place 0
-  pub room : get_or named place 0 ≤ length (counted_states states)
-  pub meant : first + get_or named place 0 ≡ state_meant text first states name
+pub record NamedAt (text : List ℕ) (first : ℕ) (states : List StateTree) (name : Span) (named : List ℕ) (index : ℕ) : Type 0 where
+  pub within : index < length named
+  pub low : index ≤ get_or named index 0
+  pub room : get_or named index 0 ≤ length (counted_states states)
+  pub meant : first + get_or named index 0 ≡ state_meant text first states name
 
 at_least : (states : List StateTree) → length states ≤ length (counted_states states)
 at_least [] = omega arith
@@ -44,17 +44,17 @@ at_least (s ∷ states) =
     let both = length-append (flat_map unnamed_of (paths_of s.body)) (counted_states states) in
     omega (arith, rest, both)
 
-named_at : (text : List ℕ) (first : ℕ) (states : List StateTree) (name : Span) (named : List ℕ) (place : ℕ) (s : StateTree) → named ≡ indices_named states → first_among text (names_of_states states) name ≡ Some place → NamedAt text first states name named place
-named_at text first states name named place s is found =
+named_at : (text : List ℕ) (first : ℕ) (states : List StateTree) (name : Span) (named : List ℕ) (index : ℕ) (s : StateTree) → named ≡ indices_named states → first_among text (names_of_states states) name ≡ Some index → NamedAt text first states name named index
+named_at text first states name named index s is found =
     let words = words_at text (names_of_states states) in
-    let below = (position-Some (same_word (word_at text name)) words place [] found).0 in
+    let below = (position-Some (same_word (word_at text name)) words index [] found).0 in
     let size : length words ≡ length states = length-map (names_of_states states) (word_at text) ∙ length-map states (λ t. t.name) in
-    let lt : place < length states = omega (arith, below, size) in
+    let lt : index < length states = omega (arith, below, size) in
     let many = ap length is ∙ singles (λ b. length (counted_states b)) [] states in
-    let value = ap (λ l. get_or l place 0) is ∙ single_at (λ b. length (counted_states b)) [] states place 0 lt in
-    let front = length-flat_map-take counted_in_state states place s lt in
-    let least = at_least (take place states) in
-    let taken = length-take-le place states (omega (arith, lt)) in
+    let value = ap (λ l. get_or l index 0) is ∙ single_at (λ b. length (counted_states b)) [] states index 0 lt in
+    let front = length-flat_map-take counted_in_state states index s lt in
+    let least = at_least (take index states) in
+    let taken = length-take-le index states (omega (arith, lt)) in
     record {
       within = omega (arith, lt, many);
       low = omega (arith, value, least, taken);
@@ -63,11 +63,11 @@ named_at text first states name named place s is found =
     }
 
 -- the same, by what a look-up in the table answers
-pub named_by : (m : Meaning) (name : Span) (place : ℕ) (found : Option ℕ) (word : List ℕ) → IsMeaning m → ((words : List (List ℕ)) → IsTable words m.declared.now.states → found ≡ first_of words word)
-    → word ≡ word_at (text_of m) name → found ≡ Some place → NamedAt (text_of m) m.states_before (states_in m) name m.named.now place
-named_by m name place found word h look is some =
+pub named_by : (m : Meaning) (name : Span) (index : ℕ) (found : Option ℕ) (word : List ℕ) → IsMeaning m → ((words : List (List ℕ)) → IsTable words m.declared.now.states → found ≡ first_of words word)
+    → word ≡ word_at (text_of m) name → found ≡ Some index → NamedAt (text_of m) m.states_before (states_in m) name m.named.now index
+named_by m name index found word h look is some =
     let words = words_at (text_of m) (state_names m) in
-    named_at (text_of m) m.states_before (states_in m) name m.named.now place (record { name = name; body = Empty }) h.named
+    named_at (text_of m) m.states_before (states_in m) name m.named.now index (record { name = name; body = Empty }) h.named
     (sym (look words h.states ∙ ap (first_of words) is) ∙ some)
 
 -- the names of states are as many as are counted, and each is counted as it should

@@ -14,14 +14,14 @@ use Rattle.declarations.specs.declared.members.Declared.{Declared}
 use Rattle.declarations.proofs.BehindLemmas.{single_at, singles}
 
 -- the named state at a place, among all
-pub named_there : (text : List ℕ) (c : ContractTree) (d : Declared) (name : Span) (place : ℕ) → IsDeclared text c d → first_among text (names_of_states (states_of c)) name ≡ Some place
-    → slice_get d.counted.named.items place ≡ index_among text (states_of c) name
-named_there text c d name place h found =
+pub named_there : (text : List ℕ) (c : ContractTree) (d : Declared) (name : Span) (index : ℕ) → IsDeclared text c d → first_among text (names_of_states (states_of c)) name ≡ Some index
+    → slice_get d.counted.named.items index ≡ index_among text (states_of c) name
+named_there text c d name index h found =
     let states : List StateTree = states_of c in
     let words = words_at text (names_of_states states) in
-    let below = (position-Some (same_word (word_at text name)) words place [] found).0 in
+    let below = (position-Some (same_word (word_at text name)) words index [] found).0 in
     let size : length words ≡ length states = length-map (names_of_states states) (word_at text) ∙ length-map states (λ t. t.name) in
-    let lt : place < length states = omega (arith, below, size) in
+    let lt : index < length states = omega (arith, below, size) in
     let many = ap length h.named ∙ singles (λ b. length (counted_states b)) [] states in
-    let value = ap (λ l. get_or l place 0) h.named ∙ single_at (λ b. length (counted_states b)) [] states place 0 lt in
-    slice_get-get_or d.counted.named.items place 0 (omega (arith, lt, many)) ∙ ap Some value ∙ sym (ap (option_map (λ k. length (counted_states (take k states)))) found)
+    let value = ap (λ l. get_or l index 0) h.named ∙ single_at (λ b. length (counted_states b)) [] states index 0 lt in
+    slice_get-get_or d.counted.named.items index 0 (omega (arith, lt, many)) ∙ ap Some value ∙ sym (ap (option_map (λ k. length (counted_states (take k states)))) found)

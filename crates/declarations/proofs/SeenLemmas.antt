@@ -9,14 +9,14 @@ use Rattle.declarations.specs.Declarations.{counted_states}
 use Rattle.declarations.specs.Outlines.{outlined_messages, outlined_states}
 use Rattle.program.specs.Parts.{MessageModel, StateModel, message_model, state_model, ContractModel, contract_model}
 use Rattle.declarations.specs.Ready.{resolved_declared}
-use Rattle.declarations.specs.Resolution.{counted_in, edges_from, message_meant, messages_from, numbered_message, numbered_state, printed, resolved_contract, state_meant, states_from}
+use Rattle.declarations.specs.Resolution.{counted_in, edges_from, message_meant, messages_from, numbered_message, numbered_state, printed_name, resolved_contract, state_meant, states_from}
 use Rattle.declarations.specs.declared.members.Declared.{Declared}
 use Rattle.program.specs.declared.contract.Contract.{Contract}
 use Rattle.program.specs.declared.contract.Edge.{Edge}
 use Rattle.program.specs.declared.number.StateId.{StateId}
 use Rattle.declarations.proofs.MeantLemmas.{as_counted}
 
-pub seen_is : (text : List ℕ) (message state : ℕ) (name : Span) (messages : List MessageTree) (states : List StateTree) (c : Contract) → string_bytes c.name ≡ printed text name → c.first ≡ record { 0 = state }
+pub seen_is : (text : List ℕ) (message state : ℕ) (name : Span) (messages : List MessageTree) (states : List StateTree) (c : Contract) → string_bytes c.name ≡ printed_name text name → c.first ≡ record { 0 = state }
     → map (state_model (string_bytes c.state_names)) c.states.items ≡ states_from text state states → map message_model c.messages.items ≡ messages_from text message messages
     → c.edges.items ≡ edges_from (record { message = message_meant text message messages; state = state_meant text state states }) state states
     → contract_model c ≡ resolved_contract text message state name messages states
@@ -24,10 +24,10 @@ seen_is text message state name messages states c name-is first-is states-are me
     let seen : List ℕ → StateId → List StateModel → List MessageModel → List Edge → ContractModel = λ n f ss ms es. record { name = n; parts = record { first = f; states = ss; messages = ms; edges = es } } in
     let all = map (state_model (string_bytes c.state_names)) c.states.items in
     ap (λ n. seen n c.first all (map message_model c.messages.items) c.edges.items) name-is
-    ∙ ap (λ f. seen (printed text name) f all (map message_model c.messages.items) c.edges.items) first-is
-    ∙ ap (λ ss. seen (printed text name) (record { 0 = state }) ss (map message_model c.messages.items) c.edges.items) states-are
-    ∙ ap (λ ms. seen (printed text name) (record { 0 = state }) (states_from text state states) ms c.edges.items) messages-are
-    ∙ ap (seen (printed text name) (record { 0 = state }) (states_from text state states) (messages_from text message messages)) edges-are
+    ∙ ap (λ f. seen (printed_name text name) f all (map message_model c.messages.items) c.edges.items) first-is
+    ∙ ap (λ ss. seen (printed_name text name) (record { 0 = state }) ss (map message_model c.messages.items) c.edges.items) states-are
+    ∙ ap (λ ms. seen (printed_name text name) (record { 0 = state }) (states_from text state states) ms c.edges.items) messages-are
+    ∙ ap (seen (printed_name text name) (record { 0 = state }) (states_from text state states) (messages_from text message messages)) edges-are
 
 -- a resolved contract has as many messages and states as are declared and counted
 seen_messages : (text : List ℕ) (message state : ℕ) (name : Span) (messages : List MessageTree) (states : List StateTree) (c : Contract) → contract_model c ≡ resolved_contract text message state name messages states → length c.messages.items ≡ length messages

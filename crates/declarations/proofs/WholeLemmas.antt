@@ -36,16 +36,16 @@ use Rattle.declarations.proofs.ReadyLemmas.{clean_edges, contracts_clean, states
 
 -- a name that nothing is wrong with stands among those that are declared
 pub record Declared (text : List ℕ) (names : List Span) (name : Span) : Type 0 where
-  pub place : ℕ
-  pub found : first_among text names name ≡ Some place
-  pub within : place < length names
+  pub index : ℕ
+  pub found : first_among text names name ≡ Some index
+  pub within : index < length names
 
 declared_at : (text : List ℕ) (names : List Span) (name : Span) (o : Option ℕ) → first_among text names name ≡ o → is_some o ≡ true → Declared text names name
 declared_at text names name None is there = cc
 declared_at text names name (Some k) is there =
     let below = (position-Some (same_word (word_at text name)) (words_at text names) k [] is).0 in
     let size = length-map names (word_at text) in
-    record { place = k; found = is; within = omega (arith, below, size) }
+    record { index = k; found = is; within = omega (arith, below, size) }
 
 declared : (s : NameSort) (text : List ℕ) (names : List Span) (name : Span) → asked_name s text names name ≡ [] → Declared text names name
 declared s text names name none =
@@ -68,7 +68,7 @@ state_is text first states name none =
     let value = ap (λ o. option_map_or (λ k. first + length (counted_states (take k states))) o 0) here.found in
     let size = length-map states (λ s. s.name) in
     let within = here.within in
-    let front = length-flat_map-take counted_in_state states here.place (record { name = name; body = Empty }) (omega (arith, within, size)) in
+    let front = length-flat_map-take counted_in_state states here.index (record { name = name; body = Empty }) (omega (arith, within, size)) in
     record { low = omega (arith, value); high = omega (arith, value, front) }
 
 -- the states of an edge are among the n from the number s on, and its message among the k from m on

@@ -3,14 +3,14 @@ use Rattle.std.specs.Prelude.{◌≡◌, ℕ, List, ◌++◌, codes, map}
 use Rattle.source.specs.Slices.{slice_of}
 use Rattle.source.specs.declared.token.Span.{Span}
 use Rattle.program.specs.declared.contract.Part.{Part}
-use Rattle.declarations.specs.Resolution.{printed}
+use Rattle.declarations.specs.Resolution.{printed_name}
 use Rattle.declarations.specs.declared.labels.Labels.{Labels}
 use Rattle.tables.specs.Tables.{IsTable}
 use Rattle.tables.specs.Words.{words_at}
 
 -- the name of a message, in parentheses
 abbrev pub in_parentheses : List ℕ → Span → List ℕ
-in_parentheses text message = codes "(" ++ (printed text message ++ codes ")")
+in_parentheses text message = codes "(" ++ (printed_name text message ++ codes ")")
 
 -- the bytes of a part
 abbrev pub part_of : List ℕ → Part → List ℕ

@@ -28,8 +28,8 @@ abbrev pub plain : Code → List ℕ → Place → FindingModel
 plain code text place = record { place = place; code = code; text = text }
 
 -- a finding whose text begins with the name at which it stands
-abbrev pub naming : List ℕ → Code → Span → List ℕ → FindingModel
-naming text code name rest = plain code (utf8_lossy (word_at text name) ++ rest) name.place
+abbrev pub finding_of_name : List ℕ → Code → Span → List ℕ → FindingModel
+finding_of_name text code name rest = plain code (utf8_lossy (word_at text name) ++ rest) name.place
 
 abbrev pub case_twice : List ℕ → Span → Span → FindingModel
 case_twice text endpoint awaited = plain N08
@@ -38,16 +38,16 @@ case_twice text endpoint awaited = plain N08
 
 -- the finding of a mistake in this text
 abbrev pub finding_in : List ℕ → Mistake → FindingModel
-finding_in text (DeclaredTwice name first) = naming text N01 name (codes " declared twice")
-finding_in text (Unknown name sort) = naming text N02 name (codes " unknown")
+finding_in text (DeclaredTwice name first) = finding_of_name text N01 name (codes " declared twice")
+finding_in text (Unknown name sort) = finding_of_name text N02 name (codes " unknown")
 finding_in text (WrongType place mismatch) = plain N03 (codes "wrong type") place
 finding_in text (WrongNumber place asked given) = plain N04 (codes "wrong number of arguments") place
 finding_in text (BreakOutside place) = plain N05 (codes "break outside") place
 finding_in text (ContinueOutside place) = plain N05 (codes "continue outside") place
 finding_in text (LimitPassed place limit) = plain N06 (codes "limit passed") place
-finding_in text (NotStarted name) = naming text N07 name (codes " cannot be started")
+finding_in text (NotStarted name) = finding_of_name text N07 name (codes " cannot be started")
 finding_in text (CaseTwice endpoint awaited) = case_twice text endpoint awaited
-finding_in text (LacksClosed name) = naming text N09 name (codes " lacks ChannelClosed")
+finding_in text (LacksClosed name) = finding_of_name text N09 name (codes " lacks ChannelClosed")
 
 -- the new list has these mistakes behind those of the old one
 pub record Adds (old new : List Mistake) (more : List Mistake) : Type 0 where

@@ -20,12 +20,12 @@ each_behind f before [] = []
 each_behind f before (x ∷ xs) = f before x ++ each_behind f (before ++ x ∷ []) xs
 
 -- how a name is printed
-abbrev pub printed : List ℕ → Span → List ℕ
-printed text name = utf8_lossy (word_at text name)
+abbrev pub printed_name : List ℕ → Span → List ℕ
+printed_name text name = utf8_lossy (word_at text name)
 
 -- a message with its number
 abbrev pub numbered_message : List ℕ → ℕ → MessageTree → MessageModel
-numbered_message text number m = record { id = record { 0 = number }; name = printed text m.name; direction = m.direction }
+numbered_message text number m = record { id = record { 0 = number }; name = printed_name text m.name; direction = m.direction }
 
 -- the messages of a contract, where so many stand before its own
 abbrev pub messages_from : List ℕ → ℕ → List MessageTree → List MessageModel
@@ -38,11 +38,11 @@ pub record UnnumberedState : Type 0 where
 
 -- a named state
 abbrev pub named_state : List ℕ → Span → UnnumberedState
-named_state text name = record { name = printed text name; place = name.place }
+named_state text name = record { name = printed_name text name; place = name.place }
 
 -- an unnamed state is printed as its message, in parentheses
 abbrev pub unnamed_state : List ℕ → Span → UnnumberedState
-unnamed_state text message = record { name = codes "(" ++ (printed text message ++ codes ")"); place = message.place }
+unnamed_state text message = record { name = codes "(" ++ (printed_name text message ++ codes ")"); place = message.place }
 
 -- a named state is counted at its name, and behind it the unnamed ones of its paths
 abbrev pub counted_in : List ℕ → StateTree → List UnnumberedState
@@ -108,7 +108,7 @@ edges_from means first states =
 -- state is the one that stands first.
 abbrev pub resolved_contract : List ℕ → ℕ → ℕ → Span → List MessageTree → List StateTree → ContractModel
 resolved_contract text first_message first_state name messages states = record {
-  name = printed text name;
+  name = printed_name text name;
   parts = record {
     first = record { 0 = first_state };
     states = states_from text first_state states;

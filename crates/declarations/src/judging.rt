@@ -64,9 +64,9 @@ pub(crate) fn judge_twice(
     if table.is_apart() {
         return Ok(());
     }
-    for (place, name) in names.iter().enumerate() {
+    for (index, name) in names.iter().enumerate() {
         let first = table.find(name.slice(text));
-        if !is_at(first, place) {
+        if !is_at(first, index) {
             add_twice(*name, first_named(names, first), found)?;
         }
     }

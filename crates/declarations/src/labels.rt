@@ -5,7 +5,7 @@ ghost use Rattle.declarations.specs.Declarations.{names_of_messages};
 ghost use Rattle.declarations.specs.Labels.{AreLabels, IsTold, Stands, in_parentheses};
 ghost use Rattle.declarations.specs.Numbered.{counted_as};
 ghost use Rattle.declarations.specs.Outlines.{outlined_messages};
-ghost use Rattle.declarations.specs.Resolution.{printed};
+ghost use Rattle.declarations.specs.Resolution.{printed_name};
 ghost use Rattle.tables.specs.Tables.{IsTable};
 ghost use Rattle.tables.specs.Words.{words_at};
 
@@ -80,7 +80,7 @@ impl<'a, 't> Labels<'a, 't> {
 
 /// Adds a name.
 fn add_name(alloc: Global, names: &mut String, text: &[u8], name: Span) -> Result<Part, Memory>
-    ensures { IfOk result (λ part. IsTold (string_bytes names.old) (string_bytes names.new) part (printed text.now name)) }
+    ensures { IfOk result (λ part. IsTold (string_bytes names.old) (string_bytes names.new) part (printed_name text.now name)) }
 {
     let start = names.len();
     texts::push_name(alloc, names, name.slice(text))?;

@@ -39,8 +39,8 @@ impl Meaning<'_, '_> {
         requires declared { asked_state (text_of self.now) (state_names self.now) name ≡ [] }
         ensures { result ≡ (meanings self.now).state name }
     {
-        let place = self.declared.states.find(name.slice(self.text)).unwrap();
-        self.states_before + self.named[place] as u32
+        let index = self.declared.states.find(name.slice(self.text)).unwrap();
+        self.states_before + self.named[index] as u32
     }
 
     /// An edge between the states with these numbers.

@@ -65,7 +65,7 @@ fn pointer_type(scope: &Scope<'_>, name: Span) -> ValueType
     ensures { (p : ProgramText) → IsScope p scope.now → result ≡ pointer_type (struct_named p name) }
 {
     match scope.structure(name) {
-        Some((place, _)) => ValueType::Pointer(place),
+        Some((index, _)) => ValueType::Pointer(index),
         None => ValueType::Unknown,
     }
 }
@@ -74,7 +74,7 @@ fn endpoint_type(scope: &Scope<'_>, contract: Span, side: Side, state: Option<Sp
     ensures { (p : ProgramText) → IsScope p scope.now → result ≡ endpoint_type p.text (contract_named p contract) side state }
 {
     match scope.contract(contract) {
-        Some((place, declared)) => end_type(scope.text, place, declared, side, state),
+        Some((index, declared)) => end_type(scope.text, index, declared, side, state),
         None => ValueType::Unknown,
     }
 }
@@ -160,8 +160,8 @@ fn judge_endpoint(
         → OnOk result (Adds found.old.items found.new.items (endpoint_unknown p.text (contract_named p contract) contract state)) }
 {
     match (scope.contract(contract), state) {
-        (Some((place, declared)), Some(state)) => {
-            let sort = NameSort::State(Some(place));
+        (Some((index, declared)), Some(state)) => {
+            let sort = NameSort::State(Some(index));
             judge_name(scope.text, &declared.states, state, sort, found)
         }
         (Some(_), None) => Ok(()),

@@ -9,7 +9,7 @@ use Rattle.source.specs.declared.kind.Kind.{Kind}
 use Rattle.expected.specs.declared.groups.Group.{Group}
 use Rattle.expected.specs.KindWords.{word_of}
 use Rattle.expected.specs.Grouping.{has, without, word_of_group, kinds_of_group, items_of}
-use Rattle.expected.specs.Expectations.{following}
+use Rattle.expected.specs.Expectations.{rest_of_items}
 
 drop_one : {X : Type 0} (xs : List X) (i : ℕ) (d : X) → i < length xs → drop i xs ≡ get_or xs i d ∷ drop (i + 1) xs
 drop_one xs i d within = drop-cons xs i d within ∙ ap (λ j. get_or xs i d ∷ drop j xs) (sym (add-one i))
@@ -41,7 +41,7 @@ items_passed gs i d kinds words within all =
     let g = get_or gs i d in
     ap (λ ws. words ++ ws) (sym (ap (λ hs. items_of hs kinds) (drop_one gs i d within) ∙ items_next g (drop (i + 1) gs) kinds false all))
 
-following_last : (last a : List ℕ) (bs : List (List ℕ)) → length bs ≡ 0 → following last (a ∷ bs) ≡ last ++ (a ++ following last bs)
+following_last : (last a : List ℕ) (bs : List (List ℕ)) → length bs ≡ 0 → rest_of_items last (a ∷ bs) ≡ last ++ (a ++ rest_of_items last bs)
 following_last last a [] none = ap (λ t. last ++ t) (sym (append_nil a))
   where
     append_nil : (t : List ℕ) → t ++ [] ≡ t
@@ -49,19 +49,19 @@ following_last last a [] none = ap (λ t. last ++ t) (sym (append_nil a))
     append_nil (x ∷ xs) = ap (λ t. x ∷ t) (append_nil xs)
 following_last last a (b ∷ bs) none = absurd (omega arith)
 
-following_comma : (last a : List ℕ) (bs : List (List ℕ)) → 0 < length bs → following last (a ∷ bs) ≡ codes ", " ++ (a ++ following last bs)
+following_comma : (last a : List ℕ) (bs : List (List ℕ)) → 0 < length bs → rest_of_items last (a ∷ bs) ≡ codes ", " ++ (a ++ rest_of_items last bs)
 following_comma last a [] some = absurd (omega arith)
 following_comma last a (b ∷ bs) some = refl
 
 -- what is before an item, by whether it is the last
 pub following_next : (last before item : List ℕ) (items : List (List ℕ)) (i : ℕ) → i < length items → get_or items i item ≡ item
     → (i + 1 ≡ length items → before ≡ last) → (i + 1 ≢ length items → before ≡ codes ", ")
-    → following last (drop i items) ≡ before ++ (item ++ following last (drop (i + 1) items))
+    → rest_of_items last (drop i items) ≡ before ++ (item ++ rest_of_items last (drop (i + 1) items))
 following_next last before item items i within is ends goes =
     let rest = drop (i + 1) items in
     let counted : length rest ≡ length items - (i + 1) = length-drop (i + 1) items in
     let parts : drop i items ≡ item ∷ rest = drop_one items i item within ∙ ap (λ a. a ∷ rest) is in
-    ap (following last) parts ∙ elim (eq-or-lt_of_le {n = i + 1} {m = length items} (omega arith)) [
-      | inl same ↦ following_last last item rest (omega arith) ∙ ap (λ t. t ++ (item ++ following last rest)) (sym (ends same))
-      | inr less ↦ following_comma last item rest (omega arith) ∙ ap (λ t. t ++ (item ++ following last rest)) (sym (goes (λ e. omega arith)))
+    ap (rest_of_items last) parts ∙ elim (eq-or-lt_of_le {n = i + 1} {m = length items} (omega arith)) [
+      | inl same ↦ following_last last item rest (omega arith) ∙ ap (λ t. t ++ (item ++ rest_of_items last rest)) (sym (ends same))
+      | inr less ↦ following_comma last item rest (omega arith) ∙ ap (λ t. t ++ (item ++ rest_of_items last rest)) (sym (goes (λ e. omega arith)))
     ]

@@ -7,22 +7,22 @@ use Rattle.expected.specs.declared.wording.TheConstants.{MAX_ITEMS}
 use Rattle.expected.specs.Grouping.{items_of}
 
 -- what follows the first of some items: a comma before each, but something else before the last
-abbrev pub following : List ℕ → List (List ℕ) → List ℕ
-following last [] = []
-following last (a ∷ []) = last ++ a
-following last (a ∷ b ∷ cs) = codes ", " ++ (a ++ following last (b ∷ cs))
+abbrev pub rest_of_items : List ℕ → List (List ℕ) → List ℕ
+rest_of_items last [] = []
+rest_of_items last (a ∷ []) = last ++ a
+rest_of_items last (a ∷ b ∷ cs) = codes ", " ++ (a ++ rest_of_items last (b ∷ cs))
 
 -- items in a row
-abbrev pub joined : List ℕ → List (List ℕ) → List ℕ
-joined last [] = codes "nothing"
-joined last (a ∷ bs) = a ++ following last bs
+abbrev pub item_list : List ℕ → List (List ℕ) → List ℕ
+item_list last [] = codes "nothing"
+item_list last (a ∷ bs) = a ++ rest_of_items last bs
 
 -- "a, b or c", or where there are too many "a, b, c, or 4 more"
 abbrev pub listed_items : List (List ℕ) → List ℕ
 listed_items items =
     if nat_lt MAX_ITEMS (length items)
-    then joined (codes ", ") (take MAX_ITEMS items) ++ (codes ", or " ++ (decimal (length items - MAX_ITEMS) ++ codes " more"))
-    else joined (codes " or ") items
+    then item_list (codes ", ") (take MAX_ITEMS items) ++ (codes ", or " ++ (decimal (length items - MAX_ITEMS) ++ codes " more"))
+    else item_list (codes " or ") items
 
 -- the whole text
 abbrev pub expectation_of : List Kind → List ℕ

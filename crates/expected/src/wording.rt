@@ -5,7 +5,7 @@ ghost use Rattle.std.specs.List.{list_all};
 ghost use Rattle.std.specs.String.{string_bytes};
 ghost use Rattle.expected.specs.Grouping.{has, without, items_of};
 ghost use Rattle.expected.specs.KindWords.{word_of};
-ghost use Rattle.expected.specs.Expectations.{following, joined, listed_items, expectation_of};
+ghost use Rattle.expected.specs.Expectations.{rest_of_items, item_list, listed_items, expectation_of};
 ghost use Rattle.expected.specs.declared.groups.TheConstants.{GROUPS};
 
 use crate::groups::{GROUPS, kinds_of_group, word_of_group};
@@ -75,7 +75,7 @@ fn items_for(alloc: Global, kinds: &[Kind]) -> Result<Vec<&'static str>, Memory>
 /// Adds items after a first one: `, ` before each, but `last` before the last.
 fn add_following(text: &mut String, last: &str, items: &[&'static str]) -> Result<(), Memory>
     ensures { OnOk result (string_bytes text.new
-        ≡ string_bytes text.old ++ following last.now (map (λ item. item.now) items.now)) }
+        ≡ string_bytes text.old ++ rest_of_items last.now (map (λ item. item.now) items.now)) }
 {
     for i in 0..items.len() {
         text.push_str(if i + 1 == items.len() { last } else { ", " })?;
@@ -87,7 +87,7 @@ fn add_following(text: &mut String, last: &str, items: &[&'static str]) -> Resul
 /// Adds items in a row.
 fn add_joined(text: &mut String, last: &str, items: &[&'static str]) -> Result<(), Memory>
     ensures { OnOk result (string_bytes text.new
-        ≡ string_bytes text.old ++ joined last.now (map (λ item. item.now) items.now)) }
+        ≡ string_bytes text.old ++ item_list last.now (map (λ item. item.now) items.now)) }
 {
     match items {
         [] => text.push_str("nothing")?,

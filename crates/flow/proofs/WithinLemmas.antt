@@ -13,7 +13,7 @@ use Rattle.program.specs.declared.statement.Mention.{Mention}
 use Rattle.program.specs.declared.statement.Ways.{Ways}
 use Rattle.program.specs.declared.statement.Ways.TheVariants as ways_of
 use Rattle.flow.specs.Graphs.{Instruction, Use, New, Move, Delete, Exchange, NewChannel, Send, Branch, Forget, Call, Start, Return, Stop}
-use Rattle.flow.specs.Lowering.{Laid, Lays, nothing, one, both, gone, branches, parts, turns, reads, forgets, acts, called, started, made_new, sent, ending}
+use Rattle.flow.specs.Lowering.{Laid, Lays, nothing, one, both, go_to, branches, parts, turns, reads, forgets, acts, lay_call, lay_start, made_new, lay_send, ending}
 use Rattle.flow.specs.Within.{goes_on}
 
 -- an instruction goes on below a bound
@@ -56,7 +56,7 @@ both_stay n a b first second = record {
 }
 
 -- laid where the method goes on at a point below
-pub gone_stays : (n to : ℕ) (a : Lays) → to < n → StaysBelow n a → StaysBelow n (gone to a)
+pub gone_stays : (n to : ℕ) (a : Lays) → to < n → StaysBelow n a → StaysBelow n (go_to to a)
 gone_stays n to a h s = record { stays = λ from next ignored fits. s.stays from to h fits }
 
 -- a condition's Branch
@@ -126,15 +126,15 @@ pub ending_stays : (n : ℕ) (m : MethodModel) → StaysBelow n (one (λ next. e
 ending_stays n m = one_of m.gives n m.close m.scope
 
 -- a call and a start
-pub called_stay : (n : ℕ) (c : CallModel) → StaysBelow n (called c)
+pub called_stay : (n : ℕ) (c : CallModel) → StaysBelow n (lay_call c)
 called_stay n c = both_stay n (reads c.reads) (both (one (Call c.place c.method c.arguments c.target)) (reads c.behind)) (reads_stay n c.reads)
     (both_stay n (one (Call c.place c.method c.arguments c.target)) (reads c.behind) (one_stays n (Call c.place c.method c.arguments c.target) (one_point n)) (reads_stay n c.behind))
 
-pub started_stay : (n : ℕ) (c : CallModel) → StaysBelow n (started c)
+pub started_stay : (n : ℕ) (c : CallModel) → StaysBelow n (lay_start c)
 started_stay n c = both_stay n (reads c.reads) (one (Start c.place c.method c.arguments)) (reads_stay n c.reads) (one_stays n (Start c.place c.method c.arguments) (one_point n))
 
 -- a send
-pub sent_stays : (n : ℕ) (s : SendModel) → StaysBelow n (sent s)
+pub sent_stays : (n : ℕ) (s : SendModel) → StaysBelow n (lay_send s)
 sent_stays n s = both_stay n (reads s.reads) (one (Send s.place s.endpoint s.message s.payloads)) (reads_stay n s.reads) (one_stays n (Send s.place s.endpoint s.message s.payloads) (one_point n))
 
 -- a new block

@@ -166,7 +166,7 @@ pub(crate) fn lay_call(
     next: usize,
 ) -> Result<usize, Memory>
     ensures { IfOk result (λ entry. Grew instructions.old.items instructions.new.items entry
-        (laid.called (call_model call.now) (length instructions.old.items) next)) }
+        (laid.lay_call (call_model call.now) (length instructions.old.items) next)) }
 {
     let next = lay_reads(instructions, &call.behind, next)?;
     let instruction = Instr::Call(Calling {
@@ -188,7 +188,7 @@ pub(crate) fn lay_start(
     next: usize,
 ) -> Result<usize, Memory>
     ensures { IfOk result (λ entry. Grew instructions.old.items instructions.new.items entry
-        (laid.started (call_model call.now) (length instructions.old.items) next)) }
+        (laid.lay_start (call_model call.now) (length instructions.old.items) next)) }
 {
     let instruction = Instr::Start(Starting {
         place: call.place,
@@ -208,7 +208,7 @@ pub(crate) fn lay_send(
     next: usize,
 ) -> Result<usize, Memory>
     ensures { IfOk result (λ entry. Grew instructions.old.items instructions.new.items entry
-        (laid.sent (send_model send.now) (length instructions.old.items) next)) }
+        (laid.lay_send (send_model send.now) (length instructions.old.items) next)) }
 {
     let instruction = Instr::Send(Sending {
         place: send.place,

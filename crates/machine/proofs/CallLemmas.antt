@@ -10,8 +10,8 @@ use Rattle.program.specs.declared.statement.Mention.{Mention}
 use Rattle.flow.specs.Graphs.{Call}
 use Rattle.machine.specs.Answers.{IsFirstFault, IsRefusal, Pass, Tells, entered_on, on_stack, with_stack, with_variables}
 use Rattle.machine.specs.Blocks.{argument_tests_in}
-use Rattle.machine.specs.Frames.{entered}
-use Rattle.machine.specs.Outcomes.{QueueBounds, Outcome, Faulty, Moved, FaultTest, tested}
+use Rattle.machine.specs.Frames.{frame_at_entry}
+use Rattle.machine.specs.Outcomes.{QueueBounds, Outcome, Faulty, Moved, FaultTest, after_tests}
 use Rattle.machine.specs.Views.{frame_model, stack_of}
 use Rattle.machine.specs.World.{Block, Frame, World, let_go}
 use Rattle.machine.proofs.FrameLemmas.{given_for}
@@ -26,8 +26,8 @@ passed_on X (Ok y) x is = absurd is
 passed_on X (Err e) x is = ap (λ t. Err t) is
 
 -- tests that pass, and nothing behind them
-pub pass_alone : (tests : List FaultTest) (outcome : Outcome) → Pass tests → tested tests outcome ≡ outcome
-pass_alone tests outcome pass = ap (λ l. tested l outcome) (sym (append-nil tests)) ∙ pass [] outcome
+pub pass_alone : (tests : List FaultTest) (outcome : Outcome) → Pass tests → after_tests tests outcome ≡ outcome
+pass_alone tests outcome pass = ap (λ l. after_tests l outcome) (sym (append-nil tests)) ∙ pass [] outcome
 
 -- where no first fault is found, the tests pass
 pub none_passes : (tests : List FaultTest) (r : Option Fault) → r ≡ None → IsFirstFault r tests → Pass tests
@@ -35,11 +35,11 @@ none_passes tests None is pass = pass
 none_passes tests (Some fault) is pass = absurd (cc)
 
 -- an outcome that is one of these tests is their fault
-pub refused_alone : (tests : List FaultTest) (fault : Fault) (outcome o : Outcome) → IsFirstFault (Some fault) tests → o ≡ tested tests outcome → o ≡ Faulty fault
-refused_alone tests fault outcome o h is = is ∙ (ap (λ l. tested l outcome) (sym (append-nil tests)) ∙ h [] outcome)
+pub refused_alone : (tests : List FaultTest) (fault : Fault) (outcome o : Outcome) → IsFirstFault (Some fault) tests → o ≡ after_tests tests outcome → o ≡ Faulty fault
+refused_alone tests fault outcome o h is = is ∙ (ap (λ l. after_tests l outcome) (sym (append-nil tests)) ∙ h [] outcome)
 
 -- an outcome that is one of these tests tells their refusal
-pub told_alone : (X : Type 0) (r : Result X Refusal) (x : Refusal) (tests : List FaultTest) (outcome o : Outcome) (after : World) → r ≡ Err x → IsRefusal x tests → o ≡ tested tests outcome → Tells r o after
+pub told_alone : (X : Type 0) (r : Result X Refusal) (x : Refusal) (tests : List FaultTest) (outcome o : Outcome) (after : World) → r ≡ Err x → IsRefusal x tests → o ≡ after_tests tests outcome → Tells r o after
 told_alone X r x tests outcome o after e h is = subst (λ t. Tells t o after) (sym e) (at x h)
   where
     at : (y : Refusal) → IsRefusal y tests → Tells {X = X} (Err y) o after
@@ -50,28 +50,28 @@ told_alone X r x tests outcome o after e h is = subst (λ t. Tells t o after) (s
 -- what a call comes to behind its tests
 abbrev pub called_to : ProgramModel → World → ℕ → made.Frame.Frame → List made.Frame.Frame → MethodId → List Argument → Outcome
 called_to p w self f waiting method arguments =
-    Moved (with_stack w self (entered p method.0 (given_for (frame_model f).variables arguments) ∷ with_variables (frame_model f) (let_go (frame_model f).variables arguments) ∷ map frame_model (reverse waiting)) w.blocks)
+    Moved (with_stack w self (frame_at_entry p method.0 (given_for (frame_model f).variables arguments) ∷ with_variables (frame_model f) (let_go (frame_model f).variables arguments) ∷ map frame_model (reverse waiting)) w.blocks)
 
 -- a call: its tests, and then that
 pub call_is : (p : ProgramModel) (bound : QueueBounds) (w : World) (self : ℕ) (place : Place) (method : MethodId) (arguments given : List Argument) (target : Option Mention) (next : ℕ) (top : Option made.Frame.Frame) (waiting : List made.Frame.Frame) (f : made.Frame.Frame) (bs : List Block)
     → top ≡ Some f → w.blocks ≡ bs → given ≡ arguments
-    → on_stack p bound w self (Call place method arguments target next) 0 (stack_of top waiting) ≡ tested (argument_tests_in bs self (frame_model f).variables [] given) (called_to p w self f waiting method arguments)
+    → on_stack p bound w self (Call place method arguments target next) 0 (stack_of top waiting) ≡ after_tests (argument_tests_in bs self (frame_model f).variables [] given) (called_to p w self f waiting method arguments)
 call_is p bound w self place method arguments given target next top waiting f bs e is args =
     ap (λ t. on_stack p bound w self (Call place method arguments target next) 0 (stack_of t waiting)) e
-    ∙ (ap (λ b. tested (argument_tests_in b self (frame_model f).variables [] arguments) (called_to p w self f waiting method arguments)) is
-    ∙ ap (λ l. tested (argument_tests_in bs self (frame_model f).variables [] l) (called_to p w self f waiting method arguments)) (sym args))
+    ∙ (ap (λ b. after_tests (argument_tests_in b self (frame_model f).variables [] arguments) (called_to p w self f waiting method arguments)) is
+    ∙ ap (λ l. after_tests (argument_tests_in bs self (frame_model f).variables [] l) (called_to p w self f waiting method arguments)) (sym args))
 
 -- the frame that begins stands on top
 pub entered_is : (p : ProgramModel) (w : World) (self : ℕ) (method : MethodId) (arguments b d : List Argument) (top : Option made.Frame.Frame) (waiting : List made.Frame.Frame) (f begun : made.Frame.Frame) (stack : List Frame)
-    → top ≡ Some f → b ≡ arguments → d ≡ arguments → frame_model begun ≡ entered p method.0 (given_for (frame_model f).variables b) → stack ≡ entered_on (frame_model begun) d (stack_of top waiting)
+    → top ≡ Some f → b ≡ arguments → d ≡ arguments → frame_model begun ≡ frame_at_entry p method.0 (given_for (frame_model f).variables b) → stack ≡ entered_on (frame_model begun) d (stack_of top waiting)
     → called_to p w self f waiting method arguments ≡ Moved (with_stack w self stack w.blocks)
 entered_is p w self method arguments b d top waiting f begun stack e same others begins is =
     let rest = map frame_model (reverse waiting) in
-    let started : frame_model begun ≡ entered p method.0 (given_for (frame_model f).variables arguments) = begins ∙ ap (λ l. entered p method.0 (given_for (frame_model f).variables l)) same in
-    let stands : stack ≡ entered p method.0 (given_for (frame_model f).variables arguments) ∷ with_variables (frame_model f) (let_go (frame_model f).variables arguments) ∷ rest =
+    let started : frame_model begun ≡ frame_at_entry p method.0 (given_for (frame_model f).variables arguments) = begins ∙ ap (λ l. frame_at_entry p method.0 (given_for (frame_model f).variables l)) same in
+    let stands : stack ≡ frame_at_entry p method.0 (given_for (frame_model f).variables arguments) ∷ with_variables (frame_model f) (let_go (frame_model f).variables arguments) ∷ rest =
     is ∙ (ap (λ t. entered_on (frame_model begun) d (stack_of t waiting)) e
     ∙ (ap (λ g. g ∷ with_variables (frame_model f) (let_go (frame_model f).variables d) ∷ rest) started
-    ∙ ap (λ l. entered p method.0 (given_for (frame_model f).variables arguments) ∷ with_variables (frame_model f) (let_go (frame_model f).variables l) ∷ rest) others)) in
+    ∙ ap (λ l. frame_at_entry p method.0 (given_for (frame_model f).variables arguments) ∷ with_variables (frame_model f) (let_go (frame_model f).variables l) ∷ rest) others)) in
     ap (λ s. Moved (with_stack w self s w.blocks)) (sym stands)
 
 -- want of memory, where the world would change

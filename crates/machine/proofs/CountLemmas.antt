@@ -5,7 +5,7 @@ use Rattle.std.proofs.lemmas.Bool.Decides.{eqb_tells}
 use Rattle.std.proofs.lemmas.List.{append-nil, append_assoc, get_or-set_same, get_or-set_other}
 use Rattle.machine.specs.Blocks.{owns_none}
 use Rattle.machine.specs.Heaps.{IsCounted, brings, one_if, owned_by}
-use Rattle.machine.specs.World.{Block, block_at, changed, is_process}
+use Rattle.machine.specs.World.{Block, block_at, change_each, is_process}
 use Rattle.machine.specs.BlockViews.{blocks_model, held_model}
 use Rattle.machine.specs.declared.worlds.Block as made_block
 use Rattle.machine.specs.declared.worlds.Held as made_held
@@ -84,11 +84,11 @@ owned_added [] b q = omega arith
 owned_added (x ∷ bs) b q = let more : owned_by (bs ++ b ∷ []) q ≡ owned_by bs q + one_if (is_process b.owner q) = owned_added bs b q in omega arith
 
 -- changes that leave owners as they are
-pub owned_kept : (f : ℕ → Block → Block) (bs : List Block) (q : ℕ) → ((j : ℕ) (b : Block) → (f j b).owner ≡ b.owner) → owned_by (changed f bs) q ≡ owned_by bs q
+pub owned_kept : (f : ℕ → Block → Block) (bs : List Block) (q : ℕ) → ((j : ℕ) (b : Block) → (f j b).owner ≡ b.owner) → owned_by (change_each f bs) q ≡ owned_by bs q
 owned_kept f [] q kept = refl
 owned_kept f (b ∷ bs) q kept =
     let one : one_if (is_process (f 0 b).owner q) ≡ one_if (is_process b.owner q) = ap (λ o. one_if (is_process o q)) (kept 0 b) in
-    let more : owned_by (changed (λ a. f (suc a)) bs) q ≡ owned_by bs q = owned_kept (λ a. f (suc a)) bs q (λ j. kept (suc j)) in
+    let more : owned_by (change_each (λ a. f (suc a)) bs) q ≡ owned_by bs q = owned_kept (λ a. f (suc a)) bs q (λ j. kept (suc j)) in
     omega arith
 
 pub none_owned : (bs : List Block) (q : ℕ) → (owned_by bs q == 0) ≡ owns_none bs q
@@ -100,7 +100,7 @@ none_owned (b ∷ bs) q = none_with (is_process b.owner q) (owned_by bs q) (owns
     none_with false n rest is = let e : 0 + n ≡ n = omega arith in ap (λ k. k == 0) e ∙ is
 
 -- ---- counts
-pub counted_kept : (f : ℕ → Block → Block) (bs : List Block) (counts : List ℕ) → ((j : ℕ) (b : Block) → (f j b).owner ≡ b.owner) → IsCounted bs counts → IsCounted (changed f bs) counts
+pub counted_kept : (f : ℕ → Block → Block) (bs : List Block) (counts : List ℕ) → ((j : ℕ) (b : Block) → (f j b).owner ≡ b.owner) → IsCounted bs counts → IsCounted (change_each f bs) counts
 counted_kept f bs counts kept is = record { counts_are = λ q. is.counts_are q ∙ sym (owned_kept f bs q kept) }
 
 -- a block goes from one owner to another
@@ -142,7 +142,7 @@ counted_listed bs counts is = record { counts_are = λ q. with_zero counts q ∙
 
 -- blocks were changed so far, and the counts with them
 pub record Handed (f : ℕ → Block → Block) (old now : List made_block.Block) (olds counts : List ℕ) : Type 0 where
-  pub seen : blocks_model now ≡ changed f (blocks_model old)
+  pub seen : blocks_model now ≡ change_each f (blocks_model old)
   pub counted : IsCounted (blocks_model now) counts
   pub listed : length counts ≡ length olds
 

@@ -9,8 +9,8 @@ use Rattle.program.specs.declared.method.Variable.{Variable}
 use Rattle.program.specs.declared.number.VarId.{VarId}
 use Rattle.program.specs.declared.statement.Mention.{Mention}
 use Rattle.machine.specs.Answers.{Pass}
-use Rattle.machine.specs.Frames.{bound_to, filled, payloads_claimed}
-use Rattle.machine.specs.Outcomes.{Faulty, Outcome, FaultTest, test, tested}
+use Rattle.machine.specs.Frames.{bound_to, variables_at_entry, payloads_claimed}
+use Rattle.machine.specs.Outcomes.{Faulty, Outcome, FaultTest, test, after_tests}
 use Rattle.machine.specs.World.{Block, is_own_in, let_go, read}
 use Rattle.machine.specs.declared.halts.Fault.TheVariants.{F1}
 use Rattle.machine.proofs.GiveLemmas.{passes, refuses}
@@ -60,7 +60,7 @@ given_for variables arguments = map (λ a. read variables a.mention.variable.0) 
 pub record Filled (has : List (Option ℕ)) (variables : List Variable) (arguments : List Argument) (done given : ℕ) (so_far : List (Option ℕ)) : Type 0 where
   pub within : given ≤ length arguments
   pub many : length so_far ≡ done
-  pub is : filled (map variable_model variables) (given_for has arguments) ≡ so_far ++ filled (map variable_model (drop done variables)) (given_for has (drop given arguments))
+  pub is : variables_at_entry (map variable_model variables) (given_for has arguments) ≡ so_far ++ variables_at_entry (map variable_model (drop done variables)) (given_for has (drop given arguments))
 
 pub filled_none : (has : List (Option ℕ)) (variables : List Variable) (arguments : List Argument) → Filled has variables arguments 0 0 []
 filled_none has variables arguments = record { within = omega arith; many = refl; is = refl }
@@ -69,12 +69,12 @@ filled_none has variables arguments = record { within = omega arith; many = refl
 pushed_on : (so_far more xs : List (Option ℕ)) (x : Option ℕ) → more ≡ so_far ++ x ∷ [] → so_far ++ x ∷ xs ≡ more ++ xs
 pushed_on so_far more xs x is = sym (append_assoc so_far (x ∷ []) xs) ∙ ap (λ l. l ++ xs) (sym is)
 
-at_parameter : (v : VariableModel) (variables : List VariableModel) (x : Option ℕ) (xs : List (Option ℕ)) → is_parameter v.role ≡ true → filled (v ∷ variables) (x ∷ xs) ≡ x ∷ filled variables xs
-at_parameter v variables x xs is = ap (λ t. if t then x ∷ filled variables xs else (None ∷ filled variables (x ∷ xs))) is
+at_parameter : (v : VariableModel) (variables : List VariableModel) (x : Option ℕ) (xs : List (Option ℕ)) → is_parameter v.role ≡ true → variables_at_entry (v ∷ variables) (x ∷ xs) ≡ x ∷ variables_at_entry variables xs
+at_parameter v variables x xs is = ap (λ t. if t then x ∷ variables_at_entry variables xs else (None ∷ variables_at_entry variables (x ∷ xs))) is
 
-at_local : (v : VariableModel) (variables : List VariableModel) (xs : List (Option ℕ)) → is_parameter v.role ≡ false → filled (v ∷ variables) xs ≡ None ∷ filled variables xs
+at_local : (v : VariableModel) (variables : List VariableModel) (xs : List (Option ℕ)) → is_parameter v.role ≡ false → variables_at_entry (v ∷ variables) xs ≡ None ∷ variables_at_entry variables xs
 at_local v variables [] is = refl
-at_local v variables (x ∷ xs) is = ap (λ t. if t then x ∷ filled variables xs else (None ∷ filled variables (x ∷ xs))) is
+at_local v variables (x ∷ xs) is = ap (λ t. if t then x ∷ variables_at_entry variables xs else (None ∷ variables_at_entry variables (x ∷ xs))) is
 
 pub filled_parameter : (has : List (Option ℕ)) (variables : List Variable) (arguments : List Argument) (done given : ℕ) (so_far more : List (Option ℕ)) (d : Variable) (e : Argument)
     → done < length variables → given < length arguments → is_parameter (slice_index_or variables done d).role ≡ true
@@ -89,10 +89,10 @@ filled_parameter has variables arguments done given so_far more d e lt some is p
       is =
           h.is
           ∙ (ap (λ l. so_far ++ l)
-          (at_drop_more (λ l. filled (map variable_model l) (given_for has (drop given arguments))) variables done d lt
-          ∙ (at_drop_more (λ l. filled (variable_model v ∷ rest) (given_for has l)) arguments given e some
+          (at_drop_more (λ l. variables_at_entry (map variable_model l) (given_for has (drop given arguments))) variables done d lt
+          ∙ (at_drop_more (λ l. variables_at_entry (variable_model v ∷ rest) (given_for has l)) arguments given e some
           ∙ at_parameter (variable_model v) rest x (given_for has (drop (given + 1) arguments)) is))
-          ∙ pushed_on so_far more (filled rest (given_for has (drop (given + 1) arguments))) x push);
+          ∙ pushed_on so_far more (variables_at_entry rest (given_for has (drop (given + 1) arguments))) x push);
     }
 
 pub filled_local : (has : List (Option ℕ)) (variables : List Variable) (arguments : List Argument) (done given : ℕ) (so_far more : List (Option ℕ)) (d : Variable)
@@ -106,9 +106,9 @@ filled_local has variables arguments done given so_far more d lt is push h =
       is =
           h.is
           ∙ (ap (λ l. so_far ++ l)
-          (at_drop_more (λ l. filled (map variable_model l) (given_for has (drop given arguments))) variables done d lt
+          (at_drop_more (λ l. variables_at_entry (map variable_model l) (given_for has (drop given arguments))) variables done d lt
           ∙ at_local (variable_model v) rest (given_for has (drop given arguments)) is)
-          ∙ pushed_on so_far more (filled rest (given_for has (drop given arguments))) None push);
+          ∙ pushed_on so_far more (variables_at_entry rest (given_for has (drop given arguments))) None push);
     }
 
 pub filled_past : (has : List (Option ℕ)) (variables : List Variable) (arguments : List Argument) (done given : ℕ) (so_far more : List (Option ℕ)) (d : Variable)
@@ -122,16 +122,16 @@ filled_past has variables arguments done given so_far more d lt past push h =
       is =
           h.is
           ∙ (ap (λ l. so_far ++ l)
-          (at_drop_more (λ l. filled (map variable_model l) (given_for has (drop given arguments))) variables done d lt
-          ∙ (at_drop_all (λ l. filled (variable_model v ∷ rest) (given_for has l)) arguments given past
-          ∙ ap (λ l. None ∷ l) (sym (at_drop_all (λ l. filled rest (given_for has l)) arguments given past))))
-          ∙ pushed_on so_far more (filled rest (given_for has (drop given arguments))) None push);
+          (at_drop_more (λ l. variables_at_entry (map variable_model l) (given_for has (drop given arguments))) variables done d lt
+          ∙ (at_drop_all (λ l. variables_at_entry (variable_model v ∷ rest) (given_for has l)) arguments given past
+          ∙ ap (λ l. None ∷ l) (sym (at_drop_all (λ l. variables_at_entry rest (given_for has l)) arguments given past))))
+          ∙ pushed_on so_far more (variables_at_entry rest (given_for has (drop given arguments))) None push);
     }
 
 pub filled_all : (has : List (Option ℕ)) (variables : List Variable) (arguments : List Argument) (done given : ℕ) (so_far : List (Option ℕ)) → length variables ≤ done → Filled has variables arguments done given so_far
-    → so_far ≡ filled (map variable_model variables) (given_for has arguments)
+    → so_far ≡ variables_at_entry (map variable_model variables) (given_for has arguments)
 filled_all has variables arguments done given so_far le h =
-    sym (h.is ∙ (ap (λ l. so_far ++ l) (at_drop_all (λ l. filled (map variable_model l) (given_for has (drop given arguments))) variables done le) ∙ append-nil so_far))
+    sym (h.is ∙ (ap (λ l. so_far ++ l) (at_drop_all (λ l. variables_at_entry (map variable_model l) (given_for has (drop given arguments))) variables done le) ∙ append-nil so_far))
 
 -- the tests that the process has the block in each of these variables
 abbrev pub own_tests : List Block → ℕ → List (Option ℕ) → List Mention → List FaultTest
@@ -139,16 +139,16 @@ own_tests blocks self variables endpoints = map (λ e. test (is_own_in blocks se
 
 -- so many were looked at
 pub record Own (blocks : List Block) (self : ℕ) (variables : List (Option ℕ)) (endpoints : List Mention) (done : ℕ) : Type 0 where
-  pub tests : (more : List FaultTest) (o : Outcome) → tested (own_tests blocks self variables endpoints ++ more) o ≡ tested (own_tests blocks self variables (drop done endpoints) ++ more) o
+  pub tests : (more : List FaultTest) (o : Outcome) → after_tests (own_tests blocks self variables endpoints ++ more) o ≡ after_tests (own_tests blocks self variables (drop done endpoints) ++ more) o
 
 pub own_none : (blocks : List Block) (self : ℕ) (variables : List (Option ℕ)) (endpoints : List Mention) → Own blocks self variables endpoints 0
 own_none blocks self variables endpoints = record { tests = λ more o. refl }
 
 own_left : (blocks : List Block) (self : ℕ) (variables : List (Option ℕ)) (endpoints : List Mention) (done : ℕ) (d : Mention) (more : List FaultTest) (o : Outcome) → done < length endpoints → Own blocks self variables endpoints done
-    → tested (own_tests blocks self variables endpoints ++ more) o
-    ≡ tested (test (is_own_in blocks self (read variables (slice_index_or endpoints done d).variable.0)) F1 ∷ (own_tests blocks self variables (drop (done + 1) endpoints) ++ more)) o
+    → after_tests (own_tests blocks self variables endpoints ++ more) o
+    ≡ after_tests (test (is_own_in blocks self (read variables (slice_index_or endpoints done d).variable.0)) F1 ∷ (own_tests blocks self variables (drop (done + 1) endpoints) ++ more)) o
 own_left blocks self variables endpoints done d more o lt h =
-    h.tests more o ∙ at_drop_more (λ l. tested (own_tests blocks self variables l ++ more) o) endpoints done d lt
+    h.tests more o ∙ at_drop_more (λ l. after_tests (own_tests blocks self variables l ++ more) o) endpoints done d lt
 
 pub own_more : (blocks : List Block) (self : ℕ) (variables : List (Option ℕ)) (endpoints : List Mention) (done : ℕ) (d : Mention) → done < length endpoints
     → is_own_in blocks self (read variables (slice_index_or endpoints done d).variable.0) ≡ true → Own blocks self variables endpoints done → Own blocks self variables endpoints (done + 1)
@@ -161,13 +161,13 @@ own_more blocks self variables endpoints done d lt is h =
 
 pub own_fails : (blocks : List Block) (self : ℕ) (variables : List (Option ℕ)) (endpoints : List Mention) (done : ℕ) (d : Mention) → done < length endpoints
     → is_own_in blocks self (read variables (slice_index_or endpoints done d).variable.0) ≡ false → Own blocks self variables endpoints done
-    → (more : List FaultTest) (o : Outcome) → tested (own_tests blocks self variables endpoints ++ more) o ≡ Faulty F1
+    → (more : List FaultTest) (o : Outcome) → after_tests (own_tests blocks self variables endpoints ++ more) o ≡ Faulty F1
 own_fails blocks self variables endpoints done d lt is h more o =
     own_left blocks self variables endpoints done d more o lt h
     ∙ refuses (is_own_in blocks self (read variables (slice_index_or endpoints done d).variable.0)) F1 (own_tests blocks self variables (drop (done + 1) endpoints) ++ more) o is
 
 pub own_all : (blocks : List Block) (self : ℕ) (variables : List (Option ℕ)) (endpoints : List Mention) (done : ℕ) → length endpoints ≤ done → Own blocks self variables endpoints done → Pass (own_tests blocks self variables endpoints)
-own_all blocks self variables endpoints done le h = λ more o. h.tests more o ∙ at_drop_all (λ l. tested (own_tests blocks self variables l ++ more) o) endpoints done le
+own_all blocks self variables endpoints done le h = λ more o. h.tests more o ∙ at_drop_all (λ l. after_tests (own_tests blocks self variables l ++ more) o) endpoints done le
 
 -- what holds where nothing is, and nothing is
 pub none_of : (o : Option ℕ) (P : Type 0) → is_some o ≡ false → IfNone o P → P

@@ -5,7 +5,7 @@ use Rattle.std.specs.Prelude.{if◌then◌else◌}
 use Rattle.machine.specs.Blocks.{freed_block, goes_with}
 use Rattle.machine.specs.Freeing.{IsStep, fields_left, freed_one}
 use Rattle.machine.specs.Heaps.{QueuesBring, FieldsHold, of_process, one_if}
-use Rattle.machine.specs.World.{Block, block_at, changed, freed, is_freed}
+use Rattle.machine.specs.World.{Block, block_at, change_each, is_freed_at, is_freed}
 use Rattle.machine.specs.declared.worlds.Owner.TheVariants.{Freed}
 use Rattle.machine.proofs.ChangeLemmas.{eqb_apart, eqb_same}
 use Rattle.machine.proofs.FreedQueues.{brought_freed}
@@ -24,7 +24,7 @@ abbrev size : List Block → ℕ
 size [] = 0
 size (b ∷ bs) = weight b + size bs
 
-size_same : (f : ℕ → Block → Block) (bs : List Block) → ((j : ℕ) (b : Block) → weight (f j b) ≡ weight b) → size (changed f bs) ≡ size bs
+size_same : (f : ℕ → Block → Block) (bs : List Block) → ((j : ℕ) (b : Block) → weight (f j b) ≡ weight b) → size (change_each f bs) ≡ size bs
 size_same f [] same = refl
 size_same f (b ∷ bs) same =
     let one = same 0 b in
@@ -32,7 +32,7 @@ size_same f (b ∷ bs) same =
     omega arith
 
 size_less : (f : ℕ → Block → Block) (bs : List Block) (x : ℕ) → x < length bs → ((j : ℕ) (b : Block) → j ≢ x → weight (f j b) ≡ weight b)
-    → weight (f x (block_at bs x)) + 1 ≡ weight (block_at bs x) → size (changed f bs) + 1 ≡ size bs
+    → weight (f x (block_at bs x)) + 1 ≡ weight (block_at bs x) → size (change_each f bs) + 1 ≡ size bs
 size_less f [] x short same less = absurd (omega arith)
 size_less f (b ∷ bs) zero short same less =
     let more = size_same (λ a. f (suc a)) bs (λ j c. same (suc j) c (λ e. omega arith)) in
@@ -48,7 +48,7 @@ last_long [] y = refl
 last_long (x ∷ xs) y = let e = last_long xs y in omega arith
 
 size_popped : (bs : List Block) (x inner : ℕ) (rest : List ℕ) → x < length bs → (block_at bs x).fields ≡ rest ++ inner ∷ []
-    → size (changed (fields_left x rest) bs) + 1 ≡ size bs
+    → size (change_each (fields_left x rest) bs) + 1 ≡ size bs
 size_popped bs x inner rest short fields = size_less (fields_left x rest) bs x short
     (λ j b n. ap (λ (t : Bool). length (if t then rest else b.fields) + one_if (not (is_freed b.owner))) (eqb_apart j x n))
     (let e : length (if x == x then rest else (block_at bs x).fields) ≡ length rest =
@@ -56,8 +56,8 @@ size_popped bs x inner rest short fields = size_less (fields_left x rest) bs x s
     let k : length (block_at bs x).fields ≡ length rest + 1 = ap length fields ∙ last_long rest inner in
     omega arith)
 
-size_freed : (bs : List Block) (x : ℕ) → x < length bs → (block_at bs x).fields ≡ [] → freed bs x ≡ false
-    → size (changed (freed_one x) bs) + 1 ≡ size bs
+size_freed : (bs : List Block) (x : ℕ) → x < length bs → (block_at bs x).fields ≡ [] → is_freed_at bs x ≡ false
+    → size (change_each (freed_one x) bs) + 1 ≡ size bs
 size_freed bs x short empty lives = size_less (freed_one x) bs x short
     (λ j b n. ap (λ (t : Bool). length (if t then [] else b.fields)
     + one_if (not (is_freed (if t then Freed else unqueued (λ i. i == x) b.owner)))) (eqb_apart j x n)
@@ -72,7 +72,7 @@ size_freed bs x short empty lives = size_less (freed_one x) bs x short
 -- ---- the way
 -- what is left when the way ends, or what is true where it goes on
 abbrev pub IsOnWay : List Block → ℕ → List Block → Option ℕ → Type 0
-IsOnWay old a now None = (now ≡ changed (freed_block (goes_with old a)) old) × QueuesBring now
+IsOnWay old a now None = (now ≡ change_each (freed_block (goes_with old a)) old) × QueuesBring now
 IsOnWay old a now (Some x) = Frees old a now x × QueuesBring now
 
 abbrev pub left_over : List Block → Option ℕ → ℕ
@@ -108,15 +108,15 @@ pub way_less : (old : List Block) (a : ℕ) (now new : List Block) (x : ℕ) (r 
     → left_over new r < left_over now (Some x)
 way_less old a now new x None h s =
     let e = size_freed now x (x_there old a now x h.0) s.0.empty (x_lives old a now x h.0) in
-    let k : size new ≡ size (changed (freed_one x) now) = ap size s.0.blocks in
+    let k : size new ≡ size (change_each (freed_one x) now) = ap size s.0.blocks in
     omega arith
 way_less old a now new x (Some y) h (inl s) =
     let e = size_popped now x y s.rest (x_there old a now x h.0) s.fields in
-    let k : size new ≡ size (changed (fields_left x s.rest) now) = ap size s.blocks in
+    let k : size new ≡ size (change_each (fields_left x s.rest) now) = ap size s.blocks in
     omega arith
 way_less old a now new x (Some y) h (inr s) =
     let e = size_freed now x (x_there old a now x h.0) s.0.empty (x_lives old a now x h.0) in
-    let k : size new ≡ size (changed (freed_one x) now) = ap size s.0.blocks in
+    let k : size new ≡ size (change_each (freed_one x) now) = ap size s.0.blocks in
     omega arith
 
 -- ---- one block has fewer fields

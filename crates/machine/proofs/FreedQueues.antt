@@ -4,10 +4,10 @@ use Rattle.std.proofs.lemmas.Bool.{cases_Bool, cases_eq, eqb-true}
 use Rattle.std.specs.Prelude.{if◌then◌else◌, ◌||◌}
 use Rattle.program.specs.Lists.{is_among}
 use Rattle.machine.specs.Answers.{left_in}
-use Rattle.machine.specs.Blocks.{handed, in_queue_of}
+use Rattle.machine.specs.Blocks.{with_new_owner, in_queue_of}
 use Rattle.machine.specs.Freeing.{freed_one}
 use Rattle.machine.specs.Heaps.{QueuesBring, brings, occurs, one_if}
-use Rattle.machine.specs.World.{Block, MessageHeld, block_at, changed, is_queue}
+use Rattle.machine.specs.World.{Block, MessageHeld, block_at, change_each, is_queue}
 use Rattle.machine.specs.declared.worlds.Owner.{Owner}
 use Rattle.machine.specs.declared.worlds.Owner.TheVariants.{Process, Queue, Inside, Channel, Freed}
 use Rattle.machine.proofs.ChangeLemmas.{changed_twice, eqb_apart, eqb_same, or_false}
@@ -16,11 +16,11 @@ use Rattle.machine.proofs.HeapLemmas.{brought_by, eqb_swap, none_occurs, other_q
 
 -- ---- what the queue brought
 changed_at : (f g : ℕ → Block → Block) (bs : List Block) → ((j : ℕ) → j < length bs → f j (block_at bs j) ≡ g j (block_at bs j))
-    → changed f bs ≡ changed g bs
+    → change_each f bs ≡ change_each g bs
 changed_at f g [] same = refl
 changed_at f g (b ∷ bs) same =
     let one : f 0 b ≡ g 0 b = same 0 (omega arith) in
-    let more : changed (λ a. f (suc a)) bs ≡ changed (λ a. g (suc a)) bs =
+    let more : change_each (λ a. f (suc a)) bs ≡ change_each (λ a. g (suc a)) bs =
     changed_at (λ a. f (suc a)) (λ a. g (suc a)) bs (λ j short. same (suc j) (omega arith)) in
     cc
 
@@ -44,12 +44,12 @@ queue_one Freed x = refl
 
 -- Its queue is taken, what that brought goes to the channel, and it is nobody's: that is to free it, if its fields hold nothing.
 pub freed_is : (bs : List Block) (x : ℕ) → QueuesBring bs → (block_at bs x).fields ≡ []
-    → changed (handed Freed (x ∷ [])) (changed (handed Channel (brings (block_at bs x).queue)) (changed (left_in x []) bs))
-    ≡ changed (freed_one x) bs
+    → change_each (with_new_owner Freed (x ∷ [])) (change_each (with_new_owner Channel (brings (block_at bs x).queue)) (change_each (left_in x []) bs))
+    ≡ change_each (freed_one x) bs
 freed_is bs x is empty =
-    ap (changed (handed Freed (x ∷ []))) (changed_twice (left_in x []) (handed Channel (brings (block_at bs x).queue)) bs)
-    ∙ (changed_twice (λ j b. handed Channel (brings (block_at bs x).queue) j (left_in x [] j b)) (handed Freed (x ∷ [])) bs
-    ∙ changed_at (λ j b. handed Freed (x ∷ []) j (handed Channel (brings (block_at bs x).queue) j (left_in x [] j b))) (freed_one x) bs
+    ap (change_each (with_new_owner Freed (x ∷ []))) (changed_twice (left_in x []) (with_new_owner Channel (brings (block_at bs x).queue)) bs)
+    ∙ (changed_twice (λ j b. with_new_owner Channel (brings (block_at bs x).queue) j (left_in x [] j b)) (with_new_owner Freed (x ∷ [])) bs
+    ∙ changed_at (λ j b. with_new_owner Freed (x ∷ []) j (with_new_owner Channel (brings (block_at bs x).queue) j (left_in x [] j b))) (freed_one x) bs
     (λ j short.
     ap (λ t. with_parts (block_at bs j) (if (x == j) || false then Freed else (if t then Channel else (block_at bs j).owner))
     (if j == x then [] else (block_at bs j).queue) (block_at bs j).fields)
@@ -85,7 +85,7 @@ freed_at false false false a b j q o e none queue is = is
 
 -- a block is freed that no queue owns
 pub brought_freed : (bs : List Block) (x : ℕ) → x < length bs → ((c : ℕ) → is_queue (block_at bs x).owner c ≡ false) → QueuesBring bs
-    → QueuesBring (changed (freed_one x) bs)
+    → QueuesBring (change_each (freed_one x) bs)
 brought_freed bs x short none is =
     brought_by (freed_one x) bs (λ j h. ap (λ t. if t then Freed else Channel) (eqb_apart j x (λ e. omega arith)))
     (λ b h. same_both (b == x) [])

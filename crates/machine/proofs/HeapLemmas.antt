@@ -5,9 +5,9 @@ use Rattle.std.proofs.lemmas.Bool.{cases_Bool, cases_lt}
 use Rattle.std.proofs.lemmas.Bool.Decides.{eqb_tells}
 use Rattle.std.proofs.lemmas.List.{append-nil, get_or_past}
 use Rattle.program.specs.Lists.{is_among}
-use Rattle.machine.specs.Blocks.{handed, received_block, sent_block}
+use Rattle.machine.specs.Blocks.{with_new_owner, received_block, sent_block}
 use Rattle.machine.specs.Heaps.{AreOnce, AreOwned, QueuesBring, brings, occurs, of_process, one_if}
-use Rattle.machine.specs.World.{Block, MessageHeld, block_at, changed, is_process, is_queue, no_block}
+use Rattle.machine.specs.World.{Block, MessageHeld, block_at, change_each, is_process, is_queue, no_block}
 use Rattle.machine.specs.declared.worlds.Owner.{Owner}
 use Rattle.machine.specs.declared.worlds.Owner.TheVariants.{Process, Queue, Inside, Channel, Freed}
 use Rattle.machine.proofs.ChangeLemmas.{changed_length, eqb_apart, eqb_same}
@@ -67,7 +67,7 @@ brings_push (x ∷ q) m n =
     omega arith
 
 -- ---- blocks at addresses
-pub at_changed : (f : ℕ → Block → Block) (bs : List Block) (j : ℕ) → j < length bs → block_at (changed f bs) j ≡ f j (block_at bs j)
+pub at_changed : (f : ℕ → Block → Block) (bs : List Block) (j : ℕ) → j < length bs → block_at (change_each f bs) j ≡ f j (block_at bs j)
 at_changed f [] j short = absurd (omega arith)
 at_changed f (b ∷ bs) zero short = refl
 at_changed f (b ∷ bs) (suc j) short = let less : j < length bs = omega arith in at_changed (λ a. f (suc a)) bs j less
@@ -75,21 +75,21 @@ at_changed f (b ∷ bs) (suc j) short = let less : j < length bs = omega arith i
 pub past : (bs : List Block) (j : ℕ) → length bs ≤ j → block_at bs j ≡ no_block
 past bs j long = get_or_past bs j no_block long
 
-pub at_past : (f : ℕ → Block → Block) (bs : List Block) (j : ℕ) → length bs ≤ j → block_at (changed f bs) j ≡ no_block
-at_past f bs j long = let same : length (changed f bs) ≡ length bs = changed_length f bs in past (changed f bs) j (omega arith)
+pub at_past : (f : ℕ → Block → Block) (bs : List Block) (j : ℕ) → length bs ≤ j → block_at (change_each f bs) j ≡ no_block
+at_past f bs j long = let same : length (change_each f bs) ≡ length bs = changed_length f bs in past (change_each f bs) j (omega arith)
 
 pub changed_all : (f : ℕ → Block → Block) (bs : List Block) (j : ℕ) → (length bs ≤ j → f j no_block ≡ no_block)
-    → block_at (changed f bs) j ≡ f j (block_at bs j)
+    → block_at (change_each f bs) j ≡ f j (block_at bs j)
 changed_all f bs j none =
     ⊎_elim (λ h. at_changed f bs j h)
     (λ h. at_past f bs j h ∙ (sym (none h) ∙ ap (f j) (sym (past bs j h)))) (cases_lt j (length bs))
 
-owner_at : (f : ℕ → Block → Block) (bs : List Block) (j : ℕ) → (length bs ≤ j → (f j no_block).owner ≡ Channel) → (block_at (changed f bs) j).owner ≡ (f j (block_at bs j)).owner
+owner_at : (f : ℕ → Block → Block) (bs : List Block) (j : ℕ) → (length bs ≤ j → (f j no_block).owner ≡ Channel) → (block_at (change_each f bs) j).owner ≡ (f j (block_at bs j)).owner
 owner_at f bs j none =
     ⊎_elim (λ h. ap (λ (b : Block). b.owner) (at_changed f bs j h))
     (λ h. ap (λ (b : Block). b.owner) (at_past f bs j h) ∙ (sym (none h) ∙ ap (λ b. (f j b).owner) (sym (past bs j h)))) (cases_lt j (length bs))
 
-queue_at : (f : ℕ → Block → Block) (bs : List Block) (j : ℕ) → (length bs ≤ j → (f j no_block).queue ≡ []) → (block_at (changed f bs) j).queue ≡ (f j (block_at bs j)).queue
+queue_at : (f : ℕ → Block → Block) (bs : List Block) (j : ℕ) → (length bs ≤ j → (f j no_block).queue ≡ []) → (block_at (change_each f bs) j).queue ≡ (f j (block_at bs j)).queue
 queue_at f bs j none =
     ⊎_elim (λ h. ap (λ (b : Block). b.queue) (at_changed f bs j h))
     (λ h. ap (λ (b : Block). b.queue) (at_past f bs j h) ∙ (sym (none h) ∙ ap (λ b. (f j b).queue) (sym (past bs j h)))) (cases_lt j (length bs))
@@ -107,13 +107,13 @@ queue_there bs a m ms is = ⊎_elim (λ h. h) (λ h. absurd (let bad : [] ≡ m 
 
 -- ---- what stays true
 pub brought_by : (f : ℕ → Block → Block) (bs : List Block) → ((j : ℕ) → length bs ≤ j → (f j no_block).owner ≡ Channel) → ((a : ℕ) → length bs ≤ a → (f a no_block).queue ≡ [])
-    → ((a j : ℕ) → occurs (brings (f a (block_at bs a)).queue) j ≡ one_if (is_queue (f j (block_at bs j)).owner a)) → QueuesBring (changed f bs)
+    → ((a j : ℕ) → occurs (brings (f a (block_at bs a)).queue) j ≡ one_if (is_queue (f j (block_at bs j)).owner a)) → QueuesBring (change_each f bs)
 brought_by f bs none empty is = record {
   brings_are = λ a j. ap (λ l. occurs (brings l) j) (queue_at f bs a (empty a)) ∙ (is a j ∙ ap (λ o. one_if (is_queue o a)) (sym (owner_at f bs j (none j))));
 }
 
 -- owners and queues stay
-pub brought_kept : (f : ℕ → Block → Block) (bs : List Block) → ((j : ℕ) (b : Block) → (f j b).owner ≡ b.owner) → ((j : ℕ) (b : Block) → (f j b).queue ≡ b.queue) → QueuesBring bs → QueuesBring (changed f bs)
+pub brought_kept : (f : ℕ → Block → Block) (bs : List Block) → ((j : ℕ) (b : Block) → (f j b).owner ≡ b.owner) → ((j : ℕ) (b : Block) → (f j b).queue ≡ b.queue) → QueuesBring bs → QueuesBring (change_each f bs)
 brought_kept f bs owners queues is =
     brought_by f bs (λ j h. owners j no_block) (λ a h. queues a no_block)
     (λ a j. ap (λ l. occurs (brings l) j) (queues a (block_at bs a)) ∙ (is.brings_are a j ∙ ap (λ o. one_if (is_queue o a)) (sym (owners j (block_at bs j)))))
@@ -123,9 +123,9 @@ handed_at true to o a n free own is = is ∙ (ap one_if (no_queue o a (own refl)
 handed_at false to o a n free own is = is
 
 -- blocks of processes go to an owner that is no queue
-pub brought_handed : (to : Owner) (bs : List Block) (given : List ℕ) → ((a : ℕ) → is_queue to a ≡ false) → AreOwned bs given → QueuesBring bs → QueuesBring (changed (handed to given) bs)
+pub brought_handed : (to : Owner) (bs : List Block) (given : List ℕ) → ((a : ℕ) → is_queue to a ≡ false) → AreOwned bs given → QueuesBring bs → QueuesBring (change_each (with_new_owner to given) bs)
 brought_handed to bs given free owned is =
-    brought_by (handed to given) bs (λ j h. ap (λ t. if t then to else Channel) (owned_there bs given j owned h)) (λ a h. refl)
+    brought_by (with_new_owner to given) bs (λ j h. ap (λ t. if t then to else Channel) (owned_there bs given j owned h)) (λ a h. refl)
     (λ a j. handed_at (is_among given j) to (block_at bs j).owner a (occurs (brings (block_at bs a).queue) j) (free a) (owned.own j) (is.brings_are a j))
 
 sent_at : (same among : Bool) (to a j : ℕ) (m : MessageHeld) (q : List MessageHeld) (o : Owner) → (among ≡ true → of_process o ≡ true) → occurs m.payload j ≡ one_if among
@@ -145,7 +145,7 @@ sent_at true true to a j m q o own once is e =
     omega arith
 
 -- a message is sent
-pub brought_sent : (bs : List Block) (at state to : ℕ) (m : MessageHeld) → AreOwned bs m.payload → AreOnce m.payload → to < length bs → QueuesBring bs → QueuesBring (changed (sent_block at state to false m) bs)
+pub brought_sent : (bs : List Block) (at state to : ℕ) (m : MessageHeld) → AreOwned bs m.payload → AreOnce m.payload → to < length bs → QueuesBring bs → QueuesBring (change_each (sent_block at state to false m) bs)
 brought_sent bs at state to m owned once short is =
     brought_by (sent_block at state to false m) bs (λ j h. ap (λ t. if t then Queue to else Channel) (owned_there bs m.payload j owned h))
     (λ a h. ap (λ t. if t && not false then m ∷ [] else []) (eqb_apart a to (λ e. omega arith)))
@@ -180,7 +180,7 @@ received_at false true self at a j m ms q o there e front is =
 received_at false false self at a j m ms q o there e front is = is
 
 -- a message is received
-pub brought_received : (bs : List Block) (self at state : ℕ) (m : MessageHeld) (ms : List MessageHeld) → (block_at bs at).queue ≡ m ∷ ms → QueuesBring bs → QueuesBring (changed (received_block self at state m ms) bs)
+pub brought_received : (bs : List Block) (self at state : ℕ) (m : MessageHeld) (ms : List MessageHeld) → (block_at bs at).queue ≡ m ∷ ms → QueuesBring bs → QueuesBring (change_each (received_block self at state m ms) bs)
 brought_received bs self at state m ms here is =
     let short : at < length bs = queue_there bs at m ms here in
     brought_by (received_block self at state m ms) bs

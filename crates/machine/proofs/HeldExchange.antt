@@ -5,7 +5,7 @@ use Rattle.std.proofs.lemmas.Bool.{cases_eq}
 use Rattle.std.specs.Prelude.{◌⊎◌, if◌then◌else◌, slice_get}
 use Rattle.machine.specs.Blocks.{exchanged_block}
 use Rattle.machine.specs.Heaps.{FieldsHold, occurs, one_if}
-use Rattle.machine.specs.World.{Block, block_at, changed, is_inside, no_type, owns}
+use Rattle.machine.specs.World.{Block, block_at, change_each, is_inside, no_type, owns}
 use Rattle.machine.specs.declared.worlds.Owner.{Owner}
 use Rattle.machine.specs.declared.worlds.Owner.TheVariants.{Process, Inside, Channel}
 use Rattle.machine.proofs.ChangeLemmas.{eqb_apart, eqb_same, true≢false}
@@ -47,7 +47,7 @@ field_inside bs a i x h e =
 module _ (bs : List Block) (self at field given held : ℕ) (h : FieldsHold bs) (owned_at : owns bs self at ≡ true)
     (owned_given : owns bs self given ≡ true) (apart : given ≢ at) (found : slice_get (block_at bs at).fields field ≡ Some held) where
   abbrev pub changes : List Block
-  changes = changed (exchanged_block self at field given held) bs
+  changes = change_each (exchanged_block self at field given held) bs
 
   pub held_is : (block_at bs held).owner ≡ Inside at
   held_is = field_inside bs at field held h found

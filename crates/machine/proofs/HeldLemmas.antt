@@ -8,9 +8,9 @@ use Rattle.program.specs.Lists.{is_among}
 use Rattle.program.specs.declared.types.HeapType.{HeapType}
 use Rattle.machine.specs.Answers.{with_field}
 use Rattle.machine.specs.BlockViews.{block_model, blocks_model, held_model}
-use Rattle.machine.specs.Blocks.{exchanged_block, handed, new_block, received_block, sent_block}
+use Rattle.machine.specs.Blocks.{exchanged_block, with_new_owner, new_block, received_block, sent_block}
 use Rattle.machine.specs.Heaps.{AreOwned, QueuesBring, FieldsHold, brings, occurs, of_process, one_if}
-use Rattle.machine.specs.World.{Block, MessageHeld, block_at, changed, is_inside, is_queue, owns}
+use Rattle.machine.specs.World.{Block, MessageHeld, block_at, change_each, is_inside, is_queue, owns}
 use Rattle.machine.specs.declared.worlds.Block as made_block
 use Rattle.machine.specs.declared.worlds.Held as made_held
 use Rattle.machine.specs.declared.worlds.Owner.{Owner}
@@ -24,8 +24,8 @@ use Rattle.machine.proofs.WayKept.{with_parts}
 
 -- fields stay, and what is inside which block
 held_by : (f : ℕ → Block → Block) (bs : List Block) → ((j : ℕ) (b : Block) → (f j b).fields ≡ b.fields)
-    → ((j a : ℕ) → is_inside (f j (block_at bs j)).owner a ≡ is_inside (block_at bs j).owner a) → FieldsHold bs → FieldsHold (changed f bs)
-held_by f bs fields inside h = held_same bs (changed f bs) (λ a. ⊎_elim
+    → ((j a : ℕ) → is_inside (f j (block_at bs j)).owner a ≡ is_inside (block_at bs j).owner a) → FieldsHold bs → FieldsHold (change_each f bs)
+held_by f bs fields inside h = held_same bs (change_each f bs) (λ a. ⊎_elim
     (λ l. ap (λ (b : Block). b.fields) (at_changed f bs a l) ∙ fields a (block_at bs a))
     (λ p. ap (λ (b : Block). b.fields) (at_past f bs a p) ∙ sym (ap (λ (b : Block). b.fields) (past bs a p))) (cases_lt a (length bs)))
     (λ j a. ⊎_elim (λ l. ap (λ (b : Block). is_inside b.owner a) (at_changed f bs j l) ∙ inside j a)
@@ -34,7 +34,7 @@ held_by f bs fields inside h = held_same bs (changed f bs) (λ a. ⊎_elim
 
 -- owners and fields stay
 pub held_kept : (f : ℕ → Block → Block) (bs : List Block) → ((j : ℕ) (b : Block) → (f j b).owner ≡ b.owner)
-    → ((j : ℕ) (b : Block) → (f j b).fields ≡ b.fields) → FieldsHold bs → FieldsHold (changed f bs)
+    → ((j : ℕ) (b : Block) → (f j b).fields ≡ b.fields) → FieldsHold bs → FieldsHold (change_each f bs)
 held_kept f bs owners fields h = held_by f bs fields (λ j a. ap (λ (o : Owner). is_inside o a) (owners j (block_at bs j))) h
 
 to_same : (t : Bool) (to o : Owner) (a : ℕ) → is_inside to a ≡ false → (t ≡ true → is_inside o a ≡ false)
@@ -44,20 +44,20 @@ to_same false to o a out was = refl
 
 -- blocks of processes go to an owner that is no block
 pub held_handed : (to : Owner) (bs : List Block) (given : List ℕ) → ((a : ℕ) → is_inside to a ≡ false) → AreOwned bs given → FieldsHold bs
-    → FieldsHold (changed (handed to given) bs)
-held_handed to bs given out owned h = held_by (handed to given) bs (λ j b. refl)
+    → FieldsHold (change_each (with_new_owner to given) bs)
+held_handed to bs given out owned h = held_by (with_new_owner to given) bs (λ j b. refl)
     (λ j a. to_same (is_among given j) to (block_at bs j).owner a (out a) (λ t. not_inside (block_at bs j).owner a (owned.own j t))) h
 
 -- a message is sent
 pub held_sent : (bs : List Block) (at state to : ℕ) (m : MessageHeld) → AreOwned bs m.payload → FieldsHold bs
-    → FieldsHold (changed (sent_block at state to false m) bs)
+    → FieldsHold (change_each (sent_block at state to false m) bs)
 held_sent bs at state to m owned h = held_by (sent_block at state to false m) bs (λ j b. refl)
     (λ j a. to_same (is_among m.payload j) (Queue to) (block_at bs j).owner a refl
     (λ t. not_inside (block_at bs j).owner a (owned.own j t))) h
 
 -- a message is received
 pub held_received : (bs : List Block) (self at state : ℕ) (m : MessageHeld) (ms : List MessageHeld) → (block_at bs at).queue ≡ m ∷ ms
-    → QueuesBring bs → FieldsHold bs → FieldsHold (changed (received_block self at state m ms) bs)
+    → QueuesBring bs → FieldsHold bs → FieldsHold (change_each (received_block self at state m ms) bs)
 held_received bs self at state m ms here is h = held_by (received_block self at state m ms) bs (λ j b. refl)
     (λ j a. to_same (is_among m.payload j) (Process self) (block_at bs j).owner a refl (λ t.
     let some : 0 < occurs m.payload j = some_occurs m.payload j t in
@@ -90,7 +90,7 @@ brought_same bs bs' queues owners is = record {
 
 -- ---- a variable and a field change places
 exchanged_one : (self at field given held j : ℕ) (b : Block)
-    → handed (Inside at) (given ∷ []) j (handed (Process self) (held ∷ []) j (with_field at field given j b))
+    → with_new_owner (Inside at) (given ∷ []) j (with_new_owner (Process self) (held ∷ []) j (with_field at field given j b))
     ≡ exchanged_block self at field given held j b
 exchanged_one self at field given held j b =
     ap (λ (t : Bool). with_parts b (if t then Inside at else (if (held == j) || false then Process self else b.owner)) b.queue
@@ -100,23 +100,23 @@ exchanged_one self at field given held j b =
 
 -- a field is written, what it held goes to the process, and what is given goes into the block
 pub exchanged_is : (self at field given held : ℕ) (bs : List Block)
-    → changed (handed (Inside at) (given ∷ [])) (changed (handed (Process self) (held ∷ [])) (changed (with_field at field given) bs))
-    ≡ changed (exchanged_block self at field given held) bs
+    → change_each (with_new_owner (Inside at) (given ∷ [])) (change_each (with_new_owner (Process self) (held ∷ [])) (change_each (with_field at field given) bs))
+    ≡ change_each (exchanged_block self at field given held) bs
 exchanged_is self at field given held bs =
-    ap (changed (handed (Inside at) (given ∷ []))) (changed_twice (with_field at field given) (handed (Process self) (held ∷ [])) bs)
-    ∙ (changed_twice (λ j b. handed (Process self) (held ∷ []) j (with_field at field given j b)) (handed (Inside at) (given ∷ [])) bs
-    ∙ changed_same (λ j b. handed (Inside at) (given ∷ []) j (handed (Process self) (held ∷ []) j (with_field at field given j b)))
+    ap (change_each (with_new_owner (Inside at) (given ∷ []))) (changed_twice (with_field at field given) (with_new_owner (Process self) (held ∷ [])) bs)
+    ∙ (changed_twice (λ j b. with_new_owner (Process self) (held ∷ []) j (with_field at field given j b)) (with_new_owner (Inside at) (given ∷ [])) bs
+    ∙ changed_same (λ j b. with_new_owner (Inside at) (given ∷ []) j (with_new_owner (Process self) (held ∷ []) j (with_field at field given j b)))
     (exchanged_block self at field given held) (exchanged_one self at field given held) bs)
 
 module _ (bs : List Block) (self at field given held : ℕ) (h : FieldsHold bs) (owned_at : owns bs self at ≡ true)
     (owned_given : owns bs self given ≡ true) (apart : given ≢ at) (found : slice_get (block_at bs at).fields field ≡ Some held) where
-  pub exchange_brought : QueuesBring bs → QueuesBring (changed (exchanged_block self at field given held) bs)
+  pub exchange_brought : QueuesBring bs → QueuesBring (change_each (exchanged_block self at field given held) bs)
   exchange_brought is = brought_same bs (exchange.changes bs self at field given held h owned_at owned_given apart found)
       (λ a. ap (λ (b : Block). b.queue) (exchange.exchanged_at bs self at field given held h owned_at owned_given apart found a))
       (λ j a. by j a (cases_eq j given) (cases_eq j held)) is
     where
       by : (j a : ℕ) → (j ≡ given) ⊎ (j ≡ given → ⊥) → (j ≡ held) ⊎ (j ≡ held → ⊥)
-          → is_queue (block_at (changed (exchanged_block self at field given held) bs) j).owner a ≡ is_queue (block_at bs j).owner a
+          → is_queue (block_at (change_each (exchanged_block self at field given held) bs) j).owner a ≡ is_queue (block_at bs j).owner a
       by j a (inl g) s = ap (λ (o : Owner). is_queue o a)
           (exchange.owner_given bs self at field given held h owned_at owned_given apart found j g)
           ∙ sym (process_no_queue (block_at bs j).owner self a (ap (λ (n : ℕ). owns bs self n) g ∙ owned_given))
@@ -127,11 +127,11 @@ module _ (bs : List Block) (self at field given held : ℕ) (h : FieldsHold bs) 
       by j a (inr g) (inr s) = ap (λ (o : Owner). is_queue o a)
           (exchange.owner_other bs self at field given held h owned_at owned_given apart found j g s)
 
-  pub exchange_holds : FieldsHold (changed (exchanged_block self at field given held) bs)
+  pub exchange_holds : FieldsHold (change_each (exchanged_block self at field given held) bs)
   exchange_holds = exchange.exchange_held bs self at field given held h owned_at owned_given apart found
 
 -- ---- a process has a new block, into which goes what it gives
-changed_append : (f : ℕ → Block → Block) (bs : List Block) (b : Block) → changed f (bs ++ b ∷ []) ≡ changed f bs ++ f (length bs) b ∷ []
+changed_append : (f : ℕ → Block → Block) (bs : List Block) (b : Block) → change_each f (bs ++ b ∷ []) ≡ change_each f bs ++ f (length bs) b ∷ []
 changed_append f [] b = refl
 changed_append f (x ∷ bs) b = ap (λ (xs : List Block). f 0 x ∷ xs) (changed_append (λ a. f (suc a)) bs b)
 
@@ -152,10 +152,10 @@ module _ (bs : List Block) (self : ℕ) (given : List ℕ) (ty : HeapType) (h : 
     (mine : (x : ℕ) → is_among given x ≡ true → owns bs self x ≡ true)
     (once : (x : ℕ) → occurs given x ≡ one_if (is_among given x)) where
   -- The block stands behind the others, and then what is given goes into it.
-  pub made_is : changed (handed (Inside (length bs)) given) (bs ++ new_block ty self 0 0 given ∷ [])
-      ≡ changed (handed (Inside (length bs)) given) bs ++ new_block ty self 0 0 given ∷ []
-  made_is = changed_append (handed (Inside (length bs)) given) bs (new_block ty self 0 0 given)
-      ∙ ap (λ (t : Bool). changed (handed (Inside (length bs)) given) bs
+  pub made_is : change_each (with_new_owner (Inside (length bs)) given) (bs ++ new_block ty self 0 0 given ∷ [])
+      ≡ change_each (with_new_owner (Inside (length bs)) given) bs ++ new_block ty self 0 0 given ∷ []
+  made_is = changed_append (with_new_owner (Inside (length bs)) given) bs (new_block ty self 0 0 given)
+      ∙ ap (λ (t : Bool). change_each (with_new_owner (Inside (length bs)) given) bs
       ++ with_parts (new_block ty self 0 0 given) (if t then Inside (length bs) else Process self) [] given ∷ []) none
     where
       none : is_among given (length bs) ≡ false
@@ -165,14 +165,14 @@ module _ (bs : List Block) (self : ℕ) (given : List ℕ) (ty : HeapType) (h : 
   -- the same of the blocks as they were on the way
   pub grown_is : (n : ℕ) (before pushed now : List Block) → n ≡ length bs → before ≡ bs
       → pushed ≡ before ++ new_block ty self 0 0 given ∷ []
-      → now ≡ changed (handed (Inside n) given) pushed
-      → now ≡ changed (handed (Inside (length bs)) given) bs ++ new_block ty self 0 0 given ∷ []
+      → now ≡ change_each (with_new_owner (Inside n) given) pushed
+      → now ≡ change_each (with_new_owner (Inside (length bs)) given) bs ++ new_block ty self 0 0 given ∷ []
   grown_is n before pushed now long same put hands =
-      hands ∙ (ap (λ (k : ℕ). changed (handed (Inside k) given) pushed) long
-      ∙ (ap (changed (handed (Inside (length bs)) given)) (put ∙ ap (λ (xs : List Block). xs ++ new_block ty self 0 0 given ∷ []) same)
+      hands ∙ (ap (λ (k : ℕ). change_each (with_new_owner (Inside k) given) pushed) long
+      ∙ (ap (change_each (with_new_owner (Inside (length bs)) given)) (put ∙ ap (λ (xs : List Block). xs ++ new_block ty self 0 0 given ∷ []) same)
       ∙ made_is))
 
-  pub new_brought : QueuesBring bs → QueuesBring (changed (handed (Inside (length bs)) given) bs ++ new_block ty self 0 0 given ∷ [])
+  pub new_brought : QueuesBring bs → QueuesBring (change_each (with_new_owner (Inside (length bs)) given) bs ++ new_block ty self 0 0 given ∷ [])
   new_brought is = brought_same bs (new.grown bs self given ty h mine once)
       (λ a. queue a (new.where_is bs self given ty h mine once a))
       (λ j a. by j a (new.where_is bs self given ty h mine once j)) is
@@ -201,5 +201,5 @@ module _ (bs : List Block) (self : ℕ) (given : List ℕ) (ty : HeapType) (h : 
       by j a (inr (inr more)) = ap (λ (b : Block). is_queue b.owner a) (new.grown_past bs self given ty h mine once j more)
           ∙ sym (ap (λ (b : Block). is_queue b.owner a) (past bs j (omega arith)))
 
-  pub new_holds : FieldsHold (changed (handed (Inside (length bs)) given) bs ++ new_block ty self 0 0 given ∷ [])
+  pub new_holds : FieldsHold (change_each (with_new_owner (Inside (length bs)) given) bs ++ new_block ty self 0 0 given ∷ [])
   new_holds = new.new_held bs self given ty h mine once

@@ -6,9 +6,9 @@ use Rattle.std.proofs.lemmas.List.{length_push}
 use Rattle.std.specs.Prelude.{◌⊎◌, if◌then◌else◌}
 use Rattle.program.specs.Lists.{is_among}
 use Rattle.program.specs.declared.types.HeapType.{HeapType}
-use Rattle.machine.specs.Blocks.{handed, new_block}
+use Rattle.machine.specs.Blocks.{with_new_owner, new_block}
 use Rattle.machine.specs.Heaps.{FieldsHold, occurs, one_if}
-use Rattle.machine.specs.World.{Block, block_at, changed, is_inside, no_block, no_type, owns}
+use Rattle.machine.specs.World.{Block, block_at, change_each, is_inside, no_block, no_type, owns}
 use Rattle.machine.specs.declared.worlds.Owner.{Owner}
 use Rattle.machine.specs.declared.worlds.Owner.TheVariants.{Inside, Channel}
 use Rattle.machine.proofs.ChangeLemmas.{changed_length, eqb_apart, eqb_same}
@@ -33,7 +33,7 @@ module _ (bs : List Block) (self : ℕ) (given : List ℕ) (ty : HeapType) (h : 
   new_at = length bs
 
   abbrev pub put_in : List Block
-  put_in = changed (handed (Inside new_at) given) bs
+  put_in = change_each (with_new_owner (Inside new_at) given) bs
 
   abbrev pub made : Block
   made = new_block ty self 0 0 given
@@ -42,10 +42,10 @@ module _ (bs : List Block) (self : ℕ) (given : List ℕ) (ty : HeapType) (h : 
   grown = put_in ++ made ∷ []
 
   pub put_long : length put_in ≡ length bs
-  put_long = changed_length (handed (Inside new_at) given) bs
+  put_long = changed_length (with_new_owner (Inside new_at) given) bs
 
-  pub put_at : (j : ℕ) → block_at put_in j ≡ handed (Inside new_at) given j (block_at bs j)
-  put_at j = changed_all (handed (Inside new_at) given) bs j (λ past.
+  pub put_at : (j : ℕ) → block_at put_in j ≡ with_new_owner (Inside new_at) given j (block_at bs j)
+  put_at j = changed_all (with_new_owner (Inside new_at) given) bs j (λ past.
       ap (λ (b : Bool). record {
         ty = no_type;
         owner = if b then Inside new_at else Channel;
@@ -57,7 +57,7 @@ module _ (bs : List Block) (self : ℕ) (given : List ℕ) (ty : HeapType) (h : 
       (⊎_elim (λ t. absurd (let k = owned_there bs self j (mine j t) in omega arith)) (λ e. e) (cases_Bool (is_among given j))))
 
   -- an address that was there before
-  pub grown_old : (j : ℕ) → j < length bs → block_at grown j ≡ handed (Inside new_at) given j (block_at bs j)
+  pub grown_old : (j : ℕ) → j < length bs → block_at grown j ≡ with_new_owner (Inside new_at) given j (block_at bs j)
   grown_old j less = added_old put_in made j (let e = put_long in omega arith) ∙ put_at j
 
   pub grown_new : block_at grown new_at ≡ made

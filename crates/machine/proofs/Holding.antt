@@ -5,7 +5,7 @@ use Rattle.std.proofs.lemmas.Bool.{cases_Bool}
 use Rattle.std.specs.Prelude.{◌⊎◌, if◌then◌else◌}
 use Rattle.machine.specs.Blocks.{freed_block, goes_with, in_queue_of}
 use Rattle.machine.specs.Heaps.{FieldsHold, Rooted, below, occurs, of_process, one_if, top}
-use Rattle.machine.specs.World.{Block, block_at, changed, is_inside, is_process, is_queue, no_type, owns}
+use Rattle.machine.specs.World.{Block, block_at, change_each, is_inside, is_process, is_queue, no_type, owns}
 use Rattle.machine.specs.declared.worlds.Owner.{Owner}
 use Rattle.machine.specs.declared.worlds.Owner.TheVariants.{Process, Queue, Inside, Channel, Freed}
 use Rattle.machine.proofs.ChangeLemmas.{eqb_apart, true≢false}
@@ -101,7 +101,7 @@ module _ (bs : List Block) (a : ℕ) (h : FieldsHold bs) (own : of_process (bloc
   goes = goes_with bs a
 
   abbrev left : List Block
-  left = changed (freed_block goes) bs
+  left = change_each (freed_block goes) bs
 
   -- what goes is the block itself, or is directly inside what goes
   up : (x : ℕ) → goes x ≡ true → (x ≡ a) ⊎ ((b : ℕ) × ((block_at bs x).owner ≡ Inside b) × (goes b ≡ true))

@@ -5,11 +5,11 @@ use Rattle.program.specs.declared.call.Argument.{Argument}
 use Rattle.program.specs.declared.types.HeapType.{HeapType}
 use Rattle.program.specs.declared.statement.Mention.{Mention}
 use Rattle.machine.specs.Answers.{IsFirstFault, Pass, on_top, with_variables}
-use Rattle.machine.specs.Blocks.{argument_tests_in, handed, new_block}
+use Rattle.machine.specs.Blocks.{argument_tests_in, with_new_owner, new_block}
 use Rattle.machine.specs.Frames.{addresses, payloads_claimed}
 use Rattle.machine.specs.Heaps.{AreOnce, AreOwnedBy}
-use Rattle.machine.specs.Outcomes.{Faulty, Outcome, tested}
-use Rattle.machine.specs.World.{Block, Frame, changed, let_go}
+use Rattle.machine.specs.Outcomes.{Faulty, Outcome, after_tests}
+use Rattle.machine.specs.World.{Block, Frame, change_each, let_go}
 use Rattle.machine.specs.declared.halts.Fault.{Fault}
 use Rattle.machine.specs.declared.worlds.Owner.TheVariants.{Inside}
 use Rattle.machine.proofs.CallLemmas.{pass_alone, refused_alone}
@@ -18,16 +18,16 @@ use Rattle.machine.proofs.PassLemmas.{pass_once, pass_owned_by}
 -- The blocks b are those that were tested.
 module _ (bs b : List Block) (self : ℕ) (variables : List (Option ℕ)) (same : bs ≡ b) where
   pub tests_pass : (arguments : List Argument) (o : Outcome) → Pass (argument_tests_in b self variables [] arguments)
-      → tested (argument_tests_in bs self variables [] arguments) o ≡ o
-  tests_pass arguments o pass = ap (λ (l : List Block). tested (argument_tests_in l self variables [] arguments) o) same
+      → after_tests (argument_tests_in bs self variables [] arguments) o ≡ o
+  tests_pass arguments o pass = ap (λ (l : List Block). after_tests (argument_tests_in l self variables [] arguments) o) same
       ∙ pass_alone (argument_tests_in b self variables [] arguments) o pass
 
   pub tests_fail : (arguments : List Argument) (fault : Fault) (o : Outcome)
       → IsFirstFault (Some fault) (argument_tests_in b self variables [] arguments)
-      → tested (argument_tests_in bs self variables [] arguments) o ≡ Faulty fault
-  tests_fail arguments fault o fails = ap (λ (l : List Block). tested (argument_tests_in l self variables [] arguments) o) same
+      → after_tests (argument_tests_in bs self variables [] arguments) o ≡ Faulty fault
+  tests_fail arguments fault o fails = ap (λ (l : List Block). after_tests (argument_tests_in l self variables [] arguments) o) same
       ∙ refused_alone (argument_tests_in b self variables [] arguments) fault o
-      (tested (argument_tests_in b self variables [] arguments) o) fails refl
+      (after_tests (argument_tests_in b self variables [] arguments) o) fails refl
 
   -- what is given is the process's, and nothing is given twice
   pub given_owned : (payloads : List Mention) (given : List ℕ) → given ≡ addresses variables (payloads_claimed payloads)
@@ -41,7 +41,7 @@ module _ (bs b : List Block) (self : ℕ) (variables : List (Option ℕ)) (same 
 
 -- the blocks, when a process has made one of what it gives
 abbrev pub blocks_with : (ty : HeapType) (self : ℕ) (given : List ℕ) → List Block → List Block
-blocks_with ty self given bs = changed (handed (Inside (length bs)) given) bs ++ new_block ty self 0 0 given ∷ []
+blocks_with ty self given bs = change_each (with_new_owner (Inside (length bs)) given) bs ++ new_block ty self 0 0 given ∷ []
 
 -- a frame at this point, with these variables
 abbrev pub frame_at : Frame → ℕ → List (Option ℕ) → Frame

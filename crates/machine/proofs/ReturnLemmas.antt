@@ -4,7 +4,7 @@ use Rattle.std.specs.Prelude.{IsSome, OnErr, Option, Result, get_or}
 use Rattle.std.proofs.lemmas.List.{get_or-set_same, length-set, reverse-append, take-set, take_all, take_more}
 use Rattle.program.specs.Programs.{ProgramModel}
 use Rattle.program.specs.declared.statement.Mention.{Mention}
-use Rattle.machine.specs.Answers.{ended, given_back, with_stack, with_variables}
+use Rattle.machine.specs.Answers.{outcome_of_end, given_back, with_stack, with_variables}
 use Rattle.machine.specs.Frames.{call_next, call_target, instruction_at}
 use Rattle.machine.specs.Machine.{returns}
 use Rattle.machine.specs.Outcomes.{QueueBounds, Moved}
@@ -21,7 +21,7 @@ came_back p value stack g = record {
 }
 
 returns_is : (p : ProgramModel) (bound : QueueBounds) (w : World) (self : ℕ) (value : Option Mention) (f g : Frame) (rest more : List Frame) → rest ≡ g ∷ more
-    → ended p bound w self value (f ∷ rest) ≡ Moved (with_stack w self (came_back p value (f ∷ []) g ∷ more) w.blocks)
+    → outcome_of_end p bound w self value (f ∷ rest) ≡ Moved (with_stack w self (came_back p value (f ∷ []) g ∷ more) w.blocks)
 returns_is p bound w self None f g rest more is = ap (λ (l : List Frame). returns p bound w self f rest None l) is
 returns_is p bound w self (Some v) f g rest more is = ap (λ (l : List Frame). returns p bound w self f rest (Some v) l) is
 
@@ -38,7 +38,7 @@ last_first ws n c many last =
 
 pub ended_is : (p : ProgramModel) (bound : QueueBounds) (w : World) (self : ℕ) (value : Option Mention) (top : Option made.Frame.Frame) (ws : List made.Frame.Frame) (n : ℕ) (c : made.Frame.Frame)
     → IsSome top → n + 1 ≡ length ws → c ≡ get_or ws n c
-    → ended p bound w self value (stack_of top ws) ≡ Moved (with_stack w self (came_back p value (stack_of top []) (frame_model c) ∷ map frame_model (reverse (take n ws))) w.blocks)
+    → outcome_of_end p bound w self value (stack_of top ws) ≡ Moved (with_stack w self (came_back p value (stack_of top []) (frame_model c) ∷ map frame_model (reverse (take n ws))) w.blocks)
 ended_is p bound w self value None ws n c some many last = absurd (cc)
 ended_is p bound w self value (Some f) ws n c some many last =
     returns_is p bound w self value (frame_model f) (frame_model c) (map frame_model (reverse ws)) (map frame_model (reverse (take n ws))) (last_first ws n c many last)
@@ -85,7 +85,7 @@ pub goes_back : (p : ProgramModel) (bound : QueueBounds) (w : World) (self : ℕ
     → target ≡ call_target (instruction_at p (frame_model c)) → next ≡ call_next (instruction_at p (frame_model c))
     → frame_model d ≡ record { method = (frame_model h).method; point = next; variables = (frame_model h).variables }
     → left ≡ take n (set ws n d) → now ≡ Some d → w.blocks ≡ bs
-    → ended p bound w self value (stack_of top ws) ≡ Moved (with_stack w self (stack_of now left) bs)
+    → outcome_of_end p bound w self value (stack_of top ws) ≡ Moved (with_stack w self (stack_of now left) bs)
 goes_back p bound w self value target top now ws left n next c h d bs some many last takes to on is rest come blocks =
     let more = map frame_model (reverse (take n ws)) in
     ended_is p bound w self value top ws n c some many last

@@ -7,16 +7,16 @@ use Rattle.program.specs.Methods.{VariableModel}
 use Rattle.program.specs.declared.number.VarId.{VarId}
 use Rattle.program.specs.Scopes.{outer_of}
 use Rattle.rules.specs.Scopes.{between, is_this}
-use Rattle.machine.specs.Frames.{forgotten}
+use Rattle.machine.specs.Frames.{out_of_scope}
 
 none_set : (xs : List (Option ℕ)) (a b : ℕ) → set (set xs a None) b None ≡ set (set xs b None) a None
 none_set xs a b = ⊎_elim (λ h. let e : a ≡ b = h.1 in rw e refl) (λ h. set_comm xs a b None None h.1) (eqb_tells a b)
 
-forgotten_set : (xs : List (Option ℕ)) (gone : List ℕ) (v : ℕ) → forgotten (set xs v None) gone ≡ set (forgotten xs gone) v None
+forgotten_set : (xs : List (Option ℕ)) (gone : List ℕ) (v : ℕ) → out_of_scope (set xs v None) gone ≡ set (out_of_scope xs gone) v None
 forgotten_set xs [] v = refl
-forgotten_set xs (a ∷ gone) v = ap (λ ys. forgotten ys gone) (none_set xs v a) ∙ forgotten_set (set xs a None) gone v
+forgotten_set xs (a ∷ gone) v = ap (λ ys. out_of_scope ys gone) (none_set xs v a) ∙ forgotten_set (set xs a None) gone v
 
-forgotten_last : (xs : List (Option ℕ)) (gone : List ℕ) (v : ℕ) → forgotten xs (gone ++ v ∷ []) ≡ set (forgotten xs gone) v None
+forgotten_last : (xs : List (Option ℕ)) (gone : List ℕ) (v : ℕ) → out_of_scope xs (gone ++ v ∷ []) ≡ set (out_of_scope xs gone) v None
 forgotten_last xs [] v = refl
 forgotten_last xs (a ∷ gone) v = forgotten_last (set xs a None) gone v
 
@@ -31,9 +31,9 @@ walk_stops vs (suc n) outer v h = ap (λ t. if t then [] else between vs n outer
 pub walk_done : (vs : List VariableModel) (n : ℕ) (outer at : Option VarId) → n ≡ 0 → between vs n outer at ≡ []
 walk_done vs n outer at e = ap (λ m. between vs m outer at) e
 
-pub walk_more : (xs : List (Option ℕ)) (vs : List VariableModel) (n m : ℕ) (outer : Option VarId) (v : VarId) → is_this v outer ≡ false → n ≡ suc m → forgotten (set xs v.0 None) (between vs m outer (outer_of vs v)) ≡ forgotten xs (between vs n outer (Some v))
+pub walk_more : (xs : List (Option ℕ)) (vs : List VariableModel) (n m : ℕ) (outer : Option VarId) (v : VarId) → is_this v outer ≡ false → n ≡ suc m → out_of_scope (set xs v.0 None) (between vs m outer (outer_of vs v)) ≡ out_of_scope xs (between vs n outer (Some v))
 walk_more xs vs n m outer v h e =
     let inner : List ℕ = between vs m outer (outer_of vs v) in
     forgotten_set xs inner v.0
     ∙ (sym (forgotten_last xs inner v.0)
-    ∙ sym (ap (λ k. forgotten xs (between vs k outer (Some v))) e ∙ ap (λ t. forgotten xs (if t then [] else inner ++ v.0 ∷ [])) h))
+    ∙ sym (ap (λ k. out_of_scope xs (between vs k outer (Some v))) e ∙ ap (λ t. out_of_scope xs (if t then [] else inner ++ v.0 ∷ [])) h))

@@ -6,7 +6,7 @@ use Rattle.program.specs.declared.statement.Mention.{Mention}
 use Rattle.machine.specs.Answers.{Pass}
 use Rattle.machine.specs.Blocks.{argument_tests_in, sent_state, send_tests_in}
 use Rattle.machine.specs.Frames.{address, payloads_claimed}
-use Rattle.machine.specs.Outcomes.{QueueBounds, Moved, test, tested}
+use Rattle.machine.specs.Outcomes.{QueueBounds, Moved, test, after_tests}
 use Rattle.machine.specs.World.{Block, World, is_own_in, read}
 use Rattle.machine.specs.declared.halts.Fault.TheVariants.{F1}
 use Rattle.machine.proofs.CallLemmas.{pass_alone}
@@ -17,7 +17,7 @@ pub send_moves : (p : ProgramModel) (bound : QueueBounds) (bs b c d : List Block
     → bs ≡ b → bs ≡ c → bs ≡ d → sent ≡ payloads
     → x ≡ read variables e → x ≡ Some at → is_own_in b self x ≡ true
     → Pass (argument_tests_in c self variables [] (payloads_claimed sent)) → Pass (send_tests_in bound d at (sent_state p d at m))
-    → tested (test (is_own_in bs self (read variables e)) F1
+    → after_tests (test (is_own_in bs self (read variables e)) F1
     ∷ (argument_tests_in bs self variables [] (payloads_claimed payloads) ++ send_tests_in bound bs (address (read variables e)) (sent_state p bs (address (read variables e)) m))) (Moved v) ≡ Moved v
 send_moves p bound bs b c d self variables e x at m payloads sent v first second third same has some own pass_given pass_sent =
     let arguments = argument_tests_in bs self variables [] (payloads_claimed payloads) in

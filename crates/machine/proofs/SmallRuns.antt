@@ -14,7 +14,7 @@ use Rattle.program.specs.declared.types.Side.TheVariants.{Imp, Exp}
 use Rattle.program.specs.declared.method.Role.TheVariants.{Local}
 use Rattle.program.specs.declared.statement.Action.TheVariants as does
 use Rattle.program.specs.declared.statement.Mention.{Mention}
-use Rattle.machine.specs.Frames.{entered}
+use Rattle.machine.specs.Frames.{frame_at_entry}
 use Rattle.machine.specs.Machine.{event_outcome}
 use Rattle.machine.specs.Outcomes.{QueueBounds, Outcome, Moved, Faulty}
 use Rattle.machine.specs.Runs.{start_of}
@@ -178,7 +178,7 @@ nested =
 
 abbrev deleted : List Block
 deleted = blocks_of (next deletes (Moved record {
-  processes = (record { method = 0; point = (entered deletes 0 []).point; variables = None ∷ Some 4 ∷ Some 0 ∷ [] } ∷ []) ∷ [];
+  processes = (record { method = 0; point = (frame_at_entry deletes 0 []).point; variables = None ∷ Some 4 ∷ Some 0 ∷ [] } ∷ []) ∷ [];
   blocks = nested;
 }))
 
@@ -199,7 +199,7 @@ peer_cut_off = refl
 
 -- both ends of a channel are inside the deleted struct
 pub two_ends_deleted : blocks_of (next deletes (Moved record {
-  processes = (record { method = 0; point = (entered deletes 0 []).point; variables = None ∷ None ∷ Some 0 ∷ [] } ∷ []) ∷ [];
+  processes = (record { method = 0; point = (frame_at_entry deletes 0 []).point; variables = None ∷ None ∷ Some 0 ∷ [] } ∷ []) ∷ [];
   blocks =
       struct_of (Process 0) (2 ∷ 1 ∷ [])
       ∷ end_of Imp (Inside 0) 2 (record { message = 0; payload = 3 ∷ [] } ∷ [])

@@ -11,7 +11,7 @@ use Rattle.flow.specs.declared.graph.Graph.{Graph}
 use Rattle.flow.specs.declared.graph.Instr.{Instr}
 use Rattle.flow.specs.Graphs.{GraphModel, graph_model, instruction_model}
 use Rattle.flow.specs.Lowering.{graph_of}
-use Rattle.machine.specs.Answers.{ended, given_back, with_stack}
+use Rattle.machine.specs.Answers.{outcome_of_end, given_back, with_stack}
 use Rattle.machine.specs.Frames.{call_next, call_target, instruction_at, method_at, point_instruction}
 use Rattle.machine.specs.Outcomes.{QueueBounds, Moved}
 use Rattle.machine.specs.Views.{frame_model, stack_of}
@@ -33,14 +33,14 @@ nowhere p n point past = sym (ap (λ o. point_instruction o point) (slice_get_pa
 pub ended_goes : (p : ProgramModel) (bound : QueueBounds) (w : World) (self : ℕ) (value : Option Mention) (top : Option made.Frame.Frame) (waiting xs : List made.Frame.Frame) (g : made.Frame.Frame) (next : ℕ) (variables : List (Option ℕ))
     → IsSome top → waiting ≡ xs ++ g ∷ [] → next ≡ call_next (instruction_at p (frame_model g))
     → variables ≡ given_back value (call_target (instruction_at p (frame_model g))) (stack_of top xs) (frame_model g).variables
-    → ended p bound w self value (stack_of top waiting)
+    → outcome_of_end p bound w self value (stack_of top waiting)
     ≡ Moved (with_stack w self (record { method = g.method.0; point = next; variables = variables } ∷ map frame_model (reverse xs)) w.blocks)
 ended_goes p bound w self value None waiting xs g next variables there is n v = absurd (cc)
 ended_goes p bound w self None (Some f) waiting xs g next variables there is n v =
-    ap (λ ys. ended p bound w self None (frame_model f ∷ map frame_model ys)) (ap reverse is ∙ reverse-append xs (g ∷ []))
+    ap (λ ys. outcome_of_end p bound w self None (frame_model f ∷ map frame_model ys)) (ap reverse is ∙ reverse-append xs (g ∷ []))
     ∙ (ap (λ m. Moved (with_stack w self (record { method = g.method.0; point = m; variables = (frame_model g).variables } ∷ map frame_model (reverse xs)) w.blocks)) (sym n)
     ∙ ap (λ vs. Moved (with_stack w self (record { method = g.method.0; point = next; variables = vs } ∷ map frame_model (reverse xs)) w.blocks)) (sym v))
 ended_goes p bound w self (Some v) (Some f) waiting xs g next variables there is n vs =
-    ap (λ ys. ended p bound w self (Some v) (frame_model f ∷ map frame_model ys)) (ap reverse is ∙ reverse-append xs (g ∷ []))
+    ap (λ ys. outcome_of_end p bound w self (Some v) (frame_model f ∷ map frame_model ys)) (ap reverse is ∙ reverse-append xs (g ∷ []))
     ∙ (ap (λ m. Moved (with_stack w self (record { method = g.method.0; point = m; variables = given_back (Some v) (call_target (instruction_at p (frame_model g))) (stack_of (Some f) xs) (frame_model g).variables } ∷ map frame_model (reverse xs)) w.blocks)) (sym n)
     ∙ ap (λ us. Moved (with_stack w self (record { method = g.method.0; point = next; variables = us } ∷ map frame_model (reverse xs)) w.blocks)) (sym vs))

@@ -7,8 +7,8 @@ use Rattle.flow.specs.Cases.{EntranceModel, first_mentions}
 use Rattle.flow.specs.Graphs.{Switch}
 use Rattle.machine.specs.Answers.{front_of}
 use Rattle.machine.specs.Frames.{address}
-use Rattle.machine.specs.Machine.{event_of, receives, receives_from}
-use Rattle.machine.specs.Outcomes.{QueueBounds, tested}
+use Rattle.machine.specs.Machine.{outcome_from, receives, receives_from}
+use Rattle.machine.specs.Outcomes.{QueueBounds, after_tests}
 use Rattle.machine.specs.World.{Block, Frame, MessageHeld, World, block_at, read}
 use Rattle.machine.proofs.FrameLemmas.{own_tests}
 
@@ -33,10 +33,10 @@ no_mention = record { variable = record { 0 = 0 }; place = record { line = 0; co
 
 -- a switch: its tests, and then what comes at the chosen endpoint
 pub switch_is : (p : ProgramModel) (bound : QueueBounds) (w : World) (self : ℕ) (f : Frame) (rest : List Frame) (place : Place) (cases : List EntranceModel) (choice : ℕ) (bs : List Block) (es : List Mention) → w.blocks ≡ bs → es ≡ first_mentions [] cases
-    → event_of p bound w self f rest (Switch place cases) choice ≡ tested (own_tests bs self f.variables es) (receives_from p bound w self f rest cases (slice_get es choice))
+    → outcome_from p bound w self f rest (Switch place cases) choice ≡ after_tests (own_tests bs self f.variables es) (receives_from p bound w self f rest cases (slice_get es choice))
 switch_is p bound w self f rest place cases choice bs es is named =
-    ap (λ b. tested (own_tests b self f.variables (first_mentions [] cases)) (receives_from p bound w self f rest cases (slice_get (first_mentions [] cases) choice))) is
-    ∙ ap (λ l. tested (own_tests bs self f.variables l) (receives_from p bound w self f rest cases (slice_get l choice))) (sym named)
+    ap (λ b. after_tests (own_tests b self f.variables (first_mentions [] cases)) (receives_from p bound w self f rest cases (slice_get (first_mentions [] cases) choice))) is
+    ∙ ap (λ l. after_tests (own_tests bs self f.variables l) (receives_from p bound w self f rest cases (slice_get l choice))) (sym named)
 
 pub switch_goes : (p : ProgramModel) (bound : QueueBounds) (w : World) (self : ℕ) (f : Frame) (rest : List Frame) (cases : List EntranceModel) (es : List Mention) (choice : ℕ) (e : Mention) (at : ℕ) (bs : List Block)
     → slice_get es choice ≡ Some e → at ≡ address (read f.variables e.variable.0) → w.blocks ≡ bs

@@ -6,7 +6,7 @@ use Rattle.std.specs.Prelude.{◌⊎◌, ◌||◌, ◌&&◌, if◌then◌else◌
 use Rattle.machine.specs.Blocks.{freed_block, goes_with, lies_in}
 use Rattle.machine.specs.Freeing.{fields_left}
 use Rattle.machine.specs.Heaps.{occurs, of_process, one_if}
-use Rattle.machine.specs.World.{Block, block_at, changed, is_inside, no_block}
+use Rattle.machine.specs.World.{Block, block_at, change_each, is_inside, no_block}
 use Rattle.machine.specs.declared.worlds.Owner.{Owner}
 use Rattle.machine.specs.declared.worlds.Owner.TheVariants.{Inside, Channel}
 use Rattle.machine.proofs.ChangeLemmas.{changed_length, changed_same, changed_twice, eqb_apart, eqb_same, true≢false}
@@ -18,7 +18,7 @@ use Rattle.machine.proofs.Holding.{rooted_less, unqueued}
 module _ (bs0 : List Block) (a : ℕ) (bs : List Block) (x : ℕ) (h : Frees bs0 a bs x)
     (rest : List ℕ) (inner : ℕ) (fields : (block_at bs x).fields ≡ rest ++ inner ∷ []) where
   abbrev below_x : List Block
-  below_x = changed (fields_left x rest) bs
+  below_x = change_each (fields_left x rest) bs
 
   left_at : (j : ℕ) → block_at below_x j ≡ fields_left x rest j (block_at bs j)
   left_at j = changed_all (fields_left x rest) bs j (λ past.
@@ -131,9 +131,9 @@ module _ (bs0 : List Block) (a : ℕ) (bs : List Block) (x : ℕ) (h : Frees bs0
           let p = ap (λ (t : Bool). one_if (is_inside (block_at bs j).owner b && (t || goes_with bs j x))) apart in
           omega arith
 
-  freed_same : changed (freed_block (goes_with below_x a)) below_x ≡ changed (freed_block (goes_with bs a)) bs
+  freed_same : change_each (freed_block (goes_with below_x a)) below_x ≡ change_each (freed_block (goes_with bs a)) bs
   freed_same =
-      ap (λ (goes : ℕ → Bool). changed (freed_block goes) below_x) (λ i j. goes_same a j i)
+      ap (λ (goes : ℕ → Bool). change_each (freed_block goes) below_x) (λ i j. goes_same a j i)
       ∙ (changed_twice (fields_left x rest) (freed_block (goes_with bs a)) bs
       ∙ changed_same (λ j b. freed_block (goes_with bs a) j (fields_left x rest j b)) (freed_block (goes_with bs a))
       (λ j b. by j b (goes_with bs a j) refl) bs)

@@ -5,7 +5,7 @@ use Rattle.std.proofs.lemmas.Bool.{cases_Bool, eqb-true}
 use Rattle.std.specs.Prelude.{◌||◌, ◌&&◌, if◌then◌else◌}
 use Rattle.machine.specs.Blocks.{freed_block, goes_with, in_block_of, in_queue_of, lies_in}
 use Rattle.machine.specs.Heaps.{FieldsHold, Rooted, below, occurs, of_process, one_if, top}
-use Rattle.machine.specs.World.{Block, MessageHeld, block_at, changed, freed, is_freed, is_inside, is_queue}
+use Rattle.machine.specs.World.{Block, MessageHeld, block_at, change_each, is_freed_at, is_freed, is_inside, is_queue}
 use Rattle.machine.specs.declared.worlds.Owner.{Owner}
 use Rattle.machine.specs.declared.worlds.Owner.TheVariants.{Process, Queue, Inside, Channel, Freed}
 use Rattle.machine.proofs.ChangeLemmas.{eqb_apart, true≢false}
@@ -73,7 +73,7 @@ pub record Frees (bs0 : List Block) (a : ℕ) (bs : List Block) (x : ℕ) : Type
   pub holds : (b j : ℕ) → occurs (block_at bs b).fields j + one_if (is_inside (block_at bs j).owner b && goes_with bs j x)
       ≡ one_if (is_inside (block_at bs j).owner b)
   pub rooted : (j : ℕ) → Rooted bs j
-  pub ends : changed (freed_block (goes_with bs a)) bs ≡ changed (freed_block (goes_with bs0 a)) bs0
+  pub ends : change_each (freed_block (goes_with bs a)) bs ≡ change_each (freed_block (goes_with bs0 a)) bs0
 
 pub and_false : (s t : Bool) → (s ≡ true → t ≡ false) → s && t ≡ false
 and_false true t h = h refl
@@ -111,8 +111,8 @@ module _ (bs0 : List Block) (a : ℕ) (bs : List Block) (x : ℕ) (h : Frees bs0
   pub x_there : x < length bs
   x_there = ⊎_elim (λ e. let k = own_there bs a h.owned in omega arith) (λ k. inside_there bs x k.0 k.1) (goes_up bs h.rooted a x h.goes)
 
-  pub x_lives : freed bs x ≡ false
-  x_lives = ⊎_elim (λ e. ap (λ (n : ℕ). freed bs n) e ∙ own_lives (block_at bs a).owner h.owned) (λ k. ap is_freed k.1)
+  pub x_lives : is_freed_at bs x ≡ false
+  x_lives = ⊎_elim (λ e. ap (λ (n : ℕ). is_freed_at bs n) e ∙ own_lives (block_at bs a).owner h.owned) (λ k. ap is_freed k.1)
       (goes_up bs h.rooted a x h.goes)
 
   pub x_no_queue : (c : ℕ) → is_queue (block_at bs x).owner c ≡ false

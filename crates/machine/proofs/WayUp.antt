@@ -6,7 +6,7 @@ use Rattle.std.specs.Prelude.{◌||◌, ◌&&◌, if◌then◌else◌}
 use Rattle.machine.specs.Blocks.{freed_block, goes_with, in_block_of, in_queue_of, lies_in}
 use Rattle.machine.specs.Freeing.{freed_one}
 use Rattle.machine.specs.Heaps.{Rooted, below, occurs, of_process, one_if, top}
-use Rattle.machine.specs.World.{Block, block_at, changed, is_inside, no_block}
+use Rattle.machine.specs.World.{Block, block_at, change_each, is_inside, no_block}
 use Rattle.machine.specs.declared.worlds.Owner.{Owner}
 use Rattle.machine.specs.declared.worlds.Owner.TheVariants.{Process, Queue, Inside, Channel, Freed}
 use Rattle.machine.proofs.ChangeLemmas.{changed_length, changed_same, changed_twice, eqb_apart, eqb_same, true≢false}
@@ -17,7 +17,7 @@ use Rattle.machine.proofs.Holding.{not_inside, rooted_less, unqueued, unqueued_s
 
 module _ (bs0 : List Block) (a : ℕ) (bs : List Block) (x : ℕ) (h : Frees bs0 a bs x) (empty : (block_at bs x).fields ≡ []) where
   abbrev without : List Block
-  without = changed (freed_one x) bs
+  without = change_each (freed_one x) bs
 
   without_at : (j : ℕ) → block_at without j ≡ freed_one x j (block_at bs j)
   without_at j = changed_all (freed_one x) bs j (λ past.
@@ -89,8 +89,8 @@ module _ (bs0 : List Block) (a : ℕ) (bs : List Block) (x : ℕ) (h : Frees bs0
 
   -- x is inside no block: it is the block itself, and all is done
   pub is_done : ((b : ℕ) → is_inside (block_at bs x).owner b ≡ false)
-      → (x ≡ a) × (without ≡ changed (freed_block (goes_with bs0 a)) bs0)
-  is_done out = (same, ap (λ (goes : ℕ → Bool). changed (freed_block goes) bs) (λ i j. alone j i) ∙ h.ends)
+      → (x ≡ a) × (without ≡ change_each (freed_block (goes_with bs0 a)) bs0)
+  is_done out = (same, ap (λ (goes : ℕ → Bool). change_each (freed_block goes) bs) (λ i j. alone j i) ∙ h.ends)
     where
       same : x ≡ a
       same = ⊎_elim (λ e. e) (λ k. absurd (true≢false (ap (λ (o : Owner). is_inside o k.0) k.1 ∙ is_inside_same k.0) (out k.0)))
@@ -174,7 +174,7 @@ module _ (bs0 : List Block) (a : ℕ) (bs : List Block) (x : ℕ) (h : Frees bs0
     x_goes_no_more : goes_with without a x ≡ false
     x_goes_no_more = goes_top without rooted_then a x (λ c. ap (λ (o : Owner). is_inside o c) (owner_x x refl)) ∙ eqb_apart x a x_not_a
 
-    freed_then : changed (freed_block (goes_with without a)) without ≡ changed (freed_block (goes_with bs a)) bs
+    freed_then : change_each (freed_block (goes_with without a)) without ≡ change_each (freed_block (goes_with bs a)) bs
     freed_then = changed_twice (freed_one x) (freed_block (goes_with without a)) bs
         ∙ changed_same (λ j y. freed_block (goes_with without a) j (freed_one x j y)) (freed_block (goes_with bs a))
         (λ j y. ⊎_elim (λ e. at_x j y e) (λ n. others j y n) (cases_eq j x)) bs

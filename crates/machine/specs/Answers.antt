@@ -7,8 +7,8 @@ use Rattle.flow.specs.Graphs.{Instruction, New, NewChannel, Delete, Exchange, Se
 use Rattle.program.specs.declared.call.Argument.{Argument}
 use Rattle.program.specs.declared.statement.Mention.{Mention}
 use Rattle.machine.specs.Frames.{address, put}
-use Rattle.machine.specs.Machine.{event_of, returns}
-use Rattle.machine.specs.Outcomes.{FaultTest, tested, QueueBounds, Outcome, Moved, Faulty, Waits, NoProcess}
+use Rattle.machine.specs.Machine.{outcome_from, returns}
+use Rattle.machine.specs.Outcomes.{FaultTest, after_tests, QueueBounds, Outcome, Moved, Faulty, Waits, NoProcess}
 use Rattle.machine.specs.World.{Block, Frame, MessageHeld, World, let_go, read}
 use Rattle.machine.specs.declared.halts.Fault.{Fault}
 use Rattle.machine.specs.declared.halts.Halt.{Halt}
@@ -40,12 +40,12 @@ with_variables f variables = record { method = f.method; point = f.point; variab
 -- what an instruction comes to on a stack
 abbrev pub on_stack : ProgramModel → QueueBounds → World → ℕ → Instruction → ℕ → List Frame → Outcome
 on_stack p bound w self i choice [] = NoProcess
-on_stack p bound w self i choice (f ∷ rest) = event_of p bound w self f rest i choice
+on_stack p bound w self i choice (f ∷ rest) = outcome_from p bound w self f rest i choice
 
 -- what the end of the innermost frame of a stack comes to, where it gives what a variable has
-abbrev pub ended : ProgramModel → QueueBounds → World → ℕ → Option Mention → List Frame → Outcome
-ended p bound w self value [] = NoProcess
-ended p bound w self value (f ∷ rest) = returns p bound w self f rest value rest
+abbrev pub outcome_of_end : ProgramModel → QueueBounds → World → ℕ → Option Mention → List Frame → Outcome
+outcome_of_end p bound w self value [] = NoProcess
+outcome_of_end p bound w self value (f ∷ rest) = returns p bound w self f rest value rest
 
 -- the variables of a caller, of which the target takes what a variable of the innermost frame of a stack has
 abbrev pub given_back : (value target : Option Mention) → List Frame → List (Option ℕ) → List (Option ℕ)
@@ -96,12 +96,12 @@ with_stack w self stack blocks = record { processes = set w.processes self stack
 
 -- all these tests pass
 abbrev pub Pass : List FaultTest → Type 0
-Pass tests = (more : List FaultTest) (outcome : Outcome) → tested (tests ++ more) outcome ≡ tested more outcome
+Pass tests = (more : List FaultTest) (outcome : Outcome) → after_tests (tests ++ more) outcome ≡ after_tests more outcome
 
 -- the fault of the first of these tests that fails, if one does
 abbrev pub IsFirstFault : Option Fault → List FaultTest → Type 0
 IsFirstFault None tests = Pass tests
-IsFirstFault (Some fault) tests = (more : List FaultTest) (outcome : Outcome) → tested (tests ++ more) outcome ≡ Faulty fault
+IsFirstFault (Some fault) tests = (more : List FaultTest) (outcome : Outcome) → after_tests (tests ++ more) outcome ≡ Faulty fault
 
 -- The first of these tests that fails has this fault. No test waits or takes memory.
 abbrev pub IsRefusal : Refusal → List FaultTest → Type 0
@@ -120,8 +120,8 @@ abbrev pub in_state : (a state : ℕ) → ℕ → Block → Block
 in_state a state j b = record b { state = if j == a then state else b.state }
 
 -- a message goes to the queue of the endpoint at an address
-abbrev pub queued : ℕ → MessageHeld → ℕ → Block → Block
-queued to m j b = record b { queue = if j == to then b.queue ++ m ∷ [] else b.queue }
+abbrev pub with_message : ℕ → MessageHeld → ℕ → Block → Block
+with_message to m j b = record b { queue = if j == to then b.queue ++ m ∷ [] else b.queue }
 
 -- the endpoint at an address has these messages left in its queue
 abbrev pub left_in : ℕ → List MessageHeld → ℕ → Block → Block

@@ -13,14 +13,14 @@ use Rattle.contracts.specs.Leaving.{end_on}
 use Rattle.rules.specs.Endpoints.{edges_in, edges_out}
 use Rattle.machine.specs.Frames.{address}
 use Rattle.machine.specs.Outcomes.{QueueBounds, FaultTest, test}
-use Rattle.machine.specs.World.{MessageHeld, Block, block_at, cut_off, freed, is_process, owns, read}
+use Rattle.machine.specs.World.{MessageHeld, Block, block_at, cut_off, is_freed_at, is_process, owns, read}
 use Rattle.machine.specs.declared.halts.Fault.TheVariants.{F1, F3, F4, F6}
 use Rattle.machine.specs.declared.worlds.Owner.{Owner}
 use Rattle.machine.specs.declared.worlds.Owner.TheVariants.{Process, Queue, Inside, Channel, Freed}
 
 -- these blocks go to an owner
-abbrev pub handed : Owner → List ℕ → ℕ → Block → Block
-handed to given j b = record b { owner = if is_among given j then to else b.owner }
+abbrev pub with_new_owner : Owner → List ℕ → ℕ → Block → Block
+with_new_owner to given j b = record b { owner = if is_among given j then to else b.owner }
 
 -- whether the owner is a block that meets the condition
 abbrev pub in_block_of : Owner → (ℕ → Bool) → Bool
@@ -127,7 +127,7 @@ received_state p blocks at message = end_on (edges_in p (Some (block_at blocks a
 
 -- whether the endpoint at an address may take one more message, unless it is freed
 abbrev pub has_room_in : QueueBounds → List Block → ℕ → Bool
-has_room_in bound blocks to = freed blocks to || nat_lt (length (block_at blocks to).queue) (bound_of bound (block_at blocks to).ty)
+has_room_in bound blocks to = is_freed_at blocks to || nat_lt (length (block_at blocks to).queue) (bound_of bound (block_at blocks to).ty)
 
 -- the tests of a send behind those of what it names
 abbrev pub send_tests_in : QueueBounds → List Block → ℕ → Option ℕ → List FaultTest

@@ -1,7 +1,7 @@
 -- For proofs within the crate: the steps by which a block is freed with all that is inside it.
 use Rattle.std.specs.Prelude.{◌≡◌, ◌⊎◌, false, ℕ, ◌==◌, List, [], ◌∷◌, ◌++◌, Option, Some, None, if◌then◌else◌}
 use Rattle.machine.specs.Blocks.{freed_block}
-use Rattle.machine.specs.World.{Block, block_at, changed, is_inside}
+use Rattle.machine.specs.World.{Block, block_at, change_each, is_inside}
 use Rattle.machine.specs.declared.worlds.Owner.TheVariants.{Inside}
 
 -- the block at an address has these left in its fields
@@ -12,7 +12,7 @@ fields_left x rest j b = record b { fields = if j == x then rest else b.fields }
 pub record IsPopped (old new : List Block) (x inner : ℕ) : Type 0 where
   pub rest : List ℕ
   pub fields : (block_at old x).fields ≡ rest ++ inner ∷ []
-  pub blocks : new ≡ changed (fields_left x rest) old
+  pub blocks : new ≡ change_each (fields_left x rest) old
 
 -- one block alone is freed
 abbrev pub freed_one : ℕ → ℕ → Block → Block
@@ -21,7 +21,7 @@ freed_one x = freed_block (λ j. j == x)
 -- The block at x, whose fields hold nothing, is freed.
 pub record IsAlone (old new : List Block) (x : ℕ) : Type 0 where
   pub empty : (block_at old x).fields ≡ []
-  pub blocks : new ≡ changed (freed_one x) old
+  pub blocks : new ≡ change_each (freed_one x) old
 
 -- A step goes down to what the last field of x held. If the fields of x hold nothing, x is freed, and the step goes up to the block that
 -- x was inside, or the way ends.

@@ -14,11 +14,12 @@ use Rattle.flow.specs.declared.graph.Branches.TheVariants.{Either, Only}
 use Rattle.rules.specs.Endpoints.{first_state}
 use Rattle.machine.specs.Blocks.{argument_tests_in, has_room_in, is_own_still, owns_none, send_tests_in}
 use Rattle.machine.specs.Blocks.{received_state, sent_state}
-use Rattle.machine.specs.Blocks.{end_type, exchanged_block, freed_block, goes_with, handed, is_imp, new_block, received_block, sent_block}
-use Rattle.machine.specs.Frames.{call_next, call_target, entered, instruction_at, type_at, method_at, variables_of}
-use Rattle.machine.specs.Frames.{address, addresses, bound_to, forgotten, gone_with, payloads_claimed, put}
-use Rattle.machine.specs.Outcomes.{QueueBounds, Outcome, Moved, Faulty, Waits, NoChoice, FaultTest, test, tested}
-use Rattle.machine.specs.World.{Block, Frame, MessageHeld, World, block_at, changed, cut_off, freed, is_own_in, let_go, read}
+use Rattle.machine.specs.Blocks.{end_type, exchanged_block, freed_block, goes_with, is_imp, new_block, received_block, sent_block}
+use Rattle.machine.specs.Blocks.{with_new_owner}
+use Rattle.machine.specs.Frames.{call_next, call_target, frame_at_entry, instruction_at, type_at, method_at, variables_of}
+use Rattle.machine.specs.Frames.{address, addresses, bound_to, out_of_scope, gone_with, payloads_claimed, put}
+use Rattle.machine.specs.Outcomes.{QueueBounds, Outcome, Moved, Faulty, Waits, NoChoice, FaultTest, test, after_tests}
+use Rattle.machine.specs.World.{Block, Frame, MessageHeld, World, block_at, change_each, cut_off, is_freed_at, is_own_in, let_go, read}
 use Rattle.machine.specs.declared.halts.Fault.TheVariants.{F1, F2, F3, F5, F7}
 use Rattle.machine.specs.declared.worlds.Owner.TheVariants.{Process, Inside}
 
@@ -52,8 +53,9 @@ module _ (p : ProgramModel) (bound : QueueBounds) (w : World) (self : ℕ) (f : 
   abbrev pub send_from : (at : ℕ) → MessageHeld → Option ℕ → List (Option ℕ) → ℕ → Outcome
   send_from at message edge variables next =
       on next variables
-      (changed (sent_block at (if cut_off w.blocks at then (block_at w.blocks at).state else unwrap_or edge (block_at w.blocks at).state)
-      (block_at w.blocks at).peer (freed w.blocks (block_at w.blocks at).peer) message) w.blocks)
+      (change_each (sent_block at
+      (if cut_off w.blocks at then (block_at w.blocks at).state else unwrap_or edge (block_at w.blocks at).state)
+      (block_at w.blocks at).peer (is_freed_at w.blocks (block_at w.blocks at).peer) message) w.blocks)
 
   -- whether a queue may take one more message
   abbrev pub has_room : ℕ → Bool
@@ -64,11 +66,11 @@ module _ (p : ProgramModel) (bound : QueueBounds) (w : World) (self : ℕ) (f : 
   send_tests at edge = send_tests_in bound w.blocks at edge
 
   -- the state behind the edge of the endpoint at an address, out and in
-  abbrev pub edge_out : ℕ → ℕ → Option ℕ
-  edge_out at message = sent_state p w.blocks at message
+  abbrev pub state_by_send : ℕ → ℕ → Option ℕ
+  state_by_send at message = sent_state p w.blocks at message
 
-  abbrev pub edge_in : ℕ → ℕ → Option ℕ
-  edge_in at message = received_state p w.blocks at message
+  abbrev pub state_by_receive : ℕ → ℕ → Option ℕ
+  state_by_receive at message = received_state p w.blocks at message
 
   -- a close comes to a case
   abbrev pub closes_at : Option EntranceModel → Outcome
@@ -80,11 +82,11 @@ module _ (p : ProgramModel) (bound : QueueBounds) (w : World) (self : ℕ) (f : 
   receives_at None at m ms = Faulty F5
   receives_at (Some c) at m ms =
       on c.next (bound_to f.variables c.targets m.payload)
-      (changed (received_block self at (unwrap_or (edge_in at m.message) (block_at w.blocks at).state) m ms) w.blocks)
+      (change_each (received_block self at (unwrap_or (state_by_receive at m.message) (block_at w.blocks at).state) m ms) w.blocks)
 
   -- what comes at an endpoint with this queue
   abbrev pub receives : List EntranceModel → ℕ → ℕ → List MessageHeld → Outcome
-  receives cases v at [] = if freed w.blocks (block_at w.blocks at).peer then closes_at (case_for cases v None) else Waits
+  receives cases v at [] = if is_freed_at w.blocks (block_at w.blocks at).peer then closes_at (case_for cases v None) else Waits
   receives cases v at (m ∷ ms) = receives_at (case_for cases v (Some m.message)) at m ms
 
   -- what comes at the chosen endpoint
@@ -94,7 +96,7 @@ module _ (p : ProgramModel) (bound : QueueBounds) (w : World) (self : ℕ) (f : 
 
   -- A frame ends. The caller goes on, or the process ends, and then it is to have nothing.
   abbrev pub returns : Option Mention → List Frame → Outcome
-  returns value [] = tested (test (owns_none w.blocks self) F7 ∷ []) (goes [] w.blocks)
+  returns value [] = after_tests (test (owns_none w.blocks self) F7 ∷ []) (goes [] w.blocks)
   returns None (g ∷ more) =
       goes (record { method = g.method; point = call_next (instruction_at p g); variables = g.variables } ∷ more) w.blocks
   returns (Some v) (g ∷ more) =
@@ -112,18 +114,18 @@ module _ (p : ProgramModel) (bound : QueueBounds) (w : World) (self : ℕ) (f : 
   exchanges e next None = on next f.variables w.blocks
   exchanges e next (Some held) =
       on next (set f.variables e.given.variable.0 (Some held))
-      (changed (exchanged_block self (address (has e.holder)) e.field (address (has e.given)) held) w.blocks)
+      (change_each (exchanged_block self (address (has e.holder)) e.field (address (has e.given)) held) w.blocks)
 
   -- a line for each instruction
-  abbrev pub event_of : Instruction → (choice : ℕ) → Outcome
-  event_of (Use v next) choice = tested (test (is_own (has v)) F1 ∷ []) (on next f.variables w.blocks)
-  event_of (New v arguments next) choice =
+  abbrev pub outcome_from : Instruction → (choice : ℕ) → Outcome
+  outcome_from (Use v next) choice = after_tests (test (is_own (has v)) F1 ∷ []) (on next f.variables w.blocks)
+  outcome_from (New v arguments next) choice =
       let given = payloads_claimed arguments in
-      tested (argument_tests [] given)
+      after_tests (argument_tests [] given)
       (on next (set (let_go f.variables given) v.variable.0 (Some (length w.blocks)))
-      (changed (handed (Inside (length w.blocks)) (addresses f.variables given)) w.blocks
+      (change_each (with_new_owner (Inside (length w.blocks)) (addresses f.variables given)) w.blocks
       ++ new_block (type_at (variables_of p f.method) v.variable.0) self 0 0 (addresses f.variables given) ∷ []))
-  event_of (NewChannel c next) choice =
+  outcome_from (NewChannel c next) choice =
       let first_is_imp = is_imp (type_at (variables_of p f.method) c.first.variable.0) in
       let a = length w.blocks in
       let begins = first_state p c.contract.0 in
@@ -131,39 +133,39 @@ module _ (p : ProgramModel) (bound : QueueBounds) (w : World) (self : ℕ) (f : 
       (set (set f.variables c.first.variable.0 (Some (if first_is_imp then a else a + 1))) c.second.variable.0
       (Some (if first_is_imp then a + 1 else a)))
       (w.blocks ++ new_block (end_type c Imp) self (a + 1) begins [] ∷ new_block (end_type c Exp) self a begins [] ∷ [])
-  event_of (Move v u next) choice =
-      tested (test (is_own (has u)) F1 ∷ []) (on next (set (set f.variables v.variable.0 (has u)) u.variable.0 None) w.blocks)
-  event_of (Delete v next) choice =
-      tested (test (is_own (has v)) F2 ∷ [])
-      (on next (set f.variables v.variable.0 None) (changed (freed_block (goes_with w.blocks (address (has v)))) w.blocks))
-  event_of (Exchange e next) choice =
-      tested
+  outcome_from (Move v u next) choice =
+      after_tests (test (is_own (has u)) F1 ∷ []) (on next (set (set f.variables v.variable.0 (has u)) u.variable.0 None) w.blocks)
+  outcome_from (Delete v next) choice =
+      after_tests (test (is_own (has v)) F2 ∷ [])
+      (on next (set f.variables v.variable.0 None) (change_each (freed_block (goes_with w.blocks (address (has v)))) w.blocks))
+  outcome_from (Exchange e next) choice =
+      after_tests
       (test (is_own (has e.holder)) F1
       ∷ test (is_own_still w.blocks self (address (has e.holder) ∷ []) (has e.given)) F3
       ∷ [])
       (exchanges e next (slice_get (block_at w.blocks (address (has e.holder))).fields e.field))
-  event_of (Send place e message payloads next) choice =
+  outcome_from (Send place e message payloads next) choice =
       let at = address (has e) in
       let given = payloads_claimed payloads in
-      tested (test (is_own (has e)) F1 ∷ (argument_tests [] given ++ send_tests at (edge_out at message.0)))
-      (send_from at record { message = message.0; payload = addresses f.variables given } (edge_out at message.0)
+      after_tests (test (is_own (has e)) F1 ∷ (argument_tests [] given ++ send_tests at (state_by_send at message.0)))
+      (send_from at record { message = message.0; payload = addresses f.variables given } (state_by_send at message.0)
       (let_go f.variables given) next)
-  event_of (Switch place cases) choice =
-      tested (map (λ e. test (is_own (has e)) F1) (first_mentions [] cases))
+  outcome_from (Switch place cases) choice =
+      after_tests (map (λ e. test (is_own (has e)) F1) (first_mentions [] cases))
       (receives_from cases (slice_get (first_mentions [] cases) choice))
-  event_of (Branch place branches) choice = on (way branches choice) f.variables w.blocks
-  event_of (Forget g next) choice = on next (forgotten f.variables (gone_with (method_at p f.method) g)) w.blocks
-  event_of (Call place method arguments target next) choice =
-      tested (argument_tests [] arguments)
+  outcome_from (Branch place branches) choice = on (way branches choice) f.variables w.blocks
+  outcome_from (Forget g next) choice = on next (out_of_scope f.variables (gone_with (method_at p f.method) g)) w.blocks
+  outcome_from (Call place method arguments target next) choice =
+      after_tests (argument_tests [] arguments)
       (goes
-      (entered p method.0 (map (λ a. has a.mention) arguments)
+      (frame_at_entry p method.0 (map (λ a. has a.mention) arguments)
       ∷ record { method = f.method; point = f.point; variables = let_go f.variables arguments } ∷ rest) w.blocks)
-  event_of (Start place method arguments next) choice =
-      tested (argument_tests [] arguments)
+  outcome_from (Start place method arguments next) choice =
+      after_tests (argument_tests [] arguments)
       (Moved record {
         processes = set w.processes self (record { method = f.method; point = next; variables = let_go f.variables arguments } ∷ rest)
-            ++ (entered p method.0 (map (λ a. has a.mention) arguments) ∷ []) ∷ [];
-        blocks = changed (handed (Process (length w.processes)) (addresses f.variables arguments)) w.blocks;
+            ++ (frame_at_entry p method.0 (map (λ a. has a.mention) arguments) ∷ []) ∷ [];
+        blocks = change_each (with_new_owner (Process (length w.processes)) (addresses f.variables arguments)) w.blocks;
       })
-  event_of (Return place value scope) choice = tested (value_tests value) (returns value rest)
-  event_of (Stop place) choice = returns None rest
+  outcome_from (Return place value scope) choice = after_tests (value_tests value) (returns value rest)
+  outcome_from (Stop place) choice = returns None rest

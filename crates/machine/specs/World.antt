@@ -87,17 +87,17 @@ is_own_in blocks self None = false
 is_own_in blocks self (Some a) = owns blocks self a
 
 -- the block is freed
-abbrev pub freed : List Block → ℕ → Bool
-freed blocks a = is_freed (block_at blocks a).owner
+abbrev pub is_freed_at : List Block → ℕ → Bool
+is_freed_at blocks a = is_freed (block_at blocks a).owner
 
 -- An endpoint is cut off where its peer is freed and its own queue is empty.
 abbrev pub cut_off : List Block → ℕ → Bool
-cut_off blocks a = freed blocks (block_at blocks a).peer && is_empty (block_at blocks a).queue
+cut_off blocks a = is_freed_at blocks (block_at blocks a).peer && is_empty (block_at blocks a).queue
 
 -- each block is changed by its address
-abbrev pub changed : (ℕ → Block → Block) → List Block → List Block
-changed f [] = []
-changed f (b ∷ blocks) = f 0 b ∷ changed (λ a. f (suc a)) blocks
+abbrev pub change_each : (ℕ → Block → Block) → List Block → List Block
+change_each f [] = []
+change_each f (b ∷ blocks) = f 0 b ∷ change_each (λ a. f (suc a)) blocks
 
 -- variables that are claimed have nothing any more
 abbrev pub let_go : List (Option ℕ) → List Argument → List (Option ℕ)

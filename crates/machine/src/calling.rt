@@ -7,7 +7,7 @@ ghost use Rattle.program.specs.Methods.{variable_model};
 ghost use Rattle.program.specs.WellFormed as formed;
 ghost use Rattle.rules.specs.Programs.{model_of};
 ghost use Rattle.machine.specs.Answers.{Tells, entered_on, on_stack, with_stack};
-ghost use Rattle.machine.specs.Frames.{entered, filled};
+ghost use Rattle.machine.specs.Frames.{frame_at_entry, variables_at_entry};
 ghost use Rattle.machine.specs.Outcomes.{QueueBounds};
 ghost use Rattle.machine.specs.Views.{blocks_model, frame_model, stack_model, variables_model};
 ghost use Rattle.machine.specs.World as seen;
@@ -40,7 +40,7 @@ fn fill(
     variables: &[Variable],
     arguments: &[Argument],
 ) -> Result<Variables, Refusal>
-    ensures filled { IfOk result (λ has. variables_model has ≡ filled (map variable_model variables.now)
+    ensures filled { IfOk result (λ has. variables_model has ≡ variables_at_entry (map variable_model variables.now)
         (map (λ a. read (frame_model frame.now).variables a.mention.variable.0) arguments.now)) }
     ensures memory { IfErr result (λ refusal. refusal ≡ Refusal.Memory) }
 {
@@ -65,7 +65,7 @@ pub(crate) fn enter(
     method: MethodId,
     arguments: &[Argument],
 ) -> Result<Frame, Refusal>
-    ensures entered { IfOk result (λ begun. frame_model begun ≡ entered (model_of program.now) method.0
+    ensures entered { IfOk result (λ begun. frame_model begun ≡ frame_at_entry (model_of program.now) method.0
         (map (λ a. read (frame_model frame.now).variables a.mention.variable.0) arguments.now)) }
     ensures memory { IfErr result (λ refusal. refusal ≡ Refusal.Memory) }
 {

@@ -1,11 +1,11 @@
 //! What becomes of blocks, and of the counts of those that processes have.
 
 ghost use Rattle.std.specs.Prelude.{◌≡◌, ◌+◌, ◌<◌, ◌^◌, IsFalse, IsTrue, List, Some, [], ◌∷◌, get_or, length, map, option_map, true, ℕ};
-ghost use Rattle.machine.specs.Answers.{in_state, left_in, queued, with_field};
-ghost use Rattle.machine.specs.Blocks.{handed};
+ghost use Rattle.machine.specs.Answers.{in_state, left_in, with_message, with_field};
+ghost use Rattle.machine.specs.Blocks.{with_new_owner};
 ghost use Rattle.machine.specs.Heaps.{IsCounted, IsListed, brings, one_if};
 ghost use Rattle.machine.specs.BlockViews.{blocks_model, held_model};
-ghost use Rattle.machine.specs.World.{MessageHeld, block_at, changed, is_process};
+ghost use Rattle.machine.specs.World.{MessageHeld, block_at, change_each, is_process};
 
 use crate::worlds::{Block, Held, Owner};
 use program::StateId;
@@ -40,7 +40,7 @@ pub(crate) fn count_more(counts: &mut Vec<usize>, owner: Owner)
 pub(crate) fn hand_one(blocks: &mut Vec<Block>, counts: &mut Vec<usize>, a: usize, to: Owner)
     requires counted { IsCounted (blocks_model blocks.old.items) counts.old.items }
     requires listed { IsListed counts.old.items to }
-    ensures handed { blocks_model blocks.new.items ≡ changed (handed to (a ∷ [])) (blocks_model blocks.old.items) }
+    ensures handed { blocks_model blocks.new.items ≡ change_each (with_new_owner to (a ∷ [])) (blocks_model blocks.old.items) }
     ensures counted { IsCounted (blocks_model blocks.new.items) counts.new.items }
     ensures listed { length counts.new.items ≡ length counts.old.items }
 {
@@ -56,7 +56,7 @@ pub(crate) fn hand_one(blocks: &mut Vec<Block>, counts: &mut Vec<usize>, a: usiz
 pub(crate) fn hand(blocks: &mut Vec<Block>, counts: &mut Vec<usize>, given: &[usize], to: Owner)
     requires counted { IsCounted (blocks_model blocks.old.items) counts.old.items }
     requires listed { IsListed counts.old.items to }
-    ensures handed { blocks_model blocks.new.items ≡ changed (handed to given.now) (blocks_model blocks.old.items) }
+    ensures handed { blocks_model blocks.new.items ≡ change_each (with_new_owner to given.now) (blocks_model blocks.old.items) }
     ensures counted { IsCounted (blocks_model blocks.new.items) counts.new.items }
     ensures listed { length counts.new.items ≡ length counts.old.items }
 {
@@ -69,7 +69,7 @@ pub(crate) fn hand(blocks: &mut Vec<Block>, counts: &mut Vec<usize>, given: &[us
 pub(crate) fn lose(blocks: &mut Vec<Block>, counts: &mut Vec<usize>, queue: &VecDeque<Held>)
     requires counted { IsCounted (blocks_model blocks.old.items) counts.old.items }
     ensures lost { blocks_model blocks.new.items
-        ≡ changed (handed Owner.Channel (brings (map held_model queue.now.items))) (blocks_model blocks.old.items) }
+        ≡ change_each (with_new_owner Owner.Channel (brings (map held_model queue.now.items))) (blocks_model blocks.old.items) }
     ensures counted { IsCounted (blocks_model blocks.new.items) counts.new.items }
 {
     for number in 0..queue.len() {
@@ -79,7 +79,7 @@ pub(crate) fn lose(blocks: &mut Vec<Block>, counts: &mut Vec<usize>, queue: &Vec
 
 /// An endpoint goes on to a state.
 pub(crate) fn set_state(blocks: &mut Vec<Block>, a: usize, state: StateId)
-    ensures { blocks_model blocks.new.items ≡ changed (in_state a state.0) (blocks_model blocks.old.items) }
+    ensures { blocks_model blocks.new.items ≡ change_each (in_state a state.0) (blocks_model blocks.old.items) }
 {
     if a < blocks.len() {
         blocks[a].state = state;
@@ -90,14 +90,15 @@ pub(crate) fn set_state(blocks: &mut Vec<Block>, a: usize, state: StateId)
 pub(crate) fn set_field(blocks: &mut Vec<Block>, at: usize, field: usize, given: usize)
     requires there { at < length blocks.old.items }
     requires field { field < length (block_at (blocks_model blocks.old.items) at).fields }
-    ensures { blocks_model blocks.new.items ≡ changed (with_field at field given) (blocks_model blocks.old.items) }
+    ensures { blocks_model blocks.new.items ≡ change_each (with_field at field given) (blocks_model blocks.old.items) }
 {
     blocks[at].fields[field] = given;
 }
 
 /// A message goes to the queue of an endpoint, if there is memory for it.
 pub(crate) fn enqueue(blocks: &mut Vec<Block>, to: usize, held: Held) -> bool
-    ensures done { IsTrue result → blocks_model blocks.new.items ≡ changed (queued to (held_model held)) (blocks_model blocks.old.items) }
+    ensures done { IsTrue result
+        → blocks_model blocks.new.items ≡ change_each (with_message to (held_model held)) (blocks_model blocks.old.items) }
     ensures same { IsFalse result → blocks_model blocks.new.items ≡ blocks_model blocks.old.items }
 {
     if to < blocks.len() {
@@ -111,7 +112,7 @@ pub(crate) fn take_front(blocks: &mut Vec<Block>, at: usize) -> Option<Held>
     ensures taken { (m : MessageHeld) (ms : List MessageHeld) → (block_at (blocks_model blocks.old.items) at).queue ≡ m ∷ ms →
         option_map held_model result ≡ Some m }
     ensures left { (m : MessageHeld) (ms : List MessageHeld) → (block_at (blocks_model blocks.old.items) at).queue ≡ m ∷ ms →
-        blocks_model blocks.new.items ≡ changed (left_in at ms) (blocks_model blocks.old.items) }
+        blocks_model blocks.new.items ≡ change_each (left_in at ms) (blocks_model blocks.old.items) }
 {
     if at < blocks.len() {
         return blocks[at].queue.pop_front();
@@ -122,7 +123,7 @@ pub(crate) fn take_front(blocks: &mut Vec<Block>, at: usize) -> Option<Held>
 /// The whole queue of an endpoint is taken.
 pub(crate) fn take_queue(alloc: Global, blocks: &mut Vec<Block>, at: usize) -> VecDeque<Held>
     ensures taken { map held_model result.items ≡ (block_at (blocks_model blocks.old.items) at).queue }
-    ensures left { blocks_model blocks.new.items ≡ changed (left_in at []) (blocks_model blocks.old.items) }
+    ensures left { blocks_model blocks.new.items ≡ change_each (left_in at []) (blocks_model blocks.old.items) }
 {
     let mut queue = VecDeque::new(alloc);
     if at < blocks.len() {

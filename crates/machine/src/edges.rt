@@ -13,7 +13,7 @@ ghost use Rattle.machine.specs.Blocks.{received_state, sent_state, has_room_in, 
 ghost use Rattle.machine.specs.Outcomes.{QueueBounds};
 ghost use Rattle.machine.specs.Runs.{AreBounds};
 ghost use Rattle.machine.specs.Views.{blocks_model};
-ghost use Rattle.machine.specs.World.{block_at, cut_off, freed, no_type};
+ghost use Rattle.machine.specs.World.{block_at, cut_off, is_freed_at, no_type};
 
 use crate::halts::{Fault, Refusal};
 use crate::reading::{is_cut_off, is_freed, peer_of, queue_length, state_of, type_of};
@@ -55,7 +55,7 @@ fn bound_of(program: &Program, ty: HeapType) -> u32
 fn has_room(program: &Program, blocks: &[Block], to: usize) -> bool
     ensures room { (bound : QueueBounds) → AreBounds (model_of program.now) bound
         → result ≡ has_room_in bound (blocks_model blocks.now) to }
-    ensures there { IsTrue result → freed (blocks_model blocks.now) to ≡ false → to < length (blocks_model blocks.now) }
+    ensures there { IsTrue result → is_freed_at (blocks_model blocks.now) to ≡ false → to < length (blocks_model blocks.now) }
 {
     is_freed(blocks, to)
         || queue_length(blocks, to) < bound_of(program, type_of(blocks, to)) as usize
@@ -96,7 +96,7 @@ pub(crate) fn way_out(
         (sent_state (model_of program.now) (blocks_model blocks.now) at message.0))) }
     ensures at { IfOk result (λ way. way.at ≡ at) }
     ensures peer { IfOk result (λ way. way.peer ≡ (block_at (blocks_model blocks.now) at).peer) }
-    ensures gone { IfOk result (λ way. way.gone ≡ freed (blocks_model blocks.now) (block_at (blocks_model blocks.now) at).peer) }
+    ensures gone { IfOk result (λ way. way.gone ≡ is_freed_at (blocks_model blocks.now) (block_at (blocks_model blocks.now) at).peer) }
     ensures state { IfOk result (λ way. way.state.0 ≡ (if cut_off (blocks_model blocks.now) at then
         (block_at (blocks_model blocks.now) at).state
         else unwrap_or (sent_state (model_of program.now) (blocks_model blocks.now) at message.0)

@@ -5,7 +5,7 @@ ghost use Rattle.program.specs.Programs.{ProgramModel};
 ghost use Rattle.flow.specs.Graphs as instruction;
 ghost use Rattle.machine.specs.Answers.{Tells, on_top};
 ghost use Rattle.machine.specs.Blocks.{is_own_still};
-ghost use Rattle.machine.specs.Machine.{event_of};
+ghost use Rattle.machine.specs.Machine.{outcome_from};
 ghost use Rattle.machine.specs.Outcomes.{QueueBounds};
 ghost use Rattle.machine.specs.Views.{blocks_model, frame_model};
 ghost use Rattle.machine.specs.World as seen;
@@ -40,7 +40,7 @@ pub(crate) fn exchange(
 ) -> Result<(), Refusal>
     ensures tells { (p : ProgramModel) (bound : QueueBounds) (w : seen.World) (rest : List seen.Frame) →
         w.blocks ≡ blocks_model heap.old.blocks.items →
-        Tells result (event_of p bound w process (frame_model frame.old) rest (instruction.Exchange e next) 0)
+        Tells result (outcome_from p bound w process (frame_model frame.old) rest (instruction.Exchange e next) 0)
         (on_top w.processes process rest (frame_model frame.new) (blocks_model heap.new.blocks.items)) }
     ensures same { OnErr result (frame_model frame.new ≡ frame_model frame.old) }
     ensures same_blocks { OnErr result (blocks_model heap.new.blocks.items ≡ blocks_model heap.old.blocks.items) }

@@ -5,7 +5,7 @@ ghost use Rattle.machine.specs.BlockViews.{blocks_model};
 ghost use Rattle.machine.specs.Blocks.{freed_block, goes_with};
 ghost use Rattle.machine.specs.Freeing.{IsPopped, IsStep, freed_one};
 ghost use Rattle.machine.specs.Heaps.{QueuesBring, IsCounted, FieldsHold, of_process};
-ghost use Rattle.machine.specs.World.{block_at, changed};
+ghost use Rattle.machine.specs.World.{block_at, change_each};
 
 use crate::changing::{hand_one, lose, take_queue};
 use crate::worlds::{Block, Owner};
@@ -26,7 +26,7 @@ fn free_one(alloc: Global, blocks: &mut Vec<Block>, counts: &mut Vec<usize>, x: 
     requires counted { IsCounted (blocks_model blocks.old.items) counts.old.items }
     requires brought { QueuesBring (blocks_model blocks.old.items) }
     requires empty { (block_at (blocks_model blocks.old.items) x).fields ≡ [] }
-    ensures freed { blocks_model blocks.new.items ≡ changed (freed_one x) (blocks_model blocks.old.items) }
+    ensures freed { blocks_model blocks.new.items ≡ change_each (freed_one x) (blocks_model blocks.old.items) }
     ensures counted { IsCounted (blocks_model blocks.new.items) counts.new.items }
 {
     let queue = take_queue(alloc, blocks, x);
@@ -66,7 +66,7 @@ pub(crate) fn free(alloc: Global, blocks: &mut Vec<Block>, counts: &mut Vec<usiz
     requires held { FieldsHold (blocks_model blocks.old.items) }
     requires owned { of_process (block_at (blocks_model blocks.old.items) a).owner ≡ true }
     ensures freed { blocks_model blocks.new.items
-        ≡ changed (freed_block (goes_with (blocks_model blocks.old.items) a)) (blocks_model blocks.old.items) }
+        ≡ change_each (freed_block (goes_with (blocks_model blocks.old.items) a)) (blocks_model blocks.old.items) }
     ensures counted { IsCounted (blocks_model blocks.new.items) counts.new.items }
     ensures brought { QueuesBring (blocks_model blocks.new.items) }
 {

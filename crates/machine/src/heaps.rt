@@ -3,10 +3,11 @@
 ghost use Rattle.std.specs.Prelude.{◌≡◌, ◌≢◌, ◌<◌, ◌++◌, ◌∷◌, [], IfErr, IfNone, IfSome, IsFalse, IsTrue, List, OnErr, OnOk};
 ghost use Rattle.std.specs.Prelude.{false, length, slice_get, true};
 ghost use Rattle.machine.specs.BlockViews.{block_model, blocks_model};
-ghost use Rattle.machine.specs.Blocks.{exchanged_block, freed_block, goes_with, handed, new_block, owns_none, received_block, sent_block};
+ghost use Rattle.machine.specs.Blocks.{exchanged_block, freed_block, goes_with, new_block, owns_none};
+ghost use Rattle.machine.specs.Blocks.{received_block, sent_block, with_new_owner};
 ghost use Rattle.machine.specs.Heaps.{AreOnce, AreOwned, AreOwnedBy, IsHeap, of_process};
 ghost use Rattle.machine.specs.Once.{heap_once};
-ghost use Rattle.machine.specs.World.{MessageHeld, block_at, changed, owns};
+ghost use Rattle.machine.specs.World.{MessageHeld, block_at, change_each, owns};
 
 use crate::changing::{count_more, enqueue, hand, hand_one, set_field, set_state, take_front};
 use crate::edges::Way;
@@ -74,8 +75,8 @@ impl BlockHeap {
         requires owned { AreOwnedBy (blocks_model self.old.blocks.items) process given.now }
         requires once { AreOnce given.now }
         ensures added { OnOk result (blocks_model self.new.blocks.items
-            ≡ changed (handed (Owner.Inside (length (blocks_model self.old.blocks.items))) given.now) (blocks_model self.old.blocks.items)
-            ++ new_block ty process 0 0 given.now ∷ []) }
+            ≡ change_each (with_new_owner (Owner.Inside (length (blocks_model self.old.blocks.items))) given.now)
+            (blocks_model self.old.blocks.items) ++ new_block ty process 0 0 given.now ∷ []) }
         ensures same { OnErr result (blocks_model self.new.blocks.items ≡ blocks_model self.old.blocks.items) }
         ensures memory { IfErr result (λ refusal. refusal ≡ Refusal.Memory) }
     {
@@ -143,7 +144,7 @@ impl BlockHeap {
     pub(crate) fn free(&mut self, alloc: Global, a: usize)
         requires owned { of_process (block_at (blocks_model self.old.blocks.items) a).owner ≡ true }
         ensures { blocks_model self.new.blocks.items
-            ≡ changed (freed_block (goes_with (blocks_model self.old.blocks.items) a)) (blocks_model self.old.blocks.items) }
+            ≡ change_each (freed_block (goes_with (blocks_model self.old.blocks.items) a)) (blocks_model self.old.blocks.items) }
     {
         free(alloc, &mut self.blocks, &mut self.counts, a);
     }
@@ -162,7 +163,7 @@ impl BlockHeap {
         requires apart { given ≢ at }
         ensures held { result ≡ slice_get (block_at (blocks_model self.old.blocks.items) at).fields field }
         ensures exchanged { IfSome result (λ held. blocks_model self.new.blocks.items
-            ≡ changed (exchanged_block process at field given held) (blocks_model self.old.blocks.items)) }
+            ≡ change_each (exchanged_block process at field given held) (blocks_model self.old.blocks.items)) }
         ensures same { IfNone result (blocks_model self.new.blocks.items ≡ blocks_model self.old.blocks.items) }
     {
         let held = field_of(&self.blocks, at, field)?;
@@ -179,7 +180,7 @@ impl BlockHeap {
         requires owned { AreOwned (blocks_model self.old.blocks.items) given.now }
         requires listed { process < length self.old.counts.items }
         ensures { blocks_model self.new.blocks.items
-            ≡ changed (handed (Owner.Process process) given.now) (blocks_model self.old.blocks.items) }
+            ≡ change_each (with_new_owner (Owner.Process process) given.now) (blocks_model self.old.blocks.items) }
     {
         hand(
             &mut self.blocks,
@@ -202,7 +203,7 @@ impl BlockHeap {
         requires once { AreOnce given.now }
         requires there { way.gone ≡ false → way.peer < length (blocks_model self.old.blocks.items) }
         ensures done { IsTrue result → blocks_model self.new.blocks.items
-            ≡ changed (sent_block way.at way.state.0 way.peer way.gone record { message = message.0; payload = given.now })
+            ≡ change_each (sent_block way.at way.state.0 way.peer way.gone record { message = message.0; payload = given.now })
             (blocks_model self.old.blocks.items) }
         ensures same { IsFalse result → blocks_model self.new.blocks.items ≡ blocks_model self.old.blocks.items }
     {
@@ -230,7 +231,7 @@ impl BlockHeap {
         ensures brings { (m : MessageHeld) (ms : List MessageHeld) → (block_at (blocks_model self.old.blocks.items) at).queue ≡ m ∷ ms →
             result.items ≡ m.payload }
         ensures received { (m : MessageHeld) (ms : List MessageHeld) → (block_at (blocks_model self.old.blocks.items) at).queue ≡ m ∷ ms →
-            blocks_model self.new.blocks.items ≡ changed (received_block process at state.0 m ms) (blocks_model self.old.blocks.items) }
+            blocks_model self.new.blocks.items ≡ change_each (received_block process at state.0 m ms) (blocks_model self.old.blocks.items) }
     {
         let Some(Held { payload, .. }) = take_front(&mut self.blocks, at) else {
             unreachable!()

@@ -5,7 +5,7 @@ ghost use Rattle.flow.specs.Graphs.{instruction_model};
 ghost use Rattle.rules.specs.Programs.{model_of};
 ghost use Rattle.machine.specs.Answers.{Tells, is_of_channel, is_of_frame, is_of_heap, is_of_process, on_stack, on_top, with_stack};
 ghost use Rattle.machine.specs.Frames as told;
-ghost use Rattle.machine.specs.Machine.{event_of};
+ghost use Rattle.machine.specs.Machine.{outcome_from};
 ghost use Rattle.machine.specs.Outcomes.{QueueBounds};
 ghost use Rattle.machine.specs.Runs.{AreBounds};
 ghost use Rattle.machine.specs.Views.{blocks_model, frame_model, stack_model, world_model};
@@ -61,7 +61,7 @@ fn on_heap(
     requires of { is_of_heap (instruction_model instr.now) ≡ true }
     ensures tells { (bound : QueueBounds) (w : seen.World) (rest : List seen.Frame) → AreBounds (model_of program.now) bound →
         w.blocks ≡ blocks_model heap.old.blocks.items →
-        Tells result (event_of (model_of program.now) bound w chosen.process (frame_model frame.old) rest (instruction_model instr.now)
+        Tells result (outcome_from (model_of program.now) bound w chosen.process (frame_model frame.old) rest (instruction_model instr.now)
         chosen.choice)
         (on_top w.processes chosen.process rest (frame_model frame.new) (blocks_model heap.new.blocks.items)) }
     ensures same { OnErr result (frame_model frame.new ≡ frame_model frame.old) }
@@ -110,7 +110,7 @@ fn on_channel(
     requires there { chosen.choice < told.choices (instruction_model instr.now) }
     ensures tells { (bound : QueueBounds) (w : seen.World) (rest : List seen.Frame) → AreBounds (model_of program.now) bound →
         w.blocks ≡ blocks_model heap.old.blocks.items →
-        Tells result (event_of (model_of program.now) bound w chosen.process (frame_model frame.old) rest (instruction_model instr.now)
+        Tells result (outcome_from (model_of program.now) bound w chosen.process (frame_model frame.old) rest (instruction_model instr.now)
         chosen.choice)
         (on_top w.processes chosen.process rest (frame_model frame.new) (blocks_model heap.new.blocks.items)) }
     ensures same { OnErr result (frame_model frame.new ≡ frame_model frame.old) }
@@ -137,7 +137,7 @@ fn on_frame(
     requires there { chosen.choice < told.choices (instruction_model instr.now) }
     ensures tells { (bound : QueueBounds) (w : seen.World) (rest : List seen.Frame) → AreBounds (model_of program.now) bound →
         w.blocks ≡ blocks_model heap.old.blocks.items →
-        Tells result (event_of (model_of program.now) bound w chosen.process (frame_model frame.old) rest (instruction_model instr.now)
+        Tells result (outcome_from (model_of program.now) bound w chosen.process (frame_model frame.old) rest (instruction_model instr.now)
         chosen.choice)
         (on_top w.processes chosen.process rest (frame_model frame.new) (blocks_model heap.new.blocks.items)) }
     ensures same { OnErr result (frame_model frame.new ≡ frame_model frame.old) }

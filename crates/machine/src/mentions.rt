@@ -7,7 +7,7 @@ ghost use Rattle.rules.specs.Programs.{model_of};
 ghost use Rattle.rules.specs.Scopes.{declared_between, is_this};
 ghost use Rattle.machine.specs.Answers.{with_variables};
 ghost use Rattle.machine.specs.Bindings.{AllMayTake};
-ghost use Rattle.machine.specs.Frames.{address, bound_to, forgotten, type_at, variables_of};
+ghost use Rattle.machine.specs.Frames.{address, bound_to, out_of_scope, type_at, variables_of};
 ghost use Rattle.machine.specs.Frames as told;
 ghost use Rattle.machine.specs.Views.{StillTakes, CanTake, frame_model, variables_model};
 ghost use Rattle.machine.specs.World.{let_go, read};
@@ -105,7 +105,7 @@ pub(crate) fn forgets(
     last: Option<VarId>,
 )
     ensures { variables_model variables.new
-        ≡ forgotten (variables_model variables.old) (declared_between (method_model method.now) outer last) }
+        ≡ out_of_scope (variables_model variables.old) (declared_between (method_model method.now) outer last) }
 {
     let mut at = last;
     for _ in 0..method.variables.len() {

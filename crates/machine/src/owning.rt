@@ -8,7 +8,7 @@ ghost use Rattle.rules.specs.Programs.{model_of};
 ghost use Rattle.machine.specs.Answers.{Tells, on_top};
 ghost use Rattle.machine.specs.Blocks.{end_type, is_imp, new_block};
 ghost use Rattle.machine.specs.Frames.{type_at, variables_of};
-ghost use Rattle.machine.specs.Machine.{event_of};
+ghost use Rattle.machine.specs.Machine.{outcome_from};
 ghost use Rattle.machine.specs.Outcomes.{QueueBounds};
 ghost use Rattle.machine.specs.Views.{block_model, blocks_model, frame_model};
 ghost use Rattle.machine.specs.World as seen;
@@ -48,7 +48,7 @@ pub(crate) fn new(
     making: &Making<'_>,
 ) -> Result<(), Refusal>
     ensures tells { (bound : QueueBounds) (w : seen.World) (rest : List seen.Frame) → w.blocks ≡ blocks_model heap.old.blocks.items →
-        Tells result (event_of (model_of program.now) bound w turn.process (frame_model frame.old) rest
+        Tells result (outcome_from (model_of program.now) bound w turn.process (frame_model frame.old) rest
         (New making.now.target making.now.arguments.now turn.next) 0)
         (on_top w.processes turn.process rest (frame_model frame.new) (blocks_model heap.new.blocks.items)) }
     ensures same { OnErr result (frame_model frame.new ≡ frame_model frame.old) }
@@ -81,7 +81,7 @@ fn new_alone(
     target: Mention,
 ) -> Result<(), Refusal>
     ensures tells { (bound : QueueBounds) (w : seen.World) (rest : List seen.Frame) → w.blocks ≡ blocks_model heap.old.blocks.items →
-        Tells result (event_of (model_of program.now) bound w turn.process (frame_model frame.old) rest (New target [] turn.next) 0)
+        Tells result (outcome_from (model_of program.now) bound w turn.process (frame_model frame.old) rest (New target [] turn.next) 0)
         (on_top w.processes turn.process rest (frame_model frame.new) (blocks_model heap.new.blocks.items)) }
     ensures same { OnErr result (frame_model frame.new ≡ frame_model frame.old) }
     ensures same_blocks { OnErr result (blocks_model heap.new.blocks.items ≡ blocks_model heap.old.blocks.items) }
@@ -109,7 +109,7 @@ pub(crate) fn delete(
 ) -> Result<(), Refusal>
     ensures tells { (p : ProgramModel) (bound : QueueBounds) (w : seen.World) (rest : List seen.Frame) →
         w.blocks ≡ blocks_model heap.old.blocks.items →
-        Tells result (event_of p bound w process (frame_model frame.old) rest (Delete at next) 0)
+        Tells result (outcome_from p bound w process (frame_model frame.old) rest (Delete at next) 0)
         (on_top w.processes process rest (frame_model frame.new) (blocks_model heap.new.blocks.items)) }
     ensures same { OnErr result (frame_model frame.new ≡ frame_model frame.old) }
     ensures same_blocks { OnErr result (blocks_model heap.new.blocks.items ≡ blocks_model heap.old.blocks.items) }
@@ -197,7 +197,8 @@ pub(crate) fn new_channel(
     channel: Channel,
 ) -> Result<(), Refusal>
     ensures tells { (bound : QueueBounds) (w : seen.World) (rest : List seen.Frame) → w.blocks ≡ blocks_model heap.old.blocks.items →
-        Tells result (event_of (model_of program.now) bound w turn.process (frame_model frame.old) rest (NewChannel channel turn.next) 0)
+        Tells result (outcome_from (model_of program.now) bound w turn.process (frame_model frame.old) rest
+        (NewChannel channel turn.next) 0)
         (on_top w.processes turn.process rest (frame_model frame.new) (blocks_model heap.new.blocks.items)) }
     ensures same { OnErr result (frame_model frame.new ≡ frame_model frame.old) }
     ensures same_blocks { OnErr result (blocks_model heap.new.blocks.items ≡ blocks_model heap.old.blocks.items) }

@@ -7,7 +7,7 @@ ghost use Rattle.flow.specs.Graphs as instruction;
 ghost use Rattle.flow.specs.Graphs.{Use, Move, Branch};
 ghost use Rattle.rules.specs.Programs.{model_of};
 ghost use Rattle.machine.specs.Answers.{Tells, on_top};
-ghost use Rattle.machine.specs.Machine.{event_of};
+ghost use Rattle.machine.specs.Machine.{outcome_from};
 ghost use Rattle.machine.specs.Outcomes.{QueueBounds, Moved};
 ghost use Rattle.machine.specs.Views.{blocks_model, frame_model};
 ghost use Rattle.machine.specs.World as seen;
@@ -30,7 +30,7 @@ pub(crate) fn use_(
 ) -> Result<(), Refusal>
     ensures tells { (p : ProgramModel) (bound : QueueBounds) (w : seen.World) (rest : List seen.Frame)
         → w.blocks ≡ blocks_model blocks.now
-        → Tells result (event_of p bound w process (frame_model frame.old) rest (Use at next) 0)
+        → Tells result (outcome_from p bound w process (frame_model frame.old) rest (Use at next) 0)
         (on_top w.processes process rest (frame_model frame.new) (blocks_model blocks.now)) }
     ensures same { OnErr result (frame_model frame.new ≡ frame_model frame.old) }
 {
@@ -52,7 +52,7 @@ pub(crate) fn move_(
 ) -> Result<(), Refusal>
     ensures tells { (p : ProgramModel) (bound : QueueBounds) (w : seen.World) (rest : List seen.Frame)
         → w.blocks ≡ blocks_model blocks.now
-        → Tells result (event_of p bound w process (frame_model frame.old) rest (Move target source next) 0)
+        → Tells result (outcome_from p bound w process (frame_model frame.old) rest (Move target source next) 0)
         (on_top w.processes process rest (frame_model frame.new) (blocks_model blocks.now)) }
     ensures same { OnErr result (frame_model frame.new ≡ frame_model frame.old) }
 {
@@ -69,7 +69,7 @@ pub(crate) fn move_(
 /// A condition goes the way of the choice.
 pub(crate) fn branch(frame: &mut Frame, branches: Branches, choice: usize)
     ensures { (p : ProgramModel) (bound : QueueBounds) (w : seen.World) (rest : List seen.Frame) (process : ℕ) (place : Place) →
-        event_of p bound w process (frame_model frame.old) rest (Branch place branches) choice
+        outcome_from p bound w process (frame_model frame.old) rest (Branch place branches) choice
         ≡ Moved (on_top w.processes process rest (frame_model frame.new) w.blocks) }
 {
     frame.point = match branches {
@@ -81,7 +81,7 @@ pub(crate) fn branch(frame: &mut Frame, branches: Branches, choice: usize)
 /// Variables go out of scope.
 pub(crate) fn forget_(frame: &mut Frame, program: &Program, forget: Forget, next: usize)
     ensures { (bound : QueueBounds) (w : seen.World) (rest : List seen.Frame) (process : ℕ) →
-        event_of (model_of program.now) bound w process (frame_model frame.old) rest (instruction.Forget forget next) 0
+        outcome_from (model_of program.now) bound w process (frame_model frame.old) rest (instruction.Forget forget next) 0
         ≡ Moved (on_top w.processes process rest (frame_model frame.new) w.blocks) }
 {
     if let Some(method) = program.methods().get(frame.method.0 as usize) {

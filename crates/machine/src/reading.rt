@@ -3,7 +3,7 @@
 ghost use Rattle.std.specs.Prelude.{◌≡◌, ◌<◌, IfNone, IfSome, Some, false, length, option_map, slice_get, true};
 ghost use Rattle.machine.specs.Answers.{front_of};
 ghost use Rattle.machine.specs.Views.{blocks_model};
-ghost use Rattle.machine.specs.World.{block_at, cut_off, freed, is_freed, is_own_in, is_process, is_queue};
+ghost use Rattle.machine.specs.World.{block_at, cut_off, is_freed_at, is_freed, is_own_in, is_process, is_queue};
 
 use crate::worlds::{Block, Owner};
 use program::{HeapType, MessageId, StateId, StructId};
@@ -58,7 +58,7 @@ pub(crate) fn own(blocks: &[Block], process: usize, address: Option<usize>) -> O
 
 /// Whether the block at an address is freed.
 pub(crate) fn is_freed(blocks: &[Block], a: usize) -> bool
-    ensures { result ≡ freed (blocks_model blocks.now) a }
+    ensures { result ≡ is_freed_at (blocks_model blocks.now) a }
 {
     match blocks.get(a) {
         Some(block) => block.owner.is_freed(),

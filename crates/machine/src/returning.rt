@@ -6,7 +6,7 @@ ghost use Rattle.program.specs.declared.number.VarId.{VarId};
 ghost use Rattle.source.specs.declared.place.Place.{Place};
 ghost use Rattle.flow.specs.Graphs.{Return};
 ghost use Rattle.rules.specs.Programs.{model_of};
-ghost use Rattle.machine.specs.Answers.{Tells, ended, given_back, on_stack, with_stack, with_variables};
+ghost use Rattle.machine.specs.Answers.{Tells, outcome_of_end, given_back, on_stack, with_stack, with_variables};
 ghost use Rattle.machine.specs.Outcomes.{QueueBounds, Faulty};
 ghost use Rattle.machine.specs.Views.{blocks_model, frame_model, stack_of, stack_model};
 ghost use Rattle.machine.specs.World as seen;
@@ -25,7 +25,7 @@ fn can_give(stack: &Process, blocks: &[Block], process: usize, value: Option<Men
     ensures may { IsTrue result → (p : ProgramModel) (bound : QueueBounds) (w : seen.World) (place : Place) (scope : Option VarId) →
         w.blocks ≡ blocks_model blocks.now →
         on_stack p bound w process (Return place value scope) 0 (stack_model stack.now)
-        ≡ ended p bound w process value (stack_model stack.now) }
+        ≡ outcome_of_end p bound w process value (stack_model stack.now) }
     ensures fault { IsFalse result → (p : ProgramModel) (bound : QueueBounds) (w : seen.World) (place : Place) (scope : Option VarId) →
         w.blocks ≡ blocks_model blocks.now →
         on_stack p bound w process (Return place value scope) 0 (stack_model stack.now) ≡ Faulty F3 }
@@ -65,7 +65,7 @@ pub(crate) fn end(
 ) -> Result<(), Refusal>
     requires top { IsSome stack.old.top }
     ensures tells { (bound : QueueBounds) (w : seen.World) → w.blocks ≡ blocks_model heap.now.blocks.items →
-        Tells result (ended (model_of program.now) bound w process value (stack_model stack.old))
+        Tells result (outcome_of_end (model_of program.now) bound w process value (stack_model stack.old))
         (with_stack w process (stack_model stack.new) (blocks_model heap.now.blocks.items)) }
     ensures same { OnErr result (stack_model stack.new ≡ stack_model stack.old) }
 {

@@ -5,7 +5,7 @@ ghost use Rattle.flow.specs.Graphs.{instruction_model};
 ghost use Rattle.flow.specs.declared.graph.Instr.{Instr};
 ghost use Rattle.rules.specs.Programs.{model_of};
 ghost use Rattle.machine.specs.Answers.{Tells, on_top};
-ghost use Rattle.machine.specs.Machine.{event_of};
+ghost use Rattle.machine.specs.Machine.{outcome_from};
 ghost use Rattle.machine.specs.Outcomes.{QueueBounds};
 ghost use Rattle.machine.specs.Runs.{AreBounds};
 ghost use Rattle.machine.specs.Views.{blocks_model, frame_model};
@@ -32,7 +32,7 @@ pub(crate) fn send(
 ) -> Result<(), Refusal>
     ensures tells { (bound : QueueBounds) (w : seen.World) (rest : List seen.Frame) → AreBounds (model_of program.now) bound →
         w.blocks ≡ blocks_model heap.old.blocks.items →
-        Tells result (event_of (model_of program.now) bound w process (frame_model frame.old) rest
+        Tells result (outcome_from (model_of program.now) bound w process (frame_model frame.old) rest
         (instruction_model (Instr.Send sending.now)) 0)
         (on_top w.processes process rest (frame_model frame.new) (blocks_model heap.new.blocks.items)) }
     ensures same { OnErr result (frame_model frame.new ≡ frame_model frame.old) }

@@ -9,7 +9,7 @@ ghost use Rattle.program.specs.Programs.{ProgramModel};
 ghost use Rattle.rules.specs.Programs.{model_of};
 ghost use Rattle.machine.specs.Answers.{IsRefusal, Pass, Tells, on_top};
 ghost use Rattle.machine.specs.Bindings.{AllMayTake};
-ghost use Rattle.machine.specs.Machine.{event_of, receives, receives_at};
+ghost use Rattle.machine.specs.Machine.{outcome_from, receives, receives_at};
 ghost use Rattle.machine.specs.Outcomes.{QueueBounds, Moved, test};
 ghost use Rattle.machine.specs.Views.{blocks_model, frame_model};
 ghost use Rattle.machine.specs.World as seen;
@@ -153,7 +153,7 @@ pub(crate) fn switch(
     requires there { choice < length (first_mentions [] (cases_model cases.now)) }
     ensures tells { (bound : QueueBounds) (w : seen.World) (rest : List seen.Frame) (place : Place) →
         w.blocks ≡ blocks_model heap.old.blocks.items →
-        Tells result (event_of (model_of program.now) bound w process (frame_model frame.old) rest
+        Tells result (outcome_from (model_of program.now) bound w process (frame_model frame.old) rest
         (graphs.Switch place (cases_model cases.now)) choice)
         (on_top w.processes process rest (frame_model frame.new) (blocks_model heap.new.blocks.items)) }
     ensures same { OnErr result (frame_model frame.new ≡ frame_model frame.old) }

@@ -14,7 +14,7 @@ use Rattle.names.specs.Expressions.{InScope, type_of, place_of, signed_type, sig
 use Rattle.declarations.specs.Mistakes.{Adds}
 use Rattle.declarations.specs.Types.{is_unknown}
 use Rattle.names.specs.Operands.{IsOperand, Judges, IsJoined, IsSigned}
-use Rattle.names.specs.Shapes.{Shape, Joined, Joint, Signed, joint_of, sign_of, signed, shape, joined, atom_shape}
+use Rattle.names.specs.Shapes.{Shape, Joined, Joint, Signed, joint_of, sign_of, with_signs, shape, joined, atom_shape}
 use Rattle.declarations.specs.declared.value_type.ValueType.{ValueType}
 use Rattle.declarations.specs.declared.value_type.ValueType.TheVariants as ty
 use Rattle.names.specs.declared.operands.Operand.{Operand}
@@ -91,14 +91,14 @@ judges_step l p q {scope = scope} {variables = variables} {old = old} {new = new
 -- an atom, with signs before it
 pub judges_signed : (ps qs : List Prefix) (a : AtomTree) (tree : LevelTree levels.Single) (r : Result Operand Memory) (new : List Mistake) {scope : Scope} {variables : ScopeVariables} {old mid : List Mistake} {inner : Operand}
     → ps ≡ qs → tree ≡ Unary qs a → Judges scope variables (atom_shape a) old mid inner
-    → IfOk r (λ o. (s : InScope) (e : Shape) (start : List Mistake) → IsOperand s e start mid inner → IsOperand s (signed ps e) start new o)
+    → IfOk r (λ o. (s : InScope) (e : Shape) (start : List Mistake) → IsOperand s e start mid inner → IsOperand s (with_signs ps e) start new o)
     → IfOk r (Judges scope variables (shape tree) old new)
 judges_signed ps qs a tree (Err e) new same seen first all = tt
 judges_signed ps qs a tree (Ok o) new {scope = scope} {variables = variables} {old = old} same seen first all =
     subst (λ t. Judges scope variables (shape t) old new o) (sym seen)
-    (subst (λ rs. Judges scope variables (signed rs (atom_shape a)) old new o) same
+    (subst (λ rs. Judges scope variables (with_signs rs (atom_shape a)) old new o) same
     (record { all = λ p f is_scope is_frame. all _ (atom_shape a) old (first.all p f is_scope is_frame) }))
 
 -- one more sign, from behind
-pub judged_more : (s : InScope) (e : Shape) (ps : List Prefix) (p : Prefix) {old mid new : List Mistake} {inner o : Operand} → IsOperand s (signed ps e) old mid inner → IsSigned (sign_of p.operator) p.span.place inner mid new o → IsOperand s (signed (p ∷ ps) e) old new o
-judged_more s e ps p = judged_signed s p (signed ps e)
+pub judged_more : (s : InScope) (e : Shape) (ps : List Prefix) (p : Prefix) {old mid new : List Mistake} {inner o : Operand} → IsOperand s (with_signs ps e) old mid inner → IsSigned (sign_of p.operator) p.span.place inner mid new o → IsOperand s (with_signs (p ∷ ps) e) old new o
+judged_more s e ps p = judged_signed s p (with_signs ps e)

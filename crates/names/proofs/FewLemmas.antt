@@ -5,7 +5,7 @@ use Rattle.std.proofs.lemmas.List.{length-append}
 use Rattle.source.specs.declared.kind.Kind.TheVariants.{CloseBrace}
 use Rattle.tree.specs.Grammar as grammar
 use Rattle.tree.specs.Programs as programs
-use Rattle.tree.specs.Spelling.{optional, placed, word}
+use Rattle.tree.specs.Spelling.{optional, token_at, word}
 use Rattle.std.proofs.lemmas.Grind.{flat_map-append}
 use Rattle.tree.specs.Trees.{ContractTree, DefinitionTree, Contract, Struct, Class, ItemTree, MemberTree, Message, MessageTree, State, contract_of, contracts_of, program_tree}
 use Rattle.tree.specs.declared.item as tree
@@ -32,7 +32,7 @@ among_members (State s ∷ members) =
 
 in_contract : (c : ContractTree) → length (messages_of c) ≤ length (grammar.contract c)
 in_contract c =
-    let close = placed CloseBrace c.close in
+    let close = token_at CloseBrace c.close in
     let members = flat_map grammar.member c.members in
     let first = listed_messages c.messages in
     let rest = among_members c.members in

@@ -118,16 +118,16 @@ awaiting_close text name (x ∷ xs) =
     ∙ ap (λ b. (same_name text x.endpoint name && is_closed x.awaited) || b) (awaiting_close text name xs)
 
 -- a head that an earlier one is like
-pub found_twice : (text : List ℕ) (all : List Head) (h : Head) (place : ℕ) → is_before place (key_at text (head_words text h) all) ≡ awaits_too text h (take place all)
-found_twice text all h place = first_before (λ x. same_key (head_words text h) (head_words text x)) all place ∙ awaiting_too text h (take place all)
+pub found_twice : (text : List ℕ) (all : List Head) (h : Head) (index : ℕ) → is_before index (key_at text (head_words text h) all) ≡ awaits_too text h (take index all)
+found_twice text all h index = first_before (λ x. same_key (head_words text h) (head_words text x)) all index ∙ awaiting_too text h (take index all)
 
 -- an endpoint that an earlier head names
-pub found_named : (text : List ℕ) (all : List Head) (name : Span) (place : ℕ) → is_before place (position (same_word (word_at text name)) (words_at text (map (λ h. h.endpoint) all))) ≡ names_endpoint text name (take place all)
-found_named text all name place =
-    ap (λ l. is_before place (position (same_word (word_at text name)) l)) (mapped (word_at text) (λ h. h.endpoint) all)
-    ∙ ap (is_before place) (position_mapped (same_word (word_at text name)) (λ h. word_at text h.endpoint) all)
-    ∙ first_before (λ h. same_word (word_at text name) (word_at text h.endpoint)) all place
-    ∙ naming text name (take place all)
+pub found_named : (text : List ℕ) (all : List Head) (name : Span) (index : ℕ) → is_before index (position (same_word (word_at text name)) (words_at text (map (λ h. h.endpoint) all))) ≡ names_endpoint text name (take index all)
+found_named text all name index =
+    ap (λ l. is_before index (position (same_word (word_at text name)) l)) (mapped (word_at text) (λ h. h.endpoint) all)
+    ∙ ap (is_before index) (position_mapped (same_word (word_at text name)) (λ h. word_at text h.endpoint) all)
+    ∙ first_before (λ h. same_word (word_at text name) (word_at text h.endpoint)) all index
+    ∙ naming text name (take index all)
 
 -- an endpoint whose close a head awaits
 pub found_closed : (text : List ℕ) (all : List Head) (name : Span) → is_some (key_at text (word_at text name, None) all) ≡ awaits_closed text name all

@@ -19,20 +19,20 @@ use Rattle.declarations.specs.declared.scope.Scope.{Scope}
 
 -- the field of a struct that was found
 abbrev InStruct : InScope → List ℕ → ℕ → Span → Fields → List Mistake → List Mistake → ValueType → Type 0
-InStruct s text place field f old new k = (x : StructTree) → AreFieldsOf text x f → IsGiven (struct_field_type s (field_named text x field)) (if is_some (field_named text x field) then [] else Unknown field (sort.Field place) ∷ []) old new k
+InStruct s text index field f old new k = (x : StructTree) → AreFieldsOf text x f → IsGiven (struct_field_type s (field_named text x field)) (if is_some (field_named text x field) then [] else Unknown field (sort.Field index) ∷ []) old new k
 
-given_in : (s : InScope) (field : Span) (f : Fields) (old new : List Mistake) (k : ValueType) (place : ℕ) (o : Option (ℕ × StructTree)) → item_at as_struct s.program place ≡ o → IsStruct s.program.text o (Some (place, f)) → InStruct s s.program.text place field f old new k
-    → IsGiven (field_type s (ty.Pointer place) field) (field_mistakes s (ty.Pointer place) field field) old new k
-given_in s field f old new k place None is h all = absurd h
-given_in s field f old new k place (Some x) is h all = rw is (all x.1 h.1)
+given_in : (s : InScope) (field : Span) (f : Fields) (old new : List Mistake) (k : ValueType) (index : ℕ) (o : Option (ℕ × StructTree)) → item_at as_struct s.program index ≡ o → IsStruct s.program.text o (Some (index, f)) → InStruct s s.program.text index field f old new k
+    → IsGiven (field_type s (ty.Pointer index) field) (field_mistakes s (ty.Pointer index) field field) old new k
+given_in s field f old new k index None is h all = absurd h
+given_in s field f old new k index (Some x) is h all = rw is (all x.1 h.1)
 
-pub given_pointed : (scope : Scope) (field : Span) (f : Fields) (old new : List Mistake) (place : ℕ) (r : Result ValueType Memory)
-    → ((p : ProgramText) → IsScope p scope → IsStruct p.text (item_at as_struct p place) (Some (place, f)))
+pub given_pointed : (scope : Scope) (field : Span) (f : Fields) (old new : List Mistake) (index : ℕ) (r : Result ValueType Memory)
+    → ((p : ProgramText) → IsScope p scope → IsStruct p.text (item_at as_struct p index) (Some (index, f)))
     → IfOk r (λ k. (s : InScope) (x : StructTree) → IsScope s.program scope → AreFieldsOf scope.text.now x f
-    → IsGiven (struct_field_type s (field_named scope.text.now x field)) (if is_some (field_named scope.text.now x field) then [] else Unknown field (sort.Field place) ∷ []) old new k)
-    → IfOk r (GivesIn scope (λ s. field_type s (ty.Pointer place) field) (λ s. field_mistakes s (ty.Pointer place) field field) old new)
-given_pointed scope field f old new place (Err e) struct all = tt
-given_pointed scope field f old new place (Ok k) struct all = record {
-  all = λ s is_scope. given_in s field f old new k place _ (refl) (struct s.program is_scope)
-      (subst (λ text. InStruct s text place field f old new k) is_scope.text_is (λ x. all s x is_scope));
+    → IsGiven (struct_field_type s (field_named scope.text.now x field)) (if is_some (field_named scope.text.now x field) then [] else Unknown field (sort.Field index) ∷ []) old new k)
+    → IfOk r (GivesIn scope (λ s. field_type s (ty.Pointer index) field) (λ s. field_mistakes s (ty.Pointer index) field field) old new)
+given_pointed scope field f old new index (Err e) struct all = tt
+given_pointed scope field f old new index (Ok k) struct all = record {
+  all = λ s is_scope. given_in s field f old new k index _ (refl) (struct s.program is_scope)
+      (subst (λ text. InStruct s text index field f old new k) is_scope.text_is (λ x. all s x is_scope));
 }

@@ -42,15 +42,15 @@ no_send s ty.Unknown purpose variable word arguments other = refl
 abbrev owning_of : Option (ℕ × StructTree) → Option (ℕ × List made.Field.Field)
 owning_of o = option_map (λ s. (s.0, owning_fields s.1)) o
 
-pub record Structured (o : Option (ℕ × StructTree)) (place : ℕ) (fields : List made.Field.Field) : Type 0 where
+pub record Structured (o : Option (ℕ × StructTree)) (index : ℕ) (fields : List made.Field.Field) : Type 0 where
   pub structure : StructTree
-  pub is : o ≡ Some (place, structure)
+  pub is : o ≡ Some (index, structure)
   pub owning : fields ≡ owning_fields structure
 
-pub structured : (o : Option (ℕ × StructTree)) (place : ℕ) (fields : List made.Field.Field) → owning_of o ≡ Some (place, fields) → Structured o place fields
-structured None place fields is = cc
-structured (Some s) place fields is =
-    let here : s.0 ≡ place = ap (λ (o : Option (ℕ × List made.Field.Field)). option_map_or (λ x. x.0) o 0) is in
+pub structured : (o : Option (ℕ × StructTree)) (index : ℕ) (fields : List made.Field.Field) → owning_of o ≡ Some (index, fields) → Structured o index fields
+structured None index fields is = cc
+structured (Some s) index fields is =
+    let here : s.0 ≡ index = ap (λ (o : Option (ℕ × List made.Field.Field)). option_map_or (λ x. x.0) o 0) is in
     record {
       structure = s.1;
       is = ap (λ n. Some (n, s.1)) here;

@@ -7,7 +7,7 @@ use Rattle.declarations.specs.declared.mistake.Mistake.{Mistake}
 use Rattle.tree.specs.Operators.{Add, Multiply, Single}
 use Rattle.tree.specs.Operators as levels
 use Rattle.tree.specs.Expressions.{LevelTree, Chain}
-use Rattle.tree.specs.Factors.{FactorTree, before_sum, gathered}
+use Rattle.tree.specs.Factors.{FactorTree, before_sum, sum_of_factors}
 use Rattle.tree.specs.declared.expression.FactorOperator.{FactorOperator}
 use Rattle.tree.specs.declared.expression.FactorOperator.TheVariants as operators
 use Rattle.tree.specs.declared.expression.SumOperator.{SumOperator}
@@ -40,13 +40,13 @@ from_plus before f u o (Chain _ (Chain _ v vs) others) = refl
 from_none : (g : LevelTree (levels.Joined Add)) → sum_from None (λ e. e) g ≡ shape g
 from_none (Chain _ (Chain _ v vs) others) = refl
 
-gathered_from : (before : Option Shape) (f : Shape → Shape) (u : LevelTree Single) (fs : List FactorTree) → whole (with_factors (record { before = before; last = f (shape u) }) fs) ≡ sum_from before f (gathered u fs)
+gathered_from : (before : Option Shape) (f : Shape → Shape) (u : LevelTree Single) (fs : List FactorTree) → whole (with_factors (record { before = before; last = f (shape u) }) fs) ≡ sum_from before f (sum_of_factors u fs)
 gathered_from before f u [] = refl
-gathered_from before f u ((operators.Times, v) ∷ fs) = gathered_from before (Joined Sum (f (shape u))) v fs ∙ from_times before f u (gathered v fs)
-gathered_from before f u ((operators.Sum o, v) ∷ fs) = gathered_from (Some (behind before (f (shape u)))) (λ e. e) v fs ∙ from_plus before f u o (gathered v fs)
+gathered_from before f u ((operators.Times, v) ∷ fs) = gathered_from before (Joined Sum (f (shape u))) v fs ∙ from_times before f u (sum_of_factors v fs)
+gathered_from before f u ((operators.Sum o, v) ∷ fs) = gathered_from (Some (behind before (f (shape u)))) (λ e. e) v fs ∙ from_plus before f u o (sum_of_factors v fs)
 
-gathered_whole : (u : LevelTree Single) (fs : List FactorTree) → whole (with_factors (first_term (shape u)) fs) ≡ shape (gathered u fs)
-gathered_whole u fs = gathered_from None (λ e. e) u fs ∙ from_none (gathered u fs)
+gathered_whole : (u : LevelTree Single) (fs : List FactorTree) → whole (with_factors (first_term (shape u)) fs) ≡ shape (sum_of_factors u fs)
+gathered_whole u fs = gathered_from None (λ e. e) u fs ∙ from_none (sum_of_factors u fs)
 
 -- the first term
 pub judges_first : (e : Shape) {scope : Scope} {variables : ScopeVariables} {old new : List Mistake} {o : Operand} {terms : Terms} → ((s : InScope) (e : Shape) (old new : List Mistake) → IsOperand s e old new o → IsJudgedTerms s (first_term e) old new terms)
@@ -105,7 +105,7 @@ judges_factor f t xs i x {scope = scope} {variables = variables} {old = old} {ne
 -- all terms, joined
 pub judges_factors : {X : Type 0} (f : X → FactorTree) (u : LevelTree Single) (second : FactorTree) (xs ys : List X) (i : ℕ) (tree : LevelTree (levels.Joined Add)) (r : Result Operand Memory) (new : List Mistake)
     {scope : Scope} {variables : ScopeVariables} {old mid : List Mistake} {terms : Terms}
-    → length xs ≤ i → xs ≡ ys → tree ≡ gathered u (second ∷ map f ys) → JudgesTerms scope variables (factors_to f (with_factor (first_term (shape u)) second) xs i) old mid terms
+    → length xs ≤ i → xs ≡ ys → tree ≡ sum_of_factors u (second ∷ map f ys) → JudgesTerms scope variables (factors_to f (with_factor (first_term (shape u)) second) xs i) old mid terms
     → IfOk r (λ o. (s : InScope) (t : TermShapes) (start : List Mistake) → IsJudgedTerms s t start mid terms → IsOperand s (whole t) start new o)
     → IfOk r (Judges scope variables (shape tree) old new)
 judges_factors f u second xs ys i tree (Err e) new le same seen h all = tt

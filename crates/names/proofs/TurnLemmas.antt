@@ -4,7 +4,7 @@ use Rattle.std.specs.Prelude.{Result, Ok, Err, OnOk}
 use Rattle.declarations.specs.declared.mistake.Mistake.{Mistake}
 use Rattle.declarations.specs.Mistakes.{Adds}
 use Rattle.names.specs.Frames.{IsNameFrame, Turned}
-use Rattle.names.specs.Variables.{NameFrame, CheckedPiece, turn, before, follow, closed}
+use Rattle.names.specs.Variables.{NameFrame, CheckedPiece, turn, before, follow, after_block}
 use Rattle.names.specs.declared.variables.ScopeVariables.{ScopeVariables}
 use Rattle.declarations.proofs.AddLemmas.{adds_then}
 
@@ -59,7 +59,7 @@ pub ends : {text : List ℕ} {old new : List Mistake} {v : ScopeVariables} {whol
 ends {new = new} o = ends_by (turn []) o (stays o.stands (record { all = sym (append-nil new) }))
 
 -- the end of a scope
-pub closes : {text : List ℕ} {old new : List Mistake} {w : ScopeVariables} (f : NameFrame) (t : CheckedPiece) → take (length f.variables) t.frame.variables ≡ f.variables → Adds old new t.found → IsNameFrame text (record { variables = take (length f.variables) t.frame.variables; heap = t.frame.heap }) w → Turned text old new w (closed f t)
+pub closes : {text : List ℕ} {old new : List Mistake} {w : ScopeVariables} (f : NameFrame) (t : CheckedPiece) → take (length f.variables) t.frame.variables ≡ f.variables → Adds old new t.found → IsNameFrame text (record { variables = take (length f.variables) t.frame.variables; heap = t.frame.heap }) w → Turned text old new w (after_block f t)
 closes {text = text} {w = w} f t kept adds frame = record {
   found = adds;
   frame = subst (λ vs. IsNameFrame text (record { variables = vs; heap = t.frame.heap }) w) kept frame;
@@ -75,7 +75,7 @@ adds_before more t adds turned = record { found = adds_then adds turned.found; f
 -- a scope that is left
 pub leaves : {tokens text : List ℕ} {old new : List Mistake} {v w : ScopeVariables} {outer : ℕ} (f : NameFrame) (t : CheckedPiece) → tokens ≡ text → outer ≡ length f.variables
     → ((g : NameFrame) → IsNameFrame tokens g v → IsNameFrame tokens (record { variables = take outer g.variables; heap = g.heap }) w)
-    → take (length f.variables) t.frame.variables ≡ f.variables → Turned text old new v t → Turned text old new w (closed f t)
+    → take (length f.variables) t.frame.variables ≡ f.variables → Turned text old new v t → Turned text old new w (after_block f t)
 leaves {tokens = tokens} {text = text} {v = v} {w = w} {outer = outer} f t same size left kept turned =
     let here = subst (λ u. IsNameFrame u t.frame v) (sym same) turned.frame in
     let there = subst (λ u. IsNameFrame u (record { variables = take outer t.frame.variables; heap = t.frame.heap }) w) same (left t.frame here) in

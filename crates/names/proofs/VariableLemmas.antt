@@ -30,14 +30,14 @@ words_push text variables v =
     ap (words_at text) (map-append (λ (x : model.ScopeVariable). x.name) variables (v ∷ []))
     ∙ map-append (word_at text) (map (λ (x : model.ScopeVariable). x.name) variables) (v.name ∷ [])
 
-named_at : (text : List ℕ) (f : NameFrame) (v : ScopeVariables) → IsNameFrame text f v → (place : Option ℕ) → option_map variable_model (option_and_then (slice_get v.list.items) place) ≡ option_and_then (slice_get f.variables) place
+named_at : (text : List ℕ) (f : NameFrame) (v : ScopeVariables) → IsNameFrame text f v → (index : Option ℕ) → option_map variable_model (option_and_then (slice_get v.list.items) index) ≡ option_and_then (slice_get f.variables) index
 named_at text f v h None = refl
 named_at text f v h (Some k) = sym (slice_get-map variable_model v.list.items k) ∙ ap (λ l. slice_get l k) h.list
 
 -- the variable that a table of names leads to
-pub variable_found : (text : List ℕ) (f : NameFrame) (v : ScopeVariables) (name : Span) (place : Option ℕ) → IsNameFrame text f v → place ≡ first_of (words_in text f.variables) (word_at text name)
-    → option_map variable_model (option_and_then (slice_get v.list.items) place) ≡ variable_named text f.variables name
-variable_found text f v name place h is = named_at text f v h place ∙ ap (option_and_then (slice_get f.variables)) is
+pub variable_found : (text : List ℕ) (f : NameFrame) (v : ScopeVariables) (name : Span) (index : Option ℕ) → IsNameFrame text f v → index ≡ first_of (words_in text f.variables) (word_at text name)
+    → option_map variable_model (option_and_then (slice_get v.list.items) index) ≡ variable_named text f.variables name
+variable_found text f v name index h is = named_at text f v h index ∙ ap (option_and_then (slice_get f.variables)) is
 
 here : Span → ValueType → model.ScopeVariable
 here name k = record { name = name; ty = k }

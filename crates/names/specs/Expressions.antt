@@ -27,8 +27,8 @@ pub record InScope : Type 0 where
   pub variables : List ScopeVariable
 
 -- the variable that a name means
-abbrev pub meant : InScope → Span → Option ScopeVariable
-meant s name = variable_named s.program.text s.variables name
+abbrev pub variable_of : InScope → Span → Option ScopeVariable
+variable_of s name = variable_named s.program.text s.variables name
 
 abbrev pub is_length : InScope → Span → Bool
 is_length s name = same_word (word_at s.program.text name) (codes "Length")
@@ -73,9 +73,9 @@ element_type (ty.Array element) lost = if lost then ty.Unknown else ty.Scalar el
 element_type _ lost = if lost then ty.Unknown else ty.Missing
 
 -- the type of what is meant by a name; of a name that nothing declares it is unknown
-abbrev pub held : Option ScopeVariable → ValueType
-held None = ty.Unknown
-held (Some v) = v.ty
+abbrev pub variable_type : Option ScopeVariable → ValueType
+variable_type None = ty.Unknown
+variable_type (Some v) = v.ty
 
 abbrev pub joined_type : Joint → ValueType
 joined_type Sum = ty.Scalar scalar.Int
@@ -89,9 +89,9 @@ signed_type Minus = ty.Scalar scalar.Int
 abbrev pub type_of : InScope → Shape → ValueType
 type_of s (Number place) = ty.Scalar scalar.Int
 type_of s (Truth place) = ty.Scalar scalar.Bool
-type_of s (Mention name) = held (meant s name)
-type_of s (Field name field) = field_type s (held (meant s name)) field
-type_of s (Element name index) = element_type (held (meant s name)) (is_unknown (type_of s index))
+type_of s (Mention name) = variable_type (variable_of s name)
+type_of s (Field name field) = field_type s (variable_type (variable_of s name)) field
+type_of s (Element name index) = element_type (variable_type (variable_of s name)) (is_unknown (type_of s index))
 type_of s (Parens place inner) = type_of s inner
 type_of s (Signed sign place inner) = if is_unknown (type_of s inner) then ty.Unknown else signed_type sign
 type_of s (Joined joint left right) = if is_unknown (type_of s left) || is_unknown (type_of s right) then ty.Unknown
@@ -128,12 +128,12 @@ sign_asked Minus k place = asked_number k place
 
 -- a variable has to be declared
 abbrev pub variable_mistakes : InScope → Span → List Mistake
-variable_mistakes s name = if is_some (meant s name) then [] else Unknown name (sort.Variable (length s.variables)) ∷ []
+variable_mistakes s name = if is_some (variable_of s name) then [] else Unknown name (sort.Variable (length s.variables)) ∷ []
 
 -- a variable of the exchange heap does not stand within an expression
 abbrev pub mention_mistakes : InScope → Span → List Mistake
 mention_mistakes s name = variable_mistakes s name
-    ++ unless (not (is_block (held (meant s name)))) name.place (Given demand.NoBlock (held (meant s name)))
+    ++ unless (not (is_block (variable_type (variable_of s name)))) name.place (Given demand.NoBlock (variable_type (variable_of s name)))
 
 -- only an array has elements
 abbrev pub element_mistakes : ValueType → Span → List Mistake
@@ -153,11 +153,11 @@ expression_mistakes s (Number place) = []
 expression_mistakes s (Truth place) = []
 expression_mistakes s (Mention name) = mention_mistakes s name
 expression_mistakes s (Field name field) =
-    variable_mistakes s name ++ (field_mistakes s (held (meant s name)) name field
-    ++ unless (not (owns s (held (meant s name)) field)) name.place FieldOwns)
+    variable_mistakes s name ++ (field_mistakes s (variable_type (variable_of s name)) name field
+    ++ unless (not (owns s (variable_type (variable_of s name)) field)) name.place FieldOwns)
 expression_mistakes s (Element name index) =
     expression_mistakes s index ++ (asked_number (type_of s index) (place_of index)
-    ++ (variable_mistakes s name ++ element_mistakes (held (meant s name)) name))
+    ++ (variable_mistakes s name ++ element_mistakes (variable_type (variable_of s name)) name))
 expression_mistakes s (Parens place inner) = expression_mistakes s inner
 expression_mistakes s (Signed sign place inner) = expression_mistakes s inner ++ sign_asked sign (type_of s inner) (place_of inner)
 expression_mistakes s (Joined joint left right) =

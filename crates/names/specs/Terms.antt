@@ -36,12 +36,12 @@ abbrev pub whole : TermShapes → Shape
 whole t = behind t.before t.last
 
 -- the terms with one more factor
-abbrev pub multiplied : TermShapes → FactorOperator → Shape → TermShapes
-multiplied t operators.Times e = record { before = t.before; last = Joined Sum t.last e }
-multiplied t (operators.Sum o) e = record { before = Some (whole t); last = e }
+abbrev pub terms_with_factor : TermShapes → FactorOperator → Shape → TermShapes
+terms_with_factor t operators.Times e = record { before = t.before; last = Joined Sum t.last e }
+terms_with_factor t (operators.Sum o) e = record { before = Some (whole t); last = e }
 
 abbrev pub with_factor : TermShapes → FactorTree → TermShapes
-with_factor t f = multiplied t f.0 (shape f.1)
+with_factor t f = terms_with_factor t f.0 (shape f.1)
 
 -- the terms with all of these
 abbrev pub with_factors : TermShapes → List FactorTree → TermShapes

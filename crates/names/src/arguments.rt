@@ -59,8 +59,8 @@ pub(crate) fn judge_arguments(
         → OnOk result (Adds found.old.items found.new.items (argument_mistakes
         (record { program = p; variables = f.variables }) asked.now (map shape (map expression_tree arguments.now)))) }
 {
-    for (place, argument) in arguments.iter().enumerate() {
-        let ty = type_at(asked, place);
+    for (index, argument) in arguments.iter().enumerate() {
+        let ty = type_at(asked, index);
         judge_argument(scope, variables, ty, argument, found)?;
     }
     Ok(())

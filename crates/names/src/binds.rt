@@ -125,8 +125,8 @@ pub(crate) fn judge_bound<'a>(
     ensures { (p : ProgramText) (f : NameFrame) → IsScope p scope.now → IsNameFrame p.text f variables.old
         → OnOk result (Turned p.text found.old.items found.new.items variables.new (binds_turn p parameters.now binds.now f)) }
 {
-    for (place, bind) in binds.iter().enumerate() {
-        let parameter = parameter_at(parameters, place);
+    for (index, bind) in binds.iter().enumerate() {
+        let parameter = parameter_at(parameters, index);
         judge_bind(alloc, scope, variables, parameter, *bind, found)?;
     }
     Ok(())

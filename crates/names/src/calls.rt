@@ -6,7 +6,7 @@ ghost use Rattle.tree.specs.ExpressionTrees.{expression_tree};
 ghost use Rattle.tree.specs.Trees.{ContractTree, MethodTree, ClassTree, message_tree, method_tree};
 ghost use Rattle.tree.specs.Values.{call_tree};
 ghost use Rattle.names.specs.Bodies as bodies;
-ghost use Rattle.names.specs.Expressions.{meant, held};
+ghost use Rattle.names.specs.Expressions.{variable_of, variable_type};
 ghost use Rattle.declarations.specs.Mistakes.{Adds};
 ghost use Rattle.names.specs.Frames.{IsContext, IsNameFrame, AreSurroundings, variable_model};
 ghost use Rattle.declarations.specs.Program.{ProgramText, class_named};
@@ -328,7 +328,7 @@ fn judge_member(
 ) -> Result<(), Memory>
     ensures { (p : ProgramText) (f : NameFrame) → IsContext p f context.now
         → OnOk result (Adds found.old.items found.new.items (member_mistakes (in_frame p f)
-        (meant (in_frame p f) front) site.now.purpose front site.now.name
+        (variable_of (in_frame p f) front) site.now.purpose front site.now.name
         (map shape (map expression_tree site.now.arguments.now)))) }
 {
     match context.variables.find(context.scope.text, front) {

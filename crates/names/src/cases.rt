@@ -5,7 +5,7 @@ ghost use Rattle.tree.specs.Trees.{message_tree};
 ghost use Rattle.names.specs.Cases.{Head, awaits_too, awaited_mistakes, endpoint_head_mistakes, type_head_mistakes};
 ghost use Rattle.names.specs.Cases.{other_head_mistakes, head_mistakes, binds_turn, awaited_message};
 ghost use Rattle.declarations.specs.Declarations.{bound_params};
-ghost use Rattle.names.specs.Expressions.{meant, held};
+ghost use Rattle.names.specs.Expressions.{variable_of, variable_type};
 ghost use Rattle.declarations.specs.Mistakes.{Adds};
 ghost use Rattle.names.specs.Frames.{IsContext, IsNameFrame, Turned};
 ghost use Rattle.names.specs.Operands.{in_frame};
@@ -151,7 +151,7 @@ pub(crate) fn judge_binds<'a>(
 ) -> Result<(), Memory>
     ensures { (p : ProgramText) (f : NameFrame) → IsScope p scope.now → IsNameFrame p.text f variables.old → OnOk result
         (Turned p.text found.old.items found.new.items variables.new (binds_turn p (bound_params (awaited_message (in_frame p f)
-        (held (meant (in_frame p f) case.now.endpoint)) case.now.message)) case.now.binds.items f)) }
+        (variable_type (variable_of (in_frame p f) case.now.endpoint)) case.now.message)) case.now.binds.items f)) }
 {
     let binds = &case.binds;
     match held_type(scope, variables, case.endpoint) {

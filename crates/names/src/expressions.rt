@@ -10,7 +10,7 @@ ghost use Rattle.names.specs.Frames.{IsNameFrame};
 ghost use Rattle.names.specs.Operands.{IsOperand, Judges};
 ghost use Rattle.declarations.specs.Program.{ProgramText};
 ghost use Rattle.declarations.specs.Scopes.{IsScope};
-ghost use Rattle.names.specs.Shapes.{Shape, shape, atom_shape, target_shape, signed};
+ghost use Rattle.names.specs.Shapes.{Shape, shape, atom_shape, target_shape, with_signs};
 ghost use Rattle.names.specs.Terms.{JudgesTerms, TermShapes, with_factor};
 ghost use Rattle.names.specs.Variables.{NameFrame};
 
@@ -214,7 +214,7 @@ fn judge_signs(
     found: &mut Vec<Mistake>,
 ) -> Result<Operand, Memory>
     ensures { IfOk result (λ o. (s : InScope) (e : Shape) (start : List MistakeModel) → IsOperand s e start found.old.items inner
-        → IsOperand s (signed prefixes.now e) start found.new.items o) }
+        → IsOperand s (with_signs prefixes.now e) start found.new.items o) }
 {
     let mut operand = inner;
     let mut left = prefixes.len();

@@ -4,7 +4,7 @@ ghost use Rattle.std.specs.Prelude.{◌≡◌, ℕ, List, [], ◌∷◌, OnOk, I
 ghost use Rattle.declarations.specs.declared.mistake.Mistake.{Mistake as MistakeModel};
 ghost use Rattle.source.specs.declared.token.Span.{Span};
 ghost use Rattle.tree.specs.Trees.{StructTree};
-ghost use Rattle.names.specs.Expressions.{InScope, meant, held, variable_mistakes, field_type, field_mistakes};
+ghost use Rattle.names.specs.Expressions.{InScope, variable_of, variable_type, variable_mistakes, field_type, field_mistakes};
 ghost use Rattle.names.specs.Expressions.{element_type, element_mistakes, struct_field_type, is_owning, owns};
 ghost use Rattle.declarations.specs.Named.{field_named};
 ghost use Rattle.declarations.specs.Mistakes.{Adds};
@@ -32,7 +32,8 @@ pub(crate) fn judge_variable(
     found: &mut Vec<Mistake>,
 ) -> Result<ValueType, Memory>
     ensures { IfOk result
-        (GivesOperand scope.now variables.now (λ s. held (meant s name)) (λ s. variable_mistakes s name) found.old.items found.new.items) }
+        (GivesOperand scope.now variables.now (λ s. variable_type (variable_of s name)) (λ s. variable_mistakes s name)
+        found.old.items found.new.items) }
 {
     match variables.find(scope.text, name) {
         Some(variable) => Ok(variable.ty),
@@ -167,7 +168,7 @@ fn is_owner(scope: &Scope<'_>, held: ValueType, field: Span) -> bool
     ensures { (s : InScope) → IsScope s.program scope.now → result ≡ owns s held field }
 {
     match held {
-        ValueType::Pointer(place) => is_owning(scope.field(place, field)),
+        ValueType::Pointer(index) => is_owning(scope.field(index, field)),
         _ => false,
     }
 }

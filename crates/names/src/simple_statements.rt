@@ -7,7 +7,7 @@ ghost use Rattle.tree.specs.Values.{value_tree};
 ghost use Rattle.names.specs.Bodies as bodies;
 ghost use Rattle.names.specs.Bodies.{given_mistakes, declaration_turn, delete_mistakes, is_end_of, same_end};
 ghost use Rattle.names.specs.Bodies.{demand_beside, ends_mistakes, new_ends_mistakes, channel_mistakes, return_mistakes};
-ghost use Rattle.names.specs.Expressions.{variable_mistakes, meant, held};
+ghost use Rattle.names.specs.Expressions.{variable_mistakes, variable_of, variable_type};
 ghost use Rattle.declarations.specs.Mistakes.{Adds};
 ghost use Rattle.names.specs.Frames.{IsContext, IsNameFrame, Turned, AreSurroundings};
 ghost use Rattle.names.specs.Operands.{in_frame};
@@ -92,7 +92,7 @@ pub(crate) fn judge_assign<'a>(
 /// The type of what this name means.
 pub(crate) fn held_type(scope: &Scope<'_>, variables: &ScopeVariables<'_>, name: Span) -> ValueType
     ensures { (p : ProgramText) (f : NameFrame) → IsScope p scope.now → IsNameFrame p.text f variables.now
-        → result ≡ held (meant (record { program = p; variables = f.variables }) name) }
+        → result ≡ variable_type (variable_of (record { program = p; variables = f.variables }) name) }
 {
     match variables.find(scope.text, name) {
         Some(variable) => variable.ty,
@@ -205,7 +205,7 @@ fn judge_new_ends(
     let left = held_type(scope, variables, channel.first);
     let right = held_type(scope, variables, channel.second);
     match scope.contract_index(channel.contract) {
-        Some(place) => judge_ends(place, (left, right), channel.first, channel.second, found),
+        Some(index) => judge_ends(index, (left, right), channel.first, channel.second, found),
         None => add_unknown(channel.contract, NameSort::Contract, found),
     }
 }

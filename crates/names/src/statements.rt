@@ -176,8 +176,8 @@ fn judge_switch<'a>(
 {
     let heads = Heads::of(around.alloc, around.scope.text, switch)?;
     judge_case(around, variables, &heads, 0, &switch.first, found)?;
-    for (place, case) in switch.others.iter().enumerate() {
-        judge_case(around, variables, &heads, place + 1, case, found)?;
+    for (index, case) in switch.others.iter().enumerate() {
+        judge_case(around, variables, &heads, index + 1, case, found)?;
     }
     Ok(())
 }

@@ -2,7 +2,7 @@
 
 ghost use Rattle.std.specs.Prelude.{◌++◌, not, IfOk, OnOk};
 ghost use Rattle.tree.specs.ExpressionTrees.{target_tree};
-ghost use Rattle.names.specs.Expressions.{InScope, meant, held, variable_mistakes, field_type, field_mistakes, owns};
+ghost use Rattle.names.specs.Expressions.{InScope, variable_of, variable_type, variable_mistakes, field_type, field_mistakes, owns};
 ghost use Rattle.declarations.specs.Mistakes.{Adds};
 ghost use Rattle.declarations.specs.Types.{unless};
 ghost use Rattle.names.specs.Mentions.{GivesOperand};
@@ -48,10 +48,10 @@ fn judge_field_target(
     field: Span,
     found: &mut Vec<Mistake>,
 ) -> Result<ValueType, Memory>
-    ensures { IfOk result (GivesOperand scope.now variables.now (λ s. field_type s (held (meant s variable)) field)
-        (λ s. variable_mistakes s variable ++ (field_mistakes s (held (meant s variable)) variable field
-        ++ (length_mistakes s (held (meant s variable)) field ++ unless (not (owns s (held (meant s variable)) field)) field.place
-        Mismatch.FieldOwns)))
+    ensures { IfOk result (GivesOperand scope.now variables.now (λ s. field_type s (variable_type (variable_of s variable)) field)
+        (λ s. variable_mistakes s variable ++ (field_mistakes s (variable_type (variable_of s variable)) variable field
+        ++ (length_mistakes s (variable_type (variable_of s variable)) field
+        ++ unless (not (owns s (variable_type (variable_of s variable)) field)) field.place Mismatch.FieldOwns)))
         found.old.items found.new.items) }
 {
     let held = judge_variable(scope, variables, variable, found)?;

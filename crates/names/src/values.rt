@@ -44,10 +44,10 @@ fn judge_structure(
         variables,
     } = *context;
     match scope.owning_fields(name) {
-        Some((place, owning)) => {
+        Some((index, owning)) => {
             judge_count(owning.len(), arguments.len(), name.place, found)?;
             judge_typed_arguments(alloc, scope, variables, owning, arguments, found)?;
-            Ok(ValueType::Pointer(place))
+            Ok(ValueType::Pointer(index))
         }
         None => {
             judge_unknown(context, name, NameSort::Struct, arguments, found)?;

@@ -106,8 +106,8 @@ pub record Setting : Type 0 where
   pub at_continue : Option VarId
 
 -- where this one is the last in scope
-abbrev pub reached : Setting → Option VarId → Setting
-reached s scope = record s { scope = scope }
+abbrev pub with_last : Setting → Option VarId → Setting
+with_last s scope = record s { scope = scope }
 
 -- in a switch that stands there
 abbrev pub in_switch : Setting → Setting
@@ -245,7 +245,8 @@ abbrev mutual
   pub AreStatements : Setting → StatementsModel → (behind : Option VarId) → Type 0
   AreStatements s NoStatement behind = Grows s.variables s.scope behind
   AreStatements s (MoreStatements x xs) behind =
-      (here : Option VarId) × (Grows s.variables s.scope here × (IsStatement (reached s here) x × AreStatements (reached s here) xs behind))
+      (here : Option VarId) × (Grows s.variables s.scope here
+      × (IsStatement (with_last s here) x × AreStatements (with_last s here) xs behind))
 
   -- What a block declares goes out of scope behind it.
   pub IsBlock : Setting → BlockModel → Type 0
@@ -264,7 +265,7 @@ abbrev mutual
   IsCase s (Case endpoint awaited targets (Braces statements forget)) =
       (IsEnd s (IsAwaited s awaited) endpoint × IsBrought s awaited targets)
       × ((inner : Option VarId) × (behind : Option VarId) × (InTurn s.variables s.scope targets inner
-      × (AreStatements (reached s inner) statements behind × GoesBack behind s.scope forget)))
+      × (AreStatements (with_last s inner) statements behind × GoesBack behind s.scope forget)))
 
   pub AreCases : Setting → CasesModel → Type 0
   AreCases s NoCase = Unit {0}

@@ -6,7 +6,7 @@ use Rattle.program.specs.declared.types.Side.TheVariants.{Imp, Exp}
 use Rattle.source.specs.declared.place.Place.{Place}
 use Rattle.declarations.specs.Mistakes.{most_of}
 use Rattle.declarations.specs.Program.{ProgramText}
-use Rattle.declarations.specs.Resolution.{printed}
+use Rattle.declarations.specs.Resolution.{printed_name}
 use Rattle.declarations.specs.declared.mistake.Limit.{Limit}
 use Rattle.declarations.specs.declared.mistake.Limit.TheVariants as limit
 use Rattle.declarations.specs.declared.mistake.Mismatch.{Mismatch}
@@ -44,7 +44,7 @@ mismatch_words p (mismatch.Given asked given) = codes "asked for " ++ (demand_wo
 mismatch_words p (mismatch.NoValue k) = codes "a value is asked after return: " ++ type_words p k
 mismatch_words p mismatch.ValueReturned = codes "no value is asked after return"
 mismatch_words p (mismatch.NotSent side word) = side_words side ++ (codes " does not send " ++ utf8_lossy (drop 4 (word_at p.text word)))
-mismatch_words p (mismatch.NotReceived side word) = side_words side ++ (codes " does not receive " ++ printed p.text word)
+mismatch_words p (mismatch.NotReceived side word) = side_words side ++ (codes " does not receive " ++ printed_name p.text word)
 mismatch_words p mismatch.SendStarted = codes "a method is started, not a send"
 mismatch_words p mismatch.LengthWritten = codes "the length of an array is read only"
 mismatch_words p mismatch.FieldOwns = codes "a field that owns is exchanged only"
@@ -96,4 +96,4 @@ remark_of p (mistake.ContinueOutside place) = at place (codes "no loop is around
 remark_of p (mistake.LimitPassed place limit) = at place (limit_front limit ++ (decimal (most_of limit) ++ limit_back limit))
 remark_of p (mistake.NotStarted name) = at name.place (codes "it has a result, or a block that it does not claim")
 remark_of p (mistake.CaseTwice endpoint awaited) = at endpoint.place (codes "an earlier case awaits the same")
-remark_of p (mistake.LacksClosed name) = at name.place (codes "asked for case " ++ (printed p.text name ++ codes ".ChannelClosed()"))
+remark_of p (mistake.LacksClosed name) = at name.place (codes "asked for case " ++ (printed_name p.text name ++ codes ".ChannelClosed()"))

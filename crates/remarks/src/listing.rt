@@ -1,7 +1,7 @@
 //! A text and its items, for the names that are printed.
 
 ghost use Rattle.std.specs.Prelude.{◌≡◌, ◌++◌, OnOk, string_bytes};
-ghost use Rattle.declarations.specs.Resolution.{printed};
+ghost use Rattle.declarations.specs.Resolution.{printed_name};
 ghost use Rattle.remarks.specs.TypeWords.{cut_name, item_name};
 ghost use Rattle.remarks.specs.Listings.{program_model};
 
@@ -27,7 +27,7 @@ impl ItemListing<'_> {
         text: &mut String,
         name: Span,
     ) -> Result<(), Memory>
-        ensures { OnOk result (string_bytes text.new ≡ string_bytes text.old ++ printed self.now.text.now name) }
+        ensures { OnOk result (string_bytes text.new ≡ string_bytes text.old ++ printed_name self.now.text.now name) }
     {
         texts::push_name(alloc, text, name.slice(self.text))
     }

@@ -2,7 +2,7 @@
 
 ghost use Rattle.std.specs.Prelude.{◌≡◌, ◌++◌, OnOk, codes, drop, string_bytes};
 ghost use Rattle.std.specs.Str.Lossy.{utf8_lossy};
-ghost use Rattle.declarations.specs.Resolution.{printed};
+ghost use Rattle.declarations.specs.Resolution.{printed_name};
 ghost use Rattle.remarks.specs.TypeWords.{demand_words, type_words};
 ghost use Rattle.remarks.specs.Listings.{program_model};
 ghost use Rattle.remarks.specs.Remarks.{mismatch_words, side_words};
@@ -95,7 +95,7 @@ fn add_not_received(
     word: Span,
 ) -> Result<(), Memory>
     ensures { OnOk result (string_bytes text.new ≡ string_bytes text.old
-        ++ (side_words side ++ (codes " does not receive " ++ printed listing.now.text.now word))) }
+        ++ (side_words side ++ (codes " does not receive " ++ printed_name listing.now.text.now word))) }
 {
     add(text, side_words(side))?;
     add(text, " does not receive ")?;

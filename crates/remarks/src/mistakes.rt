@@ -3,7 +3,7 @@
 ghost use Rattle.std.specs.Prelude.{◌≡◌, ◌++◌, IfOk, codes, map, option_map, string_bytes};
 ghost use Rattle.std.specs.Fmt.{decimal};
 ghost use Rattle.declarations.specs.Mistakes.{most_of};
-ghost use Rattle.declarations.specs.Resolution.{printed};
+ghost use Rattle.declarations.specs.Resolution.{printed_name};
 ghost use Rattle.remarks.specs.Listings.{program_model};
 ghost use Rattle.remarks.specs.Remarks.{limit_back, limit_front, mismatch_words, remark_of, remark_model};
 ghost use Rattle.tree.specs.Trees.{item_tree};
@@ -94,7 +94,7 @@ fn limit_text(alloc: Global, limit: Limit) -> Result<String, Memory>
 /// Which case an endpoint lacks. Returns `Memory` if an allocation is refused.
 fn closed_text(alloc: Global, listing: &ItemListing<'_>, name: Span) -> Result<String, Memory>
     ensures { IfOk result (λ text. string_bytes text
-        ≡ codes "asked for case " ++ (printed listing.now.text.now name ++ codes ".ChannelClosed()")) }
+        ≡ codes "asked for case " ++ (printed_name listing.now.text.now name ++ codes ".ChannelClosed()")) }
 {
     let mut text = String::from_str(alloc, "asked for case ")?;
     listing.add_name(alloc, &mut text, name)?;

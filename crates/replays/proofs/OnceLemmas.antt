@@ -4,7 +4,7 @@ use Rattle.std.proofs.lemmas.List.{take-take}
 use Rattle.std.proofs.lemmas.List.Splits.{length-slice_split}
 use Rattle.std.specs.List.{slice_split}
 use Rattle.machine.specs.declared.halts.Event.{Event}
-use Rattle.replays.specs.Schedules.{IsEventLine, IsFirstMalformed, IsMalformed, IsSchedule, Tell, ended, lines_of}
+use Rattle.replays.specs.Schedules.{IsEventLine, IsFirstMalformed, IsMalformed, IsSchedule, Tell, line_texts, lines_of}
 use Rattle.replays.specs.declared.limits.TheConstants.{MOST_SCHEDULE}
 use Rattle.replays.proofs.EventLemmas.{one_event}
 
@@ -83,7 +83,7 @@ no_events ((c ∷ cs) ∷ lines) none all =
     (λ before line behind events same h m. all ((c ∷ cs) ∷ before) line behind (e ∷ events) (ap (λ l. (c ∷ cs) ∷ l) same) (is, h) m) in
     all [] (c ∷ cs) lines [] refl tt (record { some = λ e. omega (arith, ap (λ l. length l) e); none = good })
 
-length-ended : (lines : List (List ℕ)) → length (ended lines) ≡ length lines
+length-ended : (lines : List (List ℕ)) → length (line_texts lines) ≡ length lines
 length-ended [] = refl
 length-ended (line ∷ []) = refl
 length-ended (line ∷ next ∷ lines) = ap suc (length-ended (next ∷ lines))

@@ -6,23 +6,23 @@ use Rattle.std.specs.List.{slice_split}
 use Rattle.std.specs.Str.Lines.{strip_carriage_return}
 use Rattle.machine.specs.declared.halts.Event.{Event}
 use Rattle.replays.specs.Fronts.{AddsTold, IsFaultOf}
-use Rattle.replays.specs.Schedules.{IsFirstMalformed, IsMalformed, IsSchedule, ReadsSchedule, Tell, ended, lines_of}
+use Rattle.replays.specs.Schedules.{IsFirstMalformed, IsMalformed, IsSchedule, ReadsSchedule, Tell, line_texts, lines_of}
 use Rattle.std.specs.Prelude.{Err}
 use Rattle.replays.specs.declared.fault.ScheduleFault.{ScheduleFault}
 use Rattle.replays.specs.declared.fault.ScheduleFault.TheVariants.{Malformed, Memory}
 use Rattle.replays.specs.declared.limits.TheConstants.{MOST_SCHEDULE}
 
-ended_more : (line : List ℕ) (lines : List (List ℕ)) → 0 < length lines → ended (line ∷ lines) ≡ strip_carriage_return line ∷ ended lines
+ended_more : (line : List ℕ) (lines : List (List ℕ)) → 0 < length lines → line_texts (line ∷ lines) ≡ strip_carriage_return line ∷ line_texts lines
 ended_more line [] h = absurd (omega arith)
 ended_more line (next ∷ lines) h = refl
 
 -- a line that has an end, and the lines behind it
 pub lines_more : (bytes line behind : List ℕ) → slice_split (λ b. b == 10) bytes ≡ line ∷ slice_split (λ b. b == 10) behind → lines_of bytes ≡ strip_carriage_return line ∷ lines_of behind
-lines_more bytes line behind e = ap ended e ∙ ended_more line (slice_split (λ b. b == 10) behind) (omega (arith, length-slice_split (λ b. b == 10) behind))
+lines_more bytes line behind e = ap line_texts e ∙ ended_more line (slice_split (λ b. b == 10) behind) (omega (arith, length-slice_split (λ b. b == 10) behind))
 
 -- the last line
 pub lines_last : (bytes : List ℕ) → slice_split (λ b. b == 10) bytes ≡ bytes ∷ [] → lines_of bytes ≡ bytes ∷ []
-lines_last bytes e = ap ended e
+lines_last bytes e = ap line_texts e
 
 -- lines behind lines tell their events behind the others
 pub tell_append : (a : List (List ℕ)) (es : List Event) (b : List (List ℕ)) (fs : List Event) → Tell a es → Tell b fs → Tell (a ++ b) (es ++ fs)

@@ -39,13 +39,13 @@ pub record IsMalformed (line : List ℕ) : Type 0 where
   pub none : (e : Event) → ¬ IsEventLine line e
 
 -- what stands between the ends of lines; of a line that has an end, one CR before it is no part
-abbrev pub ended : List (List ℕ) → List (List ℕ)
-ended [] = []
-ended (line ∷ []) = line ∷ []
-ended (line ∷ next ∷ lines) = strip_carriage_return line ∷ ended (next ∷ lines)
+abbrev pub line_texts : List (List ℕ) → List (List ℕ)
+line_texts [] = []
+line_texts (line ∷ []) = line ∷ []
+line_texts (line ∷ next ∷ lines) = strip_carriage_return line ∷ line_texts (next ∷ lines)
 
 abbrev pub lines_of : List ℕ → List (List ℕ)
-lines_of bytes = ended (slice_split (λ b. b == 10) bytes)
+lines_of bytes = line_texts (slice_split (λ b. b == 10) bytes)
 
 -- the bytes are not too many, and these are the events of their lines
 pub record IsSchedule (bytes : List ℕ) (events : List Event) : Type 0 where

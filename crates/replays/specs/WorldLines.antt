@@ -53,13 +53,13 @@ abbrev pub stop_line : Option Event → Option Halt → List ℕ
 stop_line e why = codes "stop: " ++ (stop_text e why ++ codes "\n")
 
 -- where a process stands, and how many frames it has; a process that has ended stands nowhere
-abbrev pub standing : ℕ → Option Place → List ℕ
-standing frames None = codes " ended"
-standing frames (Some at) = codes " at " ++ (place_text at ++ (codes ", frames " ++ decimal frames))
+abbrev pub position_text : ℕ → Option Place → List ℕ
+position_text frames None = codes " ended"
+position_text frames (Some at) = codes " at " ++ (place_text at ++ (codes ", frames " ++ decimal frames))
 
 -- `process P at LINE:COL, frames N`, or `process P ended`
 abbrev pub process_line : ProgramModel → ℕ → List Frame → List ℕ
-process_line p number stack = codes "process " ++ (decimal number ++ (standing (length stack) (stack_place p stack) ++ codes "\n"))
+process_line p number stack = codes "process " ++ (decimal number ++ (position_text (length stack) (stack_place p stack) ++ codes "\n"))
 
 abbrev pub owner_text : Owner → List ℕ
 owner_text (Process q) = codes "process " ++ decimal q

@@ -19,9 +19,9 @@ use Rattle.program.specs.declared.statement.Ways.{Ways}
 use Rattle.resolving.specs.Frames.{IsLocalFrame, number_model}
 use Rattle.resolving.specs.Locals.{LocalFrame, number_of, forget}
 use Rattle.resolving.specs.Reads.{reads, ways}
-use Rattle.resolving.specs.Steps.{IsResolvedPiece, walked}
+use Rattle.resolving.specs.Steps.{IsResolvedPiece, pieces_in_order}
 use Rattle.resolving.specs.Plain.{plain_told, frame_behind}
-use Rattle.resolving.specs.Told.{ResolvedPiece, Staying, follow, made, ended, block_told, statement_told, test_told, others_told}
+use Rattle.resolving.specs.Told.{ResolvedPiece, Staying, follow, map_piece, block_of, block_told, statement_told, test_told, others_told}
 use Rattle.resolving.specs.declared.locals.Locals.{Locals}
 use Rattle.resolving.proofs.ScopeLemmas.{scoped}
 use Rattle.resolving.proofs.SeenTwins.{test_made}
@@ -36,7 +36,7 @@ pub number_is : (v : Option VarId) (n : Option ℕ) → v ≡ option_map number_
 number_is v n is = ap number_model is ∙ same_number n
 
 -- a piece made into something else
-pub made_told : {X Y : Type 0} (text : List ℕ) (make : X → Y) (t : ResolvedPiece X) (what : X) (l : Locals) → IsResolvedPiece text t what l → IsResolvedPiece text (made make t) (make what) l
+pub made_told : {X Y : Type 0} (text : List ℕ) (make : X → Y) (t : ResolvedPiece X) (what : X) (l : Locals) → IsResolvedPiece text t what l → IsResolvedPiece text (map_piece make t) (make what) l
 made_told text make t what l h = record { is = ap make h.is; frame = h.frame }
 
 -- a statement in other words, before and behind
@@ -71,7 +71,7 @@ test_ends p class stays f test found way body l read goes told =
 pub block_ends : (text : List ℕ) (place : Place) (f : LocalFrame) (t : ResolvedPiece StatementsModel) (what : StatementsModel) (l m : Locals) (outer : ℕ) (last behind : Option VarId) (gone : Option Forget) → take (length f.locals) t.frame.locals ≡ f.locals
     → outer ≡ length f.locals → last ≡ option_map number_of f.last → behind ≡ option_map number_of t.frame.last → gone ≡ forget place (number_model last) (number_model behind)
     → ((g : LocalFrame) → IsLocalFrame text g l → IsLocalFrame text (scoped (take outer g.locals) (number_model last) g) m)
-    → IsResolvedPiece text t what l → IsResolvedPiece text (ended place f t) (seen.Braces what gone) m
+    → IsResolvedPiece text t what l → IsResolvedPiece text (block_of place f t) (seen.Braces what gone) m
 block_ends text place f t what l m outer last behind gone kept size here there forgets leave told =
     let first = number_is last f.last here in
     let second = number_is behind t.frame.last there in
@@ -85,23 +85,23 @@ block_ends text place f t what l m outer last behind gone kept size here there f
 abbrev others_end : List TestModel → Option BlockModel → LocalFrame → ResolvedPiece seen.OthersModel
 others_end tests last f = record { what = seen.other_sequence tests last; frame = f }
 
-others_walked : (p : ProgramText) (class : ℕ) (stays : Staying) (ts : List TestTree) (last : Option BlockTree) (f : LocalFrame) (b : Option BlockModel) → (let t = walked (test_told p class stays) ts f in let o = others_told p class stays (trees.last_other last) t.frame in
+others_walked : (p : ProgramText) (class : ℕ) (stays : Staying) (ts : List TestTree) (last : Option BlockTree) (f : LocalFrame) (b : Option BlockModel) → (let t = pieces_in_order (test_told p class stays) ts f in let o = others_told p class stays (trees.last_other last) t.frame in
     seen.last_other b ≡ o.what → others_end t.what b o.frame ≡ others_told p class stays (trees.other_sequence ts last) f)
 others_walked p class stays [] last f b is = ap (λ (w : seen.OthersModel). record { what = w; frame = (others_told p class stays (trees.last_other last) f).frame }) is
-others_walked p class stays (t ∷ ts) last f b is = ap (made (seen.ElseIf (test_told p class stays t f).what)) (others_walked p class stays ts last (test_told p class stays t f).frame b is)
+others_walked p class stays (t ∷ ts) last f b is = ap (map_piece (seen.ElseIf (test_told p class stays t f).what)) (others_walked p class stays ts last (test_told p class stays t f).frame b is)
 
 -- an `if`, part by part
 pub if_told : (p : ProgramText) (class : ℕ) (stays : Staying) (first : TestTree) (ts : List TestTree) (last : Option BlockTree) (f : LocalFrame) (x : TestModel) (xs : List TestModel) (b : Option BlockModel) (l m n : Locals)
     → IsResolvedPiece p.text (test_told p class stays first f) x l
-    → ((g : LocalFrame) → IsLocalFrame p.text g l → IsResolvedPiece p.text (walked (test_told p class stays) ts g) xs m)
+    → ((g : LocalFrame) → IsLocalFrame p.text g l → IsResolvedPiece p.text (pieces_in_order (test_told p class stays) ts g) xs m)
     → ((g : LocalFrame) → IsLocalFrame p.text g m → IsResolvedPiece p.text (others_told p class stays (trees.last_other last) g) (seen.last_other b) n)
     → IsResolvedPiece p.text (follow seen.If (test_told p class stays first f) (others_told p class stays (trees.other_sequence ts last))) (seen.If x (seen.other_sequence xs b)) n
 if_told p class stays first ts last f x xs b l m n one more end =
     let behind = (test_told p class stays first f).frame in
     let second = more behind one.frame in
-    let third = end (walked (test_told p class stays) ts behind).frame second.frame in
+    let third = end (pieces_in_order (test_told p class stays) ts behind).frame second.frame in
     let all = others_walked p class stays ts last behind b third.is in
-    subst (λ t. IsResolvedPiece p.text (made (seen.If (test_told p class stays first f).what) t) (seen.If x (seen.other_sequence xs b)) n) all (record {
+    subst (λ t. IsResolvedPiece p.text (map_piece (seen.If (test_told p class stays first f).what) t) (seen.If x (seen.other_sequence xs b)) n) all (record {
       is = ap (λ y. seen.If y (seen.other_sequence xs b)) one.is ∙ ap (λ ys. seen.If (test_told p class stays first f).what (seen.other_sequence ys b)) second.is;
       frame = third.frame;
     })

@@ -11,7 +11,7 @@ use Rattle.tree.specs.declared.contract.Member.{Member}
 use Rattle.declarations.specs.Declarations.{message_among, messages_of}
 use Rattle.declarations.specs.Program.{ProgramText}
 use Rattle.program.specs.declared.types.HeapType.{HeapType}
-use Rattle.resolving.specs.Brought.{brought, held_listed}
+use Rattle.resolving.specs.Brought.{payload_types, held_listed}
 use Rattle.program.specs.Programs.{type_lists}
 
 -- what these hold, one after another
@@ -42,43 +42,43 @@ lists_more done more types bs new is = ap type_lists new ∙ map-append (λ (k :
 
 -- what the messages among the first so many members bring
 abbrev pub first_members : ProgramText → List Member → ℕ → List (List HeapType)
-first_members p xs i = map (brought p) (flat_map message_among (map member_tree (take i xs)))
+first_members p xs i = map (payload_types p) (flat_map message_among (map member_tree (take i xs)))
 
 -- one more member, which adds what it brings if it is a message
 pub members_more : (p : ProgramText) (xs : List Member) (i : ℕ) (x : Member) (old done more : List (List HeapType)) → i < length xs → x ≡ get_or xs i x
-    → done ≡ old ++ first_members p xs i → more ≡ done ++ map (brought p) (message_among (member_tree x)) → more ≡ old ++ first_members p xs (i + 1)
+    → done ≡ old ++ first_members p xs i → more ≡ done ++ map (payload_types p) (message_among (member_tree x)) → more ≡ old ++ first_members p xs (i + 1)
 members_more p xs i x old done more lt is before new =
     let front = flat_map message_among (map member_tree (take i xs)) in
     let one = message_among (member_tree x) in
-    new ∙ ap (λ l. l ++ map (brought p) one) before ∙ append_assoc old (map (brought p) front) (map (brought p) one)
-    ∙ ap (λ l. old ++ l) (sym (map-append (brought p) front one)) ∙ ap (λ l. old ++ map (brought p) l) (sym (flat_more message_among member_tree xs i x lt is))
+    new ∙ ap (λ l. l ++ map (payload_types p) one) before ∙ append_assoc old (map (payload_types p) front) (map (payload_types p) one)
+    ∙ ap (λ l. old ++ l) (sym (map-append (payload_types p) front one)) ∙ ap (λ l. old ++ map (payload_types p) l) (sym (flat_more message_among member_tree xs i x lt is))
 
 -- all members
-pub members_all : (p : ProgramText) (xs : List Member) (i : ℕ) → length xs ≤ i → first_members p xs i ≡ map (brought p) (flat_map message_among (map member_tree xs))
-members_all p xs i le = ap (λ l. map (brought p) (flat_map message_among (map member_tree l))) (take_all i xs le)
+pub members_all : (p : ProgramText) (xs : List Member) (i : ℕ) → length xs ≤ i → first_members p xs i ≡ map (payload_types p) (flat_map message_among (map member_tree xs))
+members_all p xs i le = ap (λ l. map (payload_types p) (flat_map message_among (map member_tree l))) (take_all i xs le)
 
 -- what a contract brings: its messages before the first state, and those among its members
-pub contract_brings : (p : ProgramText) (c : ContractTree) (old mid new : List (List HeapType)) → mid ≡ old ++ map (brought p) c.messages → new ≡ mid ++ map (brought p) (flat_map message_among c.members)
-    → new ≡ old ++ map (brought p) (flat_map messages_of (c ∷ []))
+pub contract_brings : (p : ProgramText) (c : ContractTree) (old mid new : List (List HeapType)) → mid ≡ old ++ map (payload_types p) c.messages → new ≡ mid ++ map (payload_types p) (flat_map message_among c.members)
+    → new ≡ old ++ map (payload_types p) (flat_map messages_of (c ∷ []))
 contract_brings p c old mid new first second =
     let among = flat_map message_among c.members in
-    second ∙ ap (λ l. l ++ map (brought p) among) first ∙ append_assoc old (map (brought p) c.messages) (map (brought p) among)
-    ∙ ap (λ l. old ++ l) (sym (map-append (brought p) c.messages among)) ∙ ap (λ (l : List MessageTree). old ++ map (brought p) l) (sym (append-nil (messages_of c)))
+    second ∙ ap (λ l. l ++ map (payload_types p) among) first ∙ append_assoc old (map (payload_types p) c.messages) (map (payload_types p) among)
+    ∙ ap (λ l. old ++ l) (sym (map-append (payload_types p) c.messages among)) ∙ ap (λ (l : List MessageTree). old ++ map (payload_types p) l) (sym (append-nil (messages_of c)))
 
 -- what the messages of the contracts among the first so many items bring
 abbrev pub first_brought : ProgramText → List Item → ℕ → List (List HeapType)
-first_brought p xs i = map (brought p) (flat_map messages_of (contracts_of (map item_tree (take i xs))))
+first_brought p xs i = map (payload_types p) (flat_map messages_of (contracts_of (map item_tree (take i xs))))
 
 -- those of one more item
 pub brought_more : (p : ProgramText) (xs : List Item) (i : ℕ) (x : Item) → i < length xs → x ≡ get_or xs i x
-    → first_brought p xs (i + 1) ≡ first_brought p xs i ++ map (brought p) (flat_map messages_of (contract_of (definition_tree x.definition)))
+    → first_brought p xs (i + 1) ≡ first_brought p xs i ++ map (payload_types p) (flat_map messages_of (contract_of (definition_tree x.definition)))
 brought_more p xs i x lt is =
     let front = contracts_of (map item_tree (take i xs)) in
     let one = contract_of (definition_tree x.definition) in
-    ap (λ l. map (brought p) (flat_map messages_of l)) (flat_more (λ t. contract_of t.definition) item_tree xs i x lt is)
-    ∙ ap (map (brought p)) (flat_map-append messages_of front one)
-    ∙ map-append (brought p) (flat_map messages_of front) (flat_map messages_of one)
+    ap (λ l. map (payload_types p) (flat_map messages_of l)) (flat_more (λ t. contract_of t.definition) item_tree xs i x lt is)
+    ∙ ap (map (payload_types p)) (flat_map-append messages_of front one)
+    ∙ map-append (payload_types p) (flat_map messages_of front) (flat_map messages_of one)
 
 -- those of all items
-pub brought_all : (p : ProgramText) (xs : List Item) (i : ℕ) → length xs ≤ i → first_brought p xs i ≡ map (brought p) (flat_map messages_of (contracts_of (map item_tree xs)))
-brought_all p xs i le = ap (λ l. map (brought p) (flat_map messages_of (contracts_of (map item_tree l)))) (take_all i xs le)
+pub brought_all : (p : ProgramText) (xs : List Item) (i : ℕ) → length xs ≤ i → first_brought p xs i ≡ map (payload_types p) (flat_map messages_of (contracts_of (map item_tree xs)))
+brought_all p xs i le = ap (λ l. map (payload_types p) (flat_map messages_of (contracts_of (map item_tree l)))) (take_all i xs le)

@@ -26,11 +26,11 @@ use Rattle.program.specs.Statements.{CallModel}
 use Rattle.program.specs.declared.call.Argument.{Argument}
 use Rattle.program.specs.declared.number.MethodId.{MethodId}
 use Rattle.program.specs.declared.statement.Mention.{Mention}
-use Rattle.resolving.specs.Callees.{NumberedMethod, methods_before, numbered, method_at}
+use Rattle.resolving.specs.Callees.{NumberedMethod, methods_before, numbered_method, method_at}
 use Rattle.resolving.specs.Locals.{LocalFrame}
 use Rattle.resolving.specs.Reads.{reads}
 use Rattle.resolving.specs.Steps.{AddsReads}
-use Rattle.resolving.specs.Plain.{argument_reads, arguments, given, lone}
+use Rattle.resolving.specs.Plain.{argument_reads, arguments, argument_of, lone}
 use Rattle.resolving.specs.declared.locals.Locals.{Locals}
 
 -- a class that is looked up by its place
@@ -42,34 +42,34 @@ abbrev index_in : List ℕ → Span → Option (Numbered ClassTree) → Option �
 index_in text name c = option_and_then (λ c. first_among text (map (λ m. m.name) c.1.methods) name) c
 
 abbrev found_in : List ℕ → Span → ℕ → Option (Numbered ClassTree) → Option NumberedMethod
-found_in text name before c = option_and_then (λ c. option_and_then (numbered before c.1.methods) (first_among text (map (λ m. m.name) c.1.methods) name)) c
+found_in text name before c = option_and_then (λ c. option_and_then (numbered_method before c.1.methods) (first_among text (map (λ m. m.name) c.1.methods) name)) c
 
-in_definition : (text : List ℕ) (class : ℕ) (name : Span) (before place : ℕ) (d : DefinitionTree) → Some place ≡ index_in text name (option_map (λ c. (class, c)) (as_class d))
-    → found_in text name before (option_map (λ c. (class, c)) (as_class d)) ≡ numbered before (methods_in d) place
-in_definition text class name before place (Contract c) h = cc
-in_definition text class name before place (Struct s) h = cc
-in_definition text class name before place (Class c) h = ap (option_and_then (numbered before c.methods)) (sym h)
+in_definition : (text : List ℕ) (class : ℕ) (name : Span) (before index : ℕ) (d : DefinitionTree) → Some index ≡ index_in text name (option_map (λ c. (class, c)) (as_class d))
+    → found_in text name before (option_map (λ c. (class, c)) (as_class d)) ≡ numbered_method before (methods_in d) index
+in_definition text class name before index (Contract c) h = cc
+in_definition text class name before index (Struct s) h = cc
+in_definition text class name before index (Class c) h = ap (option_and_then (numbered_method before c.methods)) (sym h)
 
 -- the method at the place that the name has in the class
-pub method_there : (p : ProgramText) (class : ℕ) (name : Span) (place : ℕ) (i : ItemTree) → Some place ≡ option_and_then (λ c. first_among p.text (map (λ m. m.name) c.1.methods) name) (item_at as_class p class) → slice_get p.items class ≡ Some i
-    → method_at p class name ≡ numbered (methods_before p.items class) (methods_in i.definition) place
-method_there p class name place i h at =
+pub method_there : (p : ProgramText) (class : ℕ) (name : Span) (index : ℕ) (i : ItemTree) → Some index ≡ option_and_then (λ c. first_among p.text (map (λ m. m.name) c.1.methods) name) (item_at as_class p class) → slice_get p.items class ≡ Some i
+    → method_at p class name ≡ numbered_method (methods_before p.items class) (methods_in i.definition) index
+method_there p class name index i h at =
     let before = methods_before p.items class in
     ap (λ o. found_in p.text name before (class_in class o)) at
-    ∙ in_definition p.text class name before place i.definition (h ∙ ap (λ o. index_in p.text name (class_in class o)) at)
+    ∙ in_definition p.text class name before index i.definition (h ∙ ap (λ o. index_in p.text name (class_in class o)) at)
 
 -- the callee that the code makes of what it looks up
-pub callee_is : (p : ProgramText) (class : ℕ) (name : Span) (place v : ℕ) (items : List tree.Item.Item) (i : tree.Item.Item) (methods : List made.Method.Method) (m : made.Method.Method) → map item_tree items ≡ p.items
-    → Some place ≡ option_and_then (λ c. first_among p.text (map (λ m. m.name) c.1.methods) name) (item_at as_class p class) → slice_get items class ≡ Some i
-    → map method_tree methods ≡ methods_in (definition_tree i.definition) → slice_get methods place ≡ Some m → v ≡ methods_before (map item_tree items) class
-    → Some (record { number = v + place; method = method_tree m }) ≡ method_at p class name
-callee_is p class name place v items i methods m same found at within is before =
+pub callee_is : (p : ProgramText) (class : ℕ) (name : Span) (index v : ℕ) (items : List tree.Item.Item) (i : tree.Item.Item) (methods : List made.Method.Method) (m : made.Method.Method) → map item_tree items ≡ p.items
+    → Some index ≡ option_and_then (λ c. first_among p.text (map (λ m. m.name) c.1.methods) name) (item_at as_class p class) → slice_get items class ≡ Some i
+    → map method_tree methods ≡ methods_in (definition_tree i.definition) → slice_get methods index ≡ Some m → v ≡ methods_before (map item_tree items) class
+    → Some (record { number = v + index; method = method_tree m }) ≡ method_at p class name
+callee_is p class name index v items i methods m same found at within is before =
     let item = sym (ap (λ l. slice_get l class) same) ∙ slice_get-map item_tree items class ∙ ap (option_map item_tree) at in
-    let method = sym (ap (λ l. slice_get l place) within) ∙ slice_get-map method_tree methods place ∙ ap (option_map method_tree) is in
+    let method = sym (ap (λ l. slice_get l index) within) ∙ slice_get-map method_tree methods index ∙ ap (option_map method_tree) is in
     let counted = before ∙ ap (λ l. methods_before l class) same in
-    ap (λ n. Some (record { number = n + place; method = method_tree m })) counted
-    ∙ sym (ap (option_map (λ x. record { number = methods_before p.items class + place; method = x })) method)
-    ∙ sym (method_there p class name place (item_tree i) found item)
+    ap (λ n. Some (record { number = n + index; method = method_tree m })) counted
+    ∙ sym (ap (option_map (λ x. record { number = methods_before p.items class + index; method = x })) method)
+    ∙ sym (method_there p class name index (item_tree i) found item)
 
 -- what arguments read, as far as they were walked
 abbrev pub read_to : ProgramText → ℕ → List Expression → ℕ → LocalFrame → List Mention
@@ -102,10 +102,10 @@ given_first p own f list s params es none first second =
 
 -- one parameter more
 pub given_more : (p : ProgramText) (own : ℕ) (f : LocalFrame) (list : List Argument) (s t : Zip (Iter Parameter) (Iter Expression)) (r : Option (Bor Parameter × Bor Expression)) (q : Bor Parameter × Bor Expression) → r ≡ Some q → zips fronts fronts s r t
-    → given_to_end p own f list s ≡ given_to_end p own f (list ++ given q.0.now (lone p own f (expression_tree q.1.now))) t
+    → given_to_end p own f list s ≡ given_to_end p own f (list ++ argument_of q.0.now (lone p own f (expression_tree q.1.now))) t
 given_more p own f list s t r q is step =
     let m = Zip-more s t r q is step in
-    let here = given q.0.now (lone p own f (expression_tree q.1.now)) in
+    let here = argument_of q.0.now (lone p own f (expression_tree q.1.now)) in
     ap (λ xs. list ++ arguments p own f xs (map expression_tree (iter_rest (zip_second s)))) m.0
     ∙ ap (λ es. list ++ arguments p own f (q.0.now ∷ iter_rest (zip_first t)) (map expression_tree es)) m.1
     ∙ sym (append_assoc list here (arguments p own f (iter_rest (zip_first t)) (map expression_tree (iter_rest (zip_second t)))))
@@ -128,5 +128,5 @@ call_with reads place method arguments target behind = record { reads = reads; p
 
 -- calls of the same parts
 pub same_call : (method : MethodId) (target : Option Mention) (behind : List Mention) (r s : List Mention) (x y : Place) (a b : List Argument) → r ≡ s → x ≡ y → a ≡ b → call_with r x method a target behind ≡ call_with s y method b target behind
-same_call method target behind r s x y a b reads place args =
-    ap (λ l. call_with l x method a target behind) reads ∙ ap (λ l. call_with s l method a target behind) place ∙ ap (λ l. call_with s y method l target behind) args
+same_call method target behind r s x y a b reads index args =
+    ap (λ l. call_with l x method a target behind) reads ∙ ap (λ l. call_with s l method a target behind) index ∙ ap (λ l. call_with s y method l target behind) args

@@ -21,7 +21,7 @@ use Rattle.resolving.specs.Binds.{binds_told}
 use Rattle.resolving.specs.Frames.{IsLocalFrame}
 use Rattle.resolving.specs.Locals.{LocalFrame}
 use Rattle.resolving.specs.Steps.{IsResolvedPiece}
-use Rattle.resolving.specs.Told.{ResolvedPiece, Staying, made, ended, behind_case, awaited_as, awaited_message, awaited_params, case_endpoint, case_told, cases_told, statements_told}
+use Rattle.resolving.specs.Told.{ResolvedPiece, Staying, map_piece, block_of, behind_case, awaited_as, awaited_message, awaited_params, case_endpoint, case_told, cases_told, statements_told}
 use Rattle.resolving.specs.declared.locals.Locals.{Locals}
 use Rattle.resolving.proofs.SeenTwins.{case_made}
 use Rattle.tree.proofs.StatementTwins.{case_is, switch_is}
@@ -33,7 +33,7 @@ bound_in p case f = binds_told p (awaited_params (awaited_message p f case.endpo
 -- a case, part by part
 pub case_ends : (p : ProgramText) (class : ℕ) (stays : Staying) (behind : Place) (f : LocalFrame) (case : stated.Case.Case) (endpoint : Mention) (awaited : Awaited) (bound : Vec VarId Global) (body : found_block.Block) (l : Locals)
     → (let m = awaited_message p f case.endpoint case.message in let t = statements_told p class stays (statement_sequence (map statement_tree case.statements.items)) (bound_in p case f).frame in
-    endpoint ≡ case_endpoint p f case.endpoint → awaited ≡ awaited_as case.message m → bound.items ≡ (bound_in p case f).what → IsResolvedPiece p.text (ended behind f t) (block_model body) l
+    endpoint ≡ case_endpoint p f case.endpoint → awaited ≡ awaited_as case.message m → bound.items ≡ (bound_in p case f).what → IsResolvedPiece p.text (block_of behind f t) (block_model body) l
     → IsResolvedPiece p.text (case_told p class stays behind (case_tree case) f) (case_model (found_case.roll-Case (record { endpoint = endpoint; awaited = awaited; targets = bound; body = body }))) l)
 case_ends p class stays behind f case endpoint awaited bound body l at waits binds told =
     let m = awaited_message p f case.endpoint case.message in
@@ -62,7 +62,7 @@ before_none (d ∷ done) = ap (seen.MoreCases d) (before_none done)
 pub record CasesGo (p : ProgramText) (class : ℕ) (stays : Staying) (close : Place) (f : LocalFrame) (all : CaseTrees) (done : List CaseModel) (next : CaseTree) (rest : CaseTrees) (l : Locals) : Type 0 where
   pub here : LocalFrame
   pub stands : IsLocalFrame p.text here l
-  pub whole : cases_told p class stays all close f ≡ made (cases_before done) (cases_told p class stays (trees.MoreCases next rest) close here)
+  pub whole : cases_told p class stays all close f ≡ map_piece (cases_before done) (cases_told p class stays (trees.MoreCases next rest) close here)
 
 case_then : (p : ProgramText) (class : ℕ) (stays : Staying) (close : Place) (f : LocalFrame) (all : CaseTrees) (done : List CaseModel) (next : CaseTree) (after : CaseTree) (rest : CaseTrees) (l m : Locals) (x : CaseModel)
     → CasesGo p class stays close f all done next (trees.MoreCases after rest) l
@@ -75,7 +75,7 @@ case_then p class stays close f all done next after rest l m x go tell =
     record {
       here = t.frame;
       stands = told.frame;
-      whole = go.whole ∙ ap (λ y. made (λ w. cases_before done (seen.MoreCases y w)) more) (sym told.is) ∙ ap (λ (w : CasesModel). record { what = w; frame = more.frame }) (sym (before_more done x more.what));
+      whole = go.whole ∙ ap (λ y. map_piece (λ w. cases_before done (seen.MoreCases y w)) more) (sym told.is) ∙ ap (λ (w : CasesModel). record { what = w; frame = more.frame }) (sym (before_more done x more.what));
     }
 
 token_behind : (case : stated.Case.Case) (rest : CaseTrees) (close : Place) → behind_case (trees.MoreCases (case_tree case) rest) close ≡ case.word.place

@@ -5,7 +5,7 @@ use Rattle.std.proofs.lemmas.Grind.{flat_map-append}
 use Rattle.std.proofs.lemmas.List.{take_more, take_all, map-append}
 use Rattle.tree.specs.Operators.{Add, Single, Joined}
 use Rattle.tree.specs.Expressions.{LevelTree, Chain}
-use Rattle.tree.specs.Factors.{FactorTree, gathered, before_sum}
+use Rattle.tree.specs.Factors.{FactorTree, sum_of_factors, before_sum}
 use Rattle.tree.specs.ExpressionTrees.{factor_tree}
 use Rattle.tree.specs.declared.expression.Factor.{Factor}
 use Rattle.tree.specs.declared.expression.FactorOperator.{FactorOperator}
@@ -25,9 +25,9 @@ before_reads : (text : List ℕ) (ls : List Local) (u : LevelTree Single) (o : F
 before_reads text ls u operators.Times (Chain _ (Chain _ first others) steps) = append_assoc (reads text ls u) (reads text ls first ++ step_reads text ls others) (step_reads text ls steps)
 before_reads text ls u (operators.Sum o) (Chain _ first others) = ap (λ m. m ++ (reads text ls first ++ step_reads text ls others)) (append-nil (reads text ls u))
 
-gathered_reads : (text : List ℕ) (ls : List Local) (u : LevelTree Single) (fs : List FactorTree) → reads text ls (gathered u fs) ≡ reads text ls u ++ factor_reads text ls fs
+gathered_reads : (text : List ℕ) (ls : List Local) (u : LevelTree Single) (fs : List FactorTree) → reads text ls (sum_of_factors u fs) ≡ reads text ls u ++ factor_reads text ls fs
 gathered_reads text ls u [] = append-nil (reads text ls u ++ [])
-gathered_reads text ls u (f ∷ fs) = before_reads text ls u f.0 (gathered f.1 fs) ∙ ap (λ m. reads text ls u ++ m) (gathered_reads text ls f.1 fs)
+gathered_reads text ls u (f ∷ fs) = before_reads text ls u f.0 (sum_of_factors f.1 fs) ∙ ap (λ m. reads text ls u ++ m) (gathered_reads text ls f.1 fs)
 
 -- what a sequence reads as far as it was walked
 abbrev pub sequence_reads : List ℕ → LevelTree Single → FactorTree → List Factor → ℕ → LocalFrame → List Mention
@@ -72,7 +72,7 @@ sequence_more text first part f xs i x {old = old} lt is seen before more = reco
 }
 
 pub sequence_all : (text : List ℕ) (first : LevelTree Single) (f : FactorTree) (xs ys : List Factor) (i : ℕ) (tree : LevelTree (Joined Add)) {locals : Locals} {old new : List Mention}
-    → length xs ≤ i → xs ≡ ys → tree ≡ gathered first (f ∷ map factor_tree ys) → AddsReads text locals (sequence_reads text first f xs i) old new → AddsReads text locals (λ g. reads text g.locals tree) old new
+    → length xs ≤ i → xs ≡ ys → tree ≡ sum_of_factors first (f ∷ map factor_tree ys) → AddsReads text locals (sequence_reads text first f xs i) old new → AddsReads text locals (λ g. reads text g.locals tree) old new
 sequence_all text first f xs ys i tree {old = old} le same seen h = record {
   all = λ g here.
       h.all g here

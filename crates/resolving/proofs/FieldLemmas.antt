@@ -83,32 +83,32 @@ no_struct p (definition.Class c) none = (refl, refl)
 
 -- how many of these places stand before this one
 abbrev pub before_index : ℕ → List ℕ → ℕ
-before_index place indices = length (filter (λ x. ltb x place) indices)
+before_index index indices = length (filter (λ x. ltb x index) indices)
 
-before_both : (place : ℕ) (xs ys : List ℕ) → before_index place (xs ++ ys) ≡ before_index place xs + before_index place ys
-before_both place xs ys =
-    let test : ℕ → Bool = λ x. ltb x place in
+before_both : (index : ℕ) (xs ys : List ℕ) → before_index index (xs ++ ys) ≡ before_index index xs + before_index index ys
+before_both index xs ys =
+    let test : ℕ → Bool = λ x. ltb x index in
     ap length (filter-append test xs ys) ∙ length-append (filter test xs) (filter test ys)
 
-not_before : (n place : ℕ) (o : Option HeapType) → place ≤ n → before_index place (index_listed n o) ≡ 0
-not_before n place None le = refl
-not_before n place (Some held) le = ap (λ (b : Bool). length (cond b (n ∷ []) [])) (le-ltb n place le)
+not_before : (n index : ℕ) (o : Option HeapType) → index ≤ n → before_index index (index_listed n o) ≡ 0
+not_before n index None le = refl
+not_before n index (Some held) le = ap (λ (b : Bool). length (cond b (n ∷ []) [])) (le-ltb n index le)
 
-one_before : (n place : ℕ) (o : Option HeapType) → n < place → before_index place (index_listed n o) ≡ length (held_listed o)
-one_before n place None lt = refl
-one_before n place (Some held) lt = ap (λ (b : Bool). length (cond b (n ∷ []) [])) (lt-ltb n place lt)
+one_before : (n index : ℕ) (o : Option HeapType) → n < index → before_index index (index_listed n o) ≡ length (held_listed o)
+one_before n index None lt = refl
+one_before n index (Some held) lt = ap (λ (b : Bool). length (cond b (n ∷ []) [])) (lt-ltb n index lt)
 
 -- the places of the fields that own among these, before which so many stand
 abbrev indices_from : ProgramText → ℕ → List Field → List ℕ
 indices_from p n fields = flat_map (owned p) (enumerate_from n fields)
 
-none_before : (p : ProgramText) (n place : ℕ) (fields : List Field) → place ≤ n → before_index place (indices_from p n fields) ≡ 0
-none_before p n place [] le = refl
-none_before p n place (f ∷ fields) le =
+none_before : (p : ProgramText) (n index : ℕ) (fields : List Field) → index ≤ n → before_index index (indices_from p n fields) ≡ 0
+none_before p n index [] le = refl
+none_before p n index (f ∷ fields) le =
     let o = type_held p f.ty in
-    let here = not_before n place o le in
-    let rest = none_before p (n + 1) place fields (omega (arith, le)) in
-    let both = before_both place (index_listed n o) (indices_from p (n + 1) fields) in
+    let here = not_before n index o le in
+    let rest = none_before p (n + 1) index fields (omega (arith, le)) in
+    let both = before_both index (index_listed n o) (indices_from p (n + 1) fields) in
     omega (arith, here, rest, both)
 
 -- As many of them stand before a place as fields that own stand before the field there.
@@ -118,9 +118,9 @@ so_many p n zero (f ∷ fields) = none_before p n (n + 0) (f ∷ fields) (omega 
 so_many p n (suc k) (f ∷ fields) =
     let o = type_held p f.ty in
     let behind = indices_from p (n + 1) fields in
-    let place : n + suc k ≡ (n + 1) + k = omega arith in
+    let index : n + suc k ≡ (n + 1) + k = omega arith in
     let here = one_before n (n + suc k) o (omega arith) in
-    let rest = ap (λ m. before_index m behind) place ∙ so_many p (n + 1) k fields in
+    let rest = ap (λ m. before_index m behind) index ∙ so_many p (n + 1) k fields in
     let both = before_both (n + suc k) (index_listed n o) behind in
     let parts = length-append (held_listed o) (fields_held p (take k fields)) in
     omega (arith, here, rest, both, parts)
@@ -128,29 +128,29 @@ so_many p n (suc k) (f ∷ fields) =
 -- the number of a field: how many places of fields that own stand before its own
 pub number_is : (p : ProgramText) (k : ℕ) (fields : List Field) → before_index k (indices_held p fields) ≡ length (fields_held p (take k fields))
 number_is p k fields =
-    let place : k ≡ 0 + k = omega arith in
-    ap (λ m. before_index m (indices_held p fields)) place ∙ so_many p 0 k fields
+    let index : k ≡ 0 + k = omega arith in
+    ap (λ m. before_index m (indices_held p fields)) index ∙ so_many p 0 k fields
 
 -- where a field of this name stands in a struct
 abbrev pub index_named : ProgramText → Span → Numbered StructTree → Option ℕ
 index_named p field s = first_among p.text (map (λ f. f.name) s.1.fields) field
 
 -- the number of a field that stands there in a definition
-number_in : (p : ProgramText) (n : ℕ) (field : Span) (place : ℕ) (d : DefinitionTree) → Some place ≡ option_and_then (index_named p field) (option_map (λ x. (n, x)) (as_struct d))
-    → Some (before_index place (indices_in p d)) ≡ option_and_then (owning_before p field) (option_map (λ x. (n, x)) (as_struct d))
-number_in p n field place (Contract c) is = cc
-number_in p n field place (Class c) is = cc
-number_in p n field place (Struct s) is =
-    ap Some (number_is p place s.fields) ∙ ap (option_map (λ k. length (fields_held p (take k s.fields)))) is
+number_in : (p : ProgramText) (n : ℕ) (field : Span) (index : ℕ) (d : DefinitionTree) → Some index ≡ option_and_then (index_named p field) (option_map (λ x. (n, x)) (as_struct d))
+    → Some (before_index index (indices_in p d)) ≡ option_and_then (owning_before p field) (option_map (λ x. (n, x)) (as_struct d))
+number_in p n field index (Contract c) is = cc
+number_in p n field index (Class c) is = cc
+number_in p n field index (Struct s) is =
+    ap Some (number_is p index s.fields) ∙ ap (option_map (λ k. length (fields_held p (take k s.fields)))) is
 
 -- the same of an item, if there is one
-pub number_at : (p : ProgramText) (n : ℕ) (field : Span) (place : ℕ) (sequence : List ℕ) (o : Option ItemTree) → Some sequence ≡ option_map (owning_indices p) o
-    → Some place ≡ option_and_then (index_named p field) (option_and_then (λ i. option_map (λ x. (n, x)) (as_struct i.definition)) o)
-    → Some (before_index place sequence) ≡ option_and_then (owning_before p field) (option_and_then (λ i. option_map (λ x. (n, x)) (as_struct i.definition)) o)
-number_at p n field place sequence None has is = cc
-number_at p n field place sequence (Some i) has is =
+pub number_at : (p : ProgramText) (n : ℕ) (field : Span) (index : ℕ) (sequence : List ℕ) (o : Option ItemTree) → Some sequence ≡ option_map (owning_indices p) o
+    → Some index ≡ option_and_then (index_named p field) (option_and_then (λ i. option_map (λ x. (n, x)) (as_struct i.definition)) o)
+    → Some (before_index index sequence) ≡ option_and_then (owning_before p field) (option_and_then (λ i. option_map (λ x. (n, x)) (as_struct i.definition)) o)
+number_at p n field index sequence None has is = cc
+number_at p n field index sequence (Some i) has is =
     let type_lists : sequence ≡ owning_indices p i = cc in
-    ap (λ r. Some (before_index place r)) type_lists ∙ number_in p n field place i.definition is
+    ap (λ r. Some (before_index index r)) type_lists ∙ number_in p n field index i.definition is
 
 -- the number of a field of what a variable holds, by the type of the variable
 pub of_type : (p : ProgramText) (field : Span) (o : Option Local) → option_and_then (λ ty. field_number p ty field) (option_map (λ v. v.ty) o)

@@ -10,7 +10,7 @@ use Rattle.tree.specs.declared.contract as tree
 use Rattle.declarations.specs.Program.{ProgramText}
 use Rattle.program.specs.declared.types.HeapType.{HeapType}
 use Rattle.resolving.specs.Binds.{bind_declaration, bind_told, binds_told}
-use Rattle.resolving.specs.Locals.{Local, LocalFrame, local_named, entered, declared, declared_as}
+use Rattle.resolving.specs.Locals.{Local, LocalFrame, local_named, with_local, with_declaration, declared_as}
 use Rattle.resolving.specs.Plain.{declaration_of}
 use Rattle.resolving.specs.Told.{Staying, stays_here, in_switch, behind_case, statement_told, statements_told, block_told, test_told, others_told, case_told, cases_told}
 use Rattle.resolving.specs.declared.locals.Declaration.{Declaration}
@@ -34,7 +34,7 @@ one_more : (b : Bool) (ls : List Local) (l : Local) → (if b then ls else ls ++
 one_more true ls l = sym (append-nil ls)
 one_more false ls l = refl
 
-entered_extends : (text : List ℕ) (d : Declaration) (number : Option ℕ) (f g : LocalFrame) → g.locals ≡ entered text d number f.locals → Extends f g
+entered_extends : (text : List ℕ) (d : Declaration) (number : Option ℕ) (f g : LocalFrame) → g.locals ≡ with_local text d number f.locals → Extends f g
 entered_extends text d number f g is = record {
   more = if is_some (local_named text f.locals d.name) then [] else record { name = d.name; ty = d.ty; number = number } ∷ [];
   is = is ∙ one_more (is_some (local_named text f.locals d.name)) f.locals (record { name = d.name; ty = d.ty; number = number });
@@ -44,7 +44,7 @@ held_extends : (text : List ℕ) (d : Declaration) (held : Option HeapType) (f :
 held_extends text d (Some held) f = entered_extends text d (Some (length f.variables)) f _ refl
 held_extends text d None f = entered_extends text d None f _ refl
 
-declared_extends : (text : List ℕ) (d : Declaration) (f : LocalFrame) → Extends f (declared text d f)
+declared_extends : (text : List ℕ) (d : Declaration) (f : LocalFrame) → Extends f (with_declaration text d f)
 declared_extends text d f = held_extends text d d.held f
 
 block_same : (p : ProgramText) (class : ℕ) (stays : Staying) (b : BlockTree) (f : LocalFrame) → (block_told p class stays b f).frame.locals ≡ f.locals

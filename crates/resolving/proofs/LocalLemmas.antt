@@ -16,19 +16,19 @@ use Rattle.program.specs.declared.types.HeapType.{HeapType}
 use Rattle.program.specs.declared.number.VarId.{VarId}
 use Rattle.resolving.specs.Frames.{IsLocalFrame, local_model, number_model, words_in}
 use Rattle.resolving.specs.Locals as model
-use Rattle.resolving.specs.Locals.{LocalFrame, local_named, number_of, entered, counted, declared_heap}
+use Rattle.resolving.specs.Locals.{LocalFrame, local_named, number_of, with_local, with_variable, declared_heap}
 use Rattle.resolving.specs.declared.locals.Declaration.{Declaration}
 use Rattle.resolving.specs.declared.locals.Locals.{Locals}
 use Rattle.resolving.proofs.ScopeLemmas.{scoped, words_push}
 
-local_at : (text : List ℕ) (f : LocalFrame) (l : Locals) → IsLocalFrame text f l → (place : Option ℕ) → option_map local_model (option_and_then (slice_get l.list.items) place) ≡ option_and_then (slice_get f.locals) place
+local_at : (text : List ℕ) (f : LocalFrame) (l : Locals) → IsLocalFrame text f l → (index : Option ℕ) → option_map local_model (option_and_then (slice_get l.list.items) index) ≡ option_and_then (slice_get f.locals) index
 local_at text f l h None = refl
 local_at text f l h (Some k) = sym (slice_get-map local_model l.list.items k) ∙ ap (λ x. slice_get x k) h.list
 
 -- the variable that a table of names leads to
-pub local_found : (text : List ℕ) (f : LocalFrame) (l : Locals) (name : Span) (place : Option ℕ) → IsLocalFrame text f l → place ≡ first_of (words_in text f.locals) (word_at text name)
-    → option_map local_model (option_and_then (slice_get l.list.items) place) ≡ local_named text f.locals name
-local_found text f l name place h is = local_at text f l h place ∙ ap (option_and_then (slice_get f.locals)) is
+pub local_found : (text : List ℕ) (f : LocalFrame) (l : Locals) (name : Span) (index : Option ℕ) → IsLocalFrame text f l → index ≡ first_of (words_in text f.locals) (word_at text name)
+    → option_map local_model (option_and_then (slice_get l.list.items) index) ≡ local_named text f.locals name
+local_found text f l name index h is = local_at text f l h index ∙ ap (option_and_then (slice_get f.locals)) is
 
 abbrev here : Declaration → Option ℕ → model.Local
 here d number = record { name = d.name; ty = d.ty; number = number }
@@ -50,7 +50,7 @@ entered_if taken d number f = scoped (if taken then f.locals else f.locals ++ he
 
 -- a name that is taken already
 pub entered_taken : (text : List ℕ) (f : LocalFrame) (l : Locals) (d : Declaration) (number : Option ℕ) (word : List ℕ) (found : Option ℕ) → IsLocalFrame text f l → word ≡ word_at text d.name
-    → ((words : List (List ℕ)) → IsTable words l.names → found ≡ first_of words word) → is_some found ≡ true → IsLocalFrame text (scoped (entered text d number f.locals) f.last f) l
+    → ((words : List (List ℕ)) → IsTable words l.names → found ≡ first_of words word) → is_some found ≡ true → IsLocalFrame text (scoped (with_local text d number f.locals) f.last f) l
 entered_taken text f l d number word found h at is taken =
     let there = is_named text f.locals d.name ∙ ap (λ w. is_some (first_of (words_in text f.locals) w)) (sym at) ∙ sym (ap is_some (is (words_in text f.locals) h.names)) ∙ taken in
     subst (λ b. IsLocalFrame text (entered_if b d number f) l) (sym there) h
@@ -60,7 +60,7 @@ pub entered_new : (text : List ℕ) (f : LocalFrame) (l m : Locals) (d : Declara
     → ((words : List (List ℕ)) → IsTable words l.names → found ≡ first_of words word) → is_some found ≡ false
     → ((words : List (List ℕ)) → IsTable words l.names → first_of words word ≡ None → IsTable (words ++ word ∷ []) m.names)
     → m.list.items ≡ l.list.items ++ record { name = d.name; ty = d.ty; number = number } ∷ [] → m.last ≡ l.last → m.variables.items ≡ l.variables.items
-    → IsLocalFrame text (scoped (entered text d (number_model number) f.locals) f.last f) m
+    → IsLocalFrame text (scoped (with_local text d (number_model number) f.locals) f.last f) m
 entered_new text f l m d number word found h at is taken table list last variables =
     let words = words_in text f.locals in
     let found_none : first_of words word ≡ None = sym (is words h.names) ∙ none_is found taken in
@@ -77,11 +77,11 @@ entered_new text f l m d number word found h at is taken table list last variabl
 
 -- one of the exchange heap that is in scope and counted is the last of them
 pub heap_declared : (text : List ℕ) (f : LocalFrame) (l m : Locals) (d : Declaration) (held : HeapType) (n : ℕ) → IsLocalFrame text f l → n ≡ length l.variables.items
-    → IsLocalFrame text (record { locals = entered text d (Some n) f.locals; last = f.last; variables = counted text d held f.last f.variables }) m
+    → IsLocalFrame text (record { locals = with_local text d (Some n) f.locals; last = f.last; variables = with_variable text d held f.last f.variables }) m
     → IsLocalFrame text (declared_heap text d held f) (record { names = m.names; list = m.list; last = Some (number_of n); variables = m.variables })
 heap_declared text f l m d held n h is both =
     let many : n ≡ length f.variables = is ∙ sym (length-map l.variables.items variable_model) ∙ ap length h.variables in
-    subst (λ k. IsLocalFrame text (record { locals = entered text d (Some k) f.locals; last = Some k; variables = counted text d held f.last f.variables }) (record { names = m.names; list = m.list; last = Some (number_of n); variables = m.variables })) many (record {
+    subst (λ k. IsLocalFrame text (record { locals = with_local text d (Some k) f.locals; last = Some k; variables = with_variable text d held f.last f.variables }) (record { names = m.names; list = m.list; last = Some (number_of n); variables = m.variables })) many (record {
       list = both.list;
       names = both.names;
       apart = both.apart;

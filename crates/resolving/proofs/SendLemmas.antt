@@ -11,14 +11,14 @@ use Rattle.program.specs.declared.number.MessageId.{MessageId}
 use Rattle.program.specs.Statements.{SendModel}
 use Rattle.program.specs.declared.statement.Mention.{Mention}
 use Rattle.resolving.specs.Locals.{LocalFrame}
-use Rattle.resolving.specs.Reads.{listed}
+use Rattle.resolving.specs.Reads.{mention_list}
 use Rattle.resolving.specs.Plain.{lone, payloads}
 
 -- one argument more
 pub payloads_more : (p : ProgramText) (own : ℕ) (f : LocalFrame) (es : List Expression) (n : ℕ) (e : Expression) → n < length es → e ≡ get_or es n e
-    → payloads p own f (map expression_tree (take (n + 1) es)) ≡ payloads p own f (map expression_tree (take n es)) ++ listed (lone p own f (expression_tree e))
+    → payloads p own f (map expression_tree (take (n + 1) es)) ≡ payloads p own f (map expression_tree (take n es)) ++ mention_list (lone p own f (expression_tree e))
 payloads_more p own f es n e lt is =
-    let sends = λ (x : ExpressionTree). listed (lone p own f x) in
+    let sends = λ (x : ExpressionTree). mention_list (lone p own f x) in
     let so = payloads p own f (map expression_tree (take n es)) in
     ap (λ (xs : List Expression). payloads p own f (map expression_tree xs)) (take_more es n e lt ∙ ap (λ x. take n es ++ x ∷ []) (sym is))
     ∙ ap (payloads p own f) (map-append expression_tree (take n es) (e ∷ []))

@@ -51,30 +51,30 @@ singles f before [] = refl
 singles f before (x ∷ xs) = let rest = singles f (before ++ x ∷ []) xs in omega (arith, rest)
 
 -- no contract stands behind the last item
-pub contract_past : (p : ProgramText) (t : Directory) (place : ℕ) → IsDirectory p t → length t.before.now ≤ place → contract_at p place ≡ None
-contract_past p t place h past =
+pub contract_past : (p : ProgramText) (t : Directory) (index : ℕ) → IsDirectory p t → length t.before.now ≤ index → contract_at p index ≡ None
+contract_past p t index h past =
     let contracts = contracts_of p.items in
     let long = ap length h.before ∙ counts_long p.items in
     let many = singles (λ b c. resolved_contract p.text (message_count b) (state_count b) c.name (messages_of c) (states_of c)) [] contracts in
-    let all = ap (λ items. length (contracts_of items)) (take_all place p.items (omega (arith, past, long))) in
-    slice_get_past (resolved_contracts p.text contracts) (contracts_before p.items place) (omega (arith, many, all))
+    let all = ap (λ items. length (contracts_of items)) (take_all index p.items (omega (arith, past, long))) in
+    slice_get_past (resolved_contracts p.text contracts) (contracts_before p.items index) (omega (arith, many, all))
 
 -- the contract that is looked up by the number that is counted at an item
-pub contract_found : (p : ProgramText) (t : Directory) (place : ℕ) (b : ItemsBefore) (contracts : List Contract) (r : Option (Bor Contract)) → IsDirectory p t → place < length t.before.now → b ≡ get_or t.before.now place b
-    → contracts ≡ t.resolved.now.contracts.items → LooksUp contracts b.contracts r → option_map (λ c. contract_model c.now) r ≡ contract_at p place
-contract_found p t place b contracts r h lt is same found =
+pub contract_found : (p : ProgramText) (t : Directory) (index : ℕ) (b : ItemsBefore) (contracts : List Contract) (r : Option (Bor Contract)) → IsDirectory p t → index < length t.before.now → b ≡ get_or t.before.now index b
+    → contracts ≡ t.resolved.now.contracts.items → LooksUp contracts b.contracts r → option_map (λ c. contract_model c.now) r ≡ contract_at p index
+contract_found p t index b contracts r h lt is same found =
     seen_at contract_model contracts b.contracts r found
     ∙ ap (λ l. slice_get (map contract_model l) b.contracts) same
     ∙ ap (λ l. slice_get l b.contracts) h.contracts
-    ∙ ap (λ (x : ItemsBefore). slice_get (resolved_contracts p.text (contracts_of p.items)) x.contracts) (count_read p.items t.before.now place b h.before lt is)
+    ∙ ap (λ (x : ItemsBefore). slice_get (resolved_contracts p.text (contracts_of p.items)) x.contracts) (count_read p.items t.before.now index b h.before lt is)
 
 -- its number
-pub number_found : (p : ProgramText) (t : Directory) (place : ℕ) (b : ItemsBefore) (contracts : List Contract) (c : Bor Contract) → IsDirectory p t → place < length t.before.now → b ≡ get_or t.before.now place b
-    → contracts ≡ t.resolved.now.contracts.items → LooksUp contracts b.contracts (Some c) → Some (record { 0 = b.contracts }) ≡ number_at p place
-number_found p t place b contracts c h lt is same found =
+pub number_found : (p : ProgramText) (t : Directory) (index : ℕ) (b : ItemsBefore) (contracts : List Contract) (c : Bor Contract) → IsDirectory p t → index < length t.before.now → b ≡ get_or t.before.now index b
+    → contracts ≡ t.resolved.now.contracts.items → LooksUp contracts b.contracts (Some c) → Some (record { 0 = b.contracts }) ≡ number_at p index
+number_found p t index b contracts c h lt is same found =
     let number : ℕ → ContractId = λ n. record { 0 = n } in
-    ap (λ (x : ItemsBefore). Some (number x.contracts)) (count_read p.items t.before.now place b h.before lt is)
-    ∙ ap (option_map (λ s. number (contracts_before p.items place))) (contract_found p t place b contracts (Some c) h lt is same found)
+    ap (λ (x : ItemsBefore). Some (number x.contracts)) (count_read p.items t.before.now index b h.before lt is)
+    ∙ ap (option_map (λ s. number (contracts_before p.items index))) (contract_found p t index b contracts (Some c) h lt is same found)
 
 there : {X Y : Type 0} (y : Y) (xs : List X) (n : ℕ) → n < length xs → option_map (λ x. y) (slice_get xs n) ≡ Some y
 there y [] n lt = absurd (omega (arith, lt))
@@ -85,15 +85,15 @@ abbrev struct_of : ℕ → HeapType
 struct_of n = Struct (record { 0 = n })
 
 -- no struct stands behind the last item
-pub struct_past : (p : ProgramText) (t : Directory) (place : ℕ) → IsDirectory p t → length t.before.now ≤ place → None ≡ option_map (λ i. struct_of (structs_before p.items place)) (slice_get p.items place)
-struct_past p t place h past =
+pub struct_past : (p : ProgramText) (t : Directory) (index : ℕ) → IsDirectory p t → length t.before.now ≤ index → None ≡ option_map (λ i. struct_of (structs_before p.items index)) (slice_get p.items index)
+struct_past p t index h past =
     let long = ap length h.before ∙ counts_long p.items in
-    sym (ap (option_map (λ i. struct_of (structs_before p.items place))) (slice_get_past p.items place (omega (arith, past, long))))
+    sym (ap (option_map (λ i. struct_of (structs_before p.items index))) (slice_get_past p.items index (omega (arith, past, long))))
 
 -- the number of a struct that is counted at an item
-pub struct_found : (p : ProgramText) (t : Directory) (place : ℕ) (b : ItemsBefore) → IsDirectory p t → place < length t.before.now → b ≡ get_or t.before.now place b
-    → Some (struct_of b.structs) ≡ option_map (λ i. struct_of (structs_before p.items place)) (slice_get p.items place)
-struct_found p t place b h lt is =
+pub struct_found : (p : ProgramText) (t : Directory) (index : ℕ) (b : ItemsBefore) → IsDirectory p t → index < length t.before.now → b ≡ get_or t.before.now index b
+    → Some (struct_of b.structs) ≡ option_map (λ i. struct_of (structs_before p.items index)) (slice_get p.items index)
+struct_found p t index b h lt is =
     let long = ap length h.before ∙ counts_long p.items in
-    ap (λ (x : ItemsBefore). Some (struct_of x.structs)) (count_read p.items t.before.now place b h.before lt is)
-    ∙ sym (there (struct_of (structs_before p.items place)) p.items place (omega (arith, lt, long)))
+    ap (λ (x : ItemsBefore). Some (struct_of x.structs)) (count_read p.items t.before.now index b h.before lt is)
+    ∙ sym (there (struct_of (structs_before p.items index)) p.items index (omega (arith, lt, long)))

@@ -16,9 +16,9 @@ held_listed (Some held) = held ∷ []
 abbrev pub params_held : ProgramText → List MessageParameter → List HeapType
 params_held p params = flat_map (λ x. held_listed (type_held p x.ty)) params
 
-abbrev pub brought : ProgramText → MessageTree → List HeapType
-brought p m = params_held p m.params
+abbrev pub payload_types : ProgramText → MessageTree → List HeapType
+payload_types p m = params_held p m.params
 
 -- what each message of a program brings; the number of a message is its place among these
 abbrev pub messages_told : ProgramText → List (List HeapType)
-messages_told p = map (brought p) (flat_map messages_of (contracts_of p.items))
+messages_told p = map (payload_types p) (flat_map messages_of (contracts_of p.items))

@@ -24,36 +24,36 @@ use Rattle.program.specs.declared.statement.Action.{Action}
 use Rattle.program.specs.declared.statement.Action.TheVariants.{Nothing, Use, Move, Delete, Exchange, NewChannel, Return}
 use Rattle.program.specs.declared.statement.Mention.{Mention}
 use Rattle.resolving.specs.Fields.{field_number}
-use Rattle.resolving.specs.Locals.{LocalFrame, local_named, mention, mention_of, declared, next_number, number_of}
+use Rattle.resolving.specs.Locals.{LocalFrame, local_named, mention, mention_of, with_declaration, next_number, number_of}
 use Rattle.resolving.specs.Callees.{NumberedMethod, callee, called_name}
 use Rattle.resolving.specs.Types.{contract_named, type_held}
 use Rattle.resolving.specs.Messages.{Meant, message_sent, end_contract}
-use Rattle.resolving.specs.Reads.{reads, listed}
+use Rattle.resolving.specs.Reads.{reads, mention_list}
 use Rattle.tree.specs.Alone.{lone_name}
 use Rattle.resolving.specs.declared.locals.Declaration.{Declaration}
 
 -- a simple statement: what it reads, and what it does then
-abbrev pub told : List Mention → Action → StatementModel
-told reads action = seen.Simple reads action
+abbrev pub simple_of : List Mention → Action → StatementModel
+simple_of reads action = seen.Simple reads action
 
 -- the target takes what the source has
-abbrev pub moved : Mention → Option Mention → Action
-moved target None = Nothing
-moved target (Some source) = Move target source
+abbrev pub move_of : Mention → Option Mention → Action
+move_of target None = Nothing
+move_of target (Some source) = Move target source
 
 -- a field or an element is written
-abbrev pub used : Option Mention → Action
-used None = Nothing
-used (Some m) = Use m
+abbrev pub use_of : Option Mention → Action
+use_of None = Nothing
+use_of (Some m) = Use m
 
-abbrev pub deleted : Option Mention → Action
-deleted None = Nothing
-deleted (Some m) = Delete m
+abbrev pub delete_of : Option Mention → Action
+delete_of None = Nothing
+delete_of (Some m) = Delete m
 
 -- what is given for a parameter: a variable of the exchange heap, if that is what stands there alone
-abbrev pub given : declared_class.Parameter.Parameter → Option Mention → List Argument
-given x None = []
-given x (Some m) = record { mention = m; claimed = x.claims } ∷ []
+abbrev pub argument_of : declared_class.Parameter.Parameter → Option Mention → List Argument
+argument_of x None = []
+argument_of x (Some m) = record { mention = m; claimed = x.claims } ∷ []
 
 -- a declaration; its variable is in scope behind it
 abbrev pub declaration_of : ProgramText → DeclareTree → Declaration
@@ -72,7 +72,7 @@ module _ (p : ProgramText) (class : ℕ) (f : LocalFrame) where
   abbrev pub arguments : List declared_class.Parameter.Parameter → List ExpressionTree → List Argument
   arguments [] es = []
   arguments (x ∷ params) [] = []
-  arguments (x ∷ params) (e ∷ es) = given x (lone e) ++ arguments params es
+  arguments (x ∷ params) (e ∷ es) = argument_of x (lone e) ++ arguments params es
 
   -- what arguments read; those of the exchange heap are names alone, which read nothing
   abbrev pub argument_reads : List ExpressionTree → List Mention
@@ -93,15 +93,15 @@ module _ (p : ProgramText) (class : ℕ) (f : LocalFrame) where
   abbrev pub call_told : CallTree → Option Mention → List Mention → Option CallModel
   call_told c target behind = option_map (call_of c target behind) (callee p class f.locals c)
 
-  abbrev pub called : CallTree → Option Mention → List Mention → StatementModel
-  called c target behind = option_map_or seen.Call (call_told c target behind) (told [] Nothing)
+  abbrev pub call_statement : CallTree → Option Mention → List Mention → StatementModel
+  call_statement c target behind = option_map_or seen.Call (call_told c target behind) (simple_of [] Nothing)
 
-  abbrev pub started : CallTree → StatementModel
-  started c = option_map_or seen.Start (call_told c None []) (told [] Nothing)
+  abbrev pub start_statement : CallTree → StatementModel
+  start_statement c = option_map_or seen.Start (call_told c None []) (simple_of [] Nothing)
 
   -- what is given for the parameters of a message that are of the exchange heap, in order
   abbrev pub payloads : List ExpressionTree → List Mention
-  payloads es = flat_map (λ e. listed (lone e)) es
+  payloads es = flat_map (λ e. mention_list (lone e)) es
 
   -- a send of this message on this endpoint
   abbrev pub send_of : Span → CallTree → Mention → Meant → SendModel
@@ -114,11 +114,11 @@ module _ (p : ProgramText) (class : ℕ) (f : LocalFrame) where
   }
 
   -- a call by two names that sends this message
-  abbrev pub sent : CallTree → Span → Meant → Option SendModel
-  sent c word m = option_map (λ e. send_of word c e m) (mention p.text f.locals c.name)
+  abbrev pub send_for : CallTree → Span → Meant → Option SendModel
+  send_for c word m = option_map (λ e. send_of word c e m) (mention p.text f.locals c.name)
 
   abbrev pub sent_by : CallTree → Span → Option SendModel
-  sent_by c word = option_and_then (sent c word) (meant_by p f c word)
+  sent_by c word = option_and_then (send_for c word) (meant_by p f c word)
 
   -- a call that stands alone, where it is a send
   abbrev pub send_told : CallTree → Option SendModel
@@ -126,21 +126,21 @@ module _ (p : ProgramText) (class : ℕ) (f : LocalFrame) where
 
   -- a call that stands alone
   abbrev pub stated_call : CallTree → StatementModel
-  stated_call c = option_map_or seen.Send (send_told c) (called c None [])
+  stated_call c = option_map_or seen.Send (send_told c) (call_statement c None [])
 
   -- two variables take the ends of a new channel of the contract of this number
   abbrev pub ends_of : Place → ContractId → Mention → Mention → Action
   ends_of place contract v w = NewChannel (record { place = place; contract = contract; first = v; second = w })
 
-  abbrev pub channel_of : statement.NewChannel.NewChannel → ContractId → Option Action
-  channel_of n contract = option_and_then (λ v. option_map (ends_of n.word.place contract v) (mention p.text f.locals n.second))
+  abbrev pub channel_action : statement.NewChannel.NewChannel → ContractId → Option Action
+  channel_action n contract = option_and_then (λ v. option_map (ends_of n.word.place contract v) (mention p.text f.locals n.second))
       (mention p.text f.locals n.first)
 
   abbrev pub channel_found : statement.NewChannel.NewChannel → Option Action
-  channel_found n = option_and_then (channel_of n) (contract_named p n.contract)
+  channel_found n = option_and_then (channel_action n) (contract_named p n.contract)
 
-  abbrev pub channel : statement.NewChannel.NewChannel → Action
-  channel n = option_map_or (λ a. a) (channel_found n) Nothing
+  abbrev pub channel_or_nothing : statement.NewChannel.NewChannel → Action
+  channel_or_nothing n = option_map_or (λ a. a) (channel_found n) Nothing
 
   -- the length of a new array is read; what is given for fields is a name alone, which reads nothing
   abbrev pub made_reads : MadeTree → List Mention
@@ -168,61 +168,61 @@ module _ (p : ProgramText) (class : ℕ) (f : LocalFrame) where
   exchange_found e = option_and_then (exchange_by e)
       (option_and_then (λ v. field_number p v.ty e.field) (local_named p.text f.locals e.holder))
 
-  abbrev pub exchanged : statement.Exchange.Exchange → Action
-  exchanged e = option_map_or (λ a. a) (exchange_found e) Nothing
+  abbrev pub exchange_or_nothing : statement.Exchange.Exchange → Action
+  exchange_or_nothing e = option_map_or (λ a. a) (exchange_found e) Nothing
 
   -- a variable of the exchange heap takes a value
-  abbrev pub taken : Mention → ValueTree → StatementModel
-  taken target (values.Expression e) = told [] (moved target (lone e))
-  taken target (values.Call c) = called c (Some target) []
-  taken target (values.New n) = seen.New (new_of target n.made)
+  abbrev pub take_statement : Mention → ValueTree → StatementModel
+  take_statement target (values.Expression e) = simple_of [] (move_of target (lone e))
+  take_statement target (values.Call c) = call_statement c (Some target) []
+  take_statement target (values.New n) = seen.New (new_of target n.made)
 
   -- a scalar takes a value
   abbrev pub scalar_taken : ValueTree → StatementModel
-  scalar_taken (values.Expression e) = told (reads p.text f.locals e) Nothing
-  scalar_taken (values.Call c) = called c None []
-  scalar_taken (values.New n) = told (made_reads n.made) Nothing
+  scalar_taken (values.Expression e) = simple_of (reads p.text f.locals e) Nothing
+  scalar_taken (values.Call c) = call_statement c None []
+  scalar_taken (values.New n) = simple_of (made_reads n.made) Nothing
 
   -- a variable takes a value: one of the exchange heap, or a scalar
-  abbrev pub assigned : Option Mention → ValueTree → StatementModel
-  assigned None value = scalar_taken value
-  assigned (Some target) value = taken target value
+  abbrev pub assign_statement : Option Mention → ValueTree → StatementModel
+  assign_statement None value = scalar_taken value
+  assign_statement (Some target) value = take_statement target value
 
   -- A part of what a variable has takes a value. The index of an element is read before the value, and what is written into is
   -- used behind both; behind a call, both stand behind it.
   abbrev pub part_taken : List Mention → Option Mention → ValueTree → StatementModel
-  part_taken index whole (values.Expression e) = told (index ++ reads p.text f.locals e) (used whole)
-  part_taken index whole (values.Call c) = called c None (index ++ listed whole)
-  part_taken index whole (values.New n) = told (index ++ made_reads n.made) (used whole)
+  part_taken index whole (values.Expression e) = simple_of (index ++ reads p.text f.locals e) (use_of whole)
+  part_taken index whole (values.Call c) = call_statement c None (index ++ mention_list whole)
+  part_taken index whole (values.New n) = simple_of (index ++ made_reads n.made) (use_of whole)
 
-  abbrev pub written : TargetTree → ValueTree → StatementModel
-  written (trees.Variable name) value = assigned (mention p.text f.locals name) value
-  written (trees.Field name field) value = part_taken [] (mention p.text f.locals name) value
-  written (trees.Element name index) value = part_taken (reads p.text f.locals index) (mention p.text f.locals name) value
+  abbrev pub write_statement : TargetTree → ValueTree → StatementModel
+  write_statement (trees.Variable name) value = assign_statement (mention p.text f.locals name) value
+  write_statement (trees.Field name field) value = part_taken [] (mention p.text f.locals name) value
+  write_statement (trees.Element name index) value = part_taken (reads p.text f.locals index) (mention p.text f.locals name) value
 
   -- a declaration with a value assigns it; the variable has the next number
   abbrev pub first_value : Span → Option ℕ → Option ValueTree → StatementModel
-  first_value name number None = told [] Nothing
-  first_value name number (Some value) = assigned (option_map (mention_of name) number) value
+  first_value name number None = simple_of [] Nothing
+  first_value name number (Some value) = assign_statement (option_map (mention_of name) number) value
 
   -- what a method gives: a scalar is read, and a variable of the exchange heap stands alone
-  abbrev pub returned : Place → Option ExpressionTree → StatementModel
-  returned place None = told [] (Return place None (option_map number_of f.last))
-  returned place (Some e) = told (reads p.text f.locals e) (Return place (lone e) (option_map number_of f.last))
+  abbrev pub return_statement : Place → Option ExpressionTree → StatementModel
+  return_statement place None = simple_of [] (Return place None (option_map number_of f.last))
+  return_statement place (Some e) = simple_of (reads p.text f.locals e) (Return place (lone e) (option_map number_of f.last))
 
   -- a statement that holds no others
   abbrev pub plain_told : StatementTree → StatementModel
   plain_told (stated.Declare d) = first_value d.name (next_number (type_held p d.ty) f) d.value
-  plain_told (stated.Assign a) = written a.target a.value
+  plain_told (stated.Assign a) = write_statement a.target a.value
   plain_told (stated.Call c) = stated_call c
-  plain_told (stated.Start word c) = started c
-  plain_told (stated.Delete name) = told [] (deleted (mention p.text f.locals name))
-  plain_told (stated.Exchange e) = told [] (exchanged e)
-  plain_told (stated.NewChannel n) = told [] (channel n)
-  plain_told (stated.Return word value) = returned word.place value
-  plain_told _ = told [] Nothing
+  plain_told (stated.Start word c) = start_statement c
+  plain_told (stated.Delete name) = simple_of [] (delete_of (mention p.text f.locals name))
+  plain_told (stated.Exchange e) = simple_of [] (exchange_or_nothing e)
+  plain_told (stated.NewChannel n) = simple_of [] (channel_or_nothing n)
+  plain_told (stated.Return word value) = return_statement word.place value
+  plain_told _ = simple_of [] Nothing
 
   -- the frame behind it
   abbrev pub frame_behind : StatementTree → LocalFrame
-  frame_behind (stated.Declare d) = declared p.text (declaration_of p d) f
+  frame_behind (stated.Declare d) = with_declaration p.text (declaration_of p d) f
   frame_behind _ = f

@@ -38,6 +38,6 @@ pub record IsResolvedPiece (text : List ℕ) {X : Type 0} (t : ResolvedPiece X) 
   pub frame : IsLocalFrame text t.frame locals
 
 -- what pieces in a row come to, each in the frame behind those before it
-abbrev pub walked : {T X : Type 0} → (T → LocalFrame → ResolvedPiece X) → List T → LocalFrame → ResolvedPiece (List X)
-walked go [] f = record { what = []; frame = f }
-walked go (t ∷ ts) f = follow (λ x xs. x ∷ xs) (go t f) (walked go ts)
+abbrev pub pieces_in_order : {T X : Type 0} → (T → LocalFrame → ResolvedPiece X) → List T → LocalFrame → ResolvedPiece (List X)
+pieces_in_order go [] f = record { what = []; frame = f }
+pieces_in_order go (t ∷ ts) f = follow (λ x xs. x ∷ xs) (go t f) (pieces_in_order go ts)

@@ -6,7 +6,7 @@ ghost use Rattle.tree.specs.Trees.{contract_of, definition_tree, member_tree, me
 ghost use Rattle.declarations.specs.Declarations.{message_among, messages_of};
 ghost use Rattle.declarations.specs.Program.{ProgramText};
 ghost use Rattle.resolving.specs.Around.{IsDirectory};
-ghost use Rattle.resolving.specs.Brought.{brought, params_held};
+ghost use Rattle.resolving.specs.Brought.{payload_types, params_held};
 ghost use Rattle.program.specs.Programs.{type_lists};
 
 use crate::around::Directory;
@@ -40,7 +40,7 @@ fn add_messages(
     told: &mut Vec<Vec<HeapType>>,
 ) -> Result<(), AllocError>
     ensures { (p : ProgramText) → IsDirectory p directory.now
-        → OnOk result (type_lists told.new.items ≡ type_lists told.old.items ++ map (brought p) (map message_tree messages.now)) }
+        → OnOk result (type_lists told.new.items ≡ type_lists told.old.items ++ map (payload_types p) (map message_tree messages.now)) }
 {
     for message in messages {
         told.push(params_held(alloc, directory, &message.params)?)?;
@@ -56,7 +56,7 @@ fn add_members(
     told: &mut Vec<Vec<HeapType>>,
 ) -> Result<(), AllocError>
     ensures { (p : ProgramText) → IsDirectory p directory.now → OnOk result (type_lists told.new.items
-        ≡ type_lists told.old.items ++ map (brought p) (flat_map message_among (map member_tree members.now))) }
+        ≡ type_lists told.old.items ++ map (payload_types p) (flat_map message_among (map member_tree members.now))) }
 {
     for member in members {
         if let Member::Message(message) = member {
@@ -74,7 +74,7 @@ pub(crate) fn add_brought(
     told: &mut Vec<Vec<HeapType>>,
 ) -> Result<(), AllocError>
     ensures { (p : ProgramText) → IsDirectory p directory.now → OnOk result (type_lists told.new.items
-        ≡ type_lists told.old.items ++ map (brought p) (flat_map messages_of (contract_of (definition_tree definition.now)))) }
+        ≡ type_lists told.old.items ++ map (payload_types p) (flat_map messages_of (contract_of (definition_tree definition.now)))) }
 {
     if let Definition::Contract(contract) = definition {
         add_messages(alloc, directory, &contract.messages, told)?;

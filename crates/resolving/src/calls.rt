@@ -13,7 +13,7 @@ ghost use Rattle.resolving.specs.Locals.{LocalFrame, local_named};
 ghost use Rattle.resolving.specs.Reads.{reads};
 ghost use Rattle.resolving.specs.Steps.{AddsReads, TellsStatement, TellsCall};
 ghost use Rattle.resolving.specs.Plain as told;
-ghost use Rattle.resolving.specs.Plain.{argument_reads, call_told, given};
+ghost use Rattle.resolving.specs.Plain.{argument_reads, call_told, argument_of};
 
 use crate::around::Around;
 use crate::given::alone;
@@ -134,7 +134,7 @@ fn add_given(
     mention: Option<Mention>,
     found: &mut Vec<Argument>,
 ) -> Result<(), AllocError>
-    ensures { OnOk result (found.new.items ≡ found.old.items ++ given parameter mention) }
+    ensures { OnOk result (found.new.items ≡ found.old.items ++ argument_of parameter mention) }
 {
     if let Some(mention) = mention {
         let claimed = parameter.claims;
@@ -226,7 +226,7 @@ pub(crate) fn tell_call(
 ) -> Result<Statement, AllocError>
     ensures { (items : List ItemTree) (own : ℕ) → IsAround (program_in text.now items) own around.now
         → IfOk result (TellsStatement text.now locals.now
-        (λ f. told.called (program_in text.now items) own f (call_tree call.now) after.target after.behind.items)) }
+        (λ f. told.call_statement (program_in text.now items) own f (call_tree call.now) after.target after.behind.items)) }
 {
     match tell_called(text, around, locals, call, after)? {
         Some(call) => Ok(Statement::Call(Box::new(around.alloc, call)?)),
@@ -242,7 +242,7 @@ pub(crate) fn tell_start(
     call: &tree::Call,
 ) -> Result<Statement, AllocError>
     ensures { (items : List ItemTree) (own : ℕ) → IsAround (program_in text.now items) own around.now → IfOk result (TellsStatement
-        text.now locals.now (λ f. told.started (program_in text.now items) own f (call_tree call.now))) }
+        text.now locals.now (λ f. told.start_statement (program_in text.now items) own f (call_tree call.now))) }
 {
     let behind = Vec::new(around.alloc);
     let after = ResultUse {

@@ -178,8 +178,8 @@ pub(crate) fn declare_binds<'a>(
         (model.binds_told (program_in text.now items) params.now binds.now f) bound.items locals.new) }
 {
     let mut bound = Vec::new(around.alloc);
-    for (place, bind) in binds.iter().enumerate() {
-        let param = param_at(params, place);
+    for (index, bind) in binds.iter().enumerate() {
+        let param = param_at(params, index);
         declare_bind(text, around, locals, param, *bind, &mut bound)?;
     }
     Ok(bound)

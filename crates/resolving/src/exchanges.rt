@@ -60,7 +60,7 @@ pub(crate) fn exchange_action(
     exchange: Exchange,
 ) -> Action
     ensures { (items : List ItemTree) (own : ℕ) (f : LocalFrame) → IsAround (program_in text.now items) own around.now
-        → IsLocalFrame text.now f locals.now → result ≡ told.exchanged (program_in text.now items) own f exchange }
+        → IsLocalFrame text.now f locals.now → result ≡ told.exchange_or_nothing (program_in text.now items) own f exchange }
 {
     match exchange_of(text, around, locals, exchange) {
         Some(action) => action,

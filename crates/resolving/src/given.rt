@@ -7,7 +7,7 @@ ghost use Rattle.resolving.specs.Around.{program_in};
 ghost use Rattle.resolving.specs.Frames.{IsLocalFrame};
 ghost use Rattle.resolving.specs.Locals.{LocalFrame};
 ghost use Rattle.resolving.specs.Plain.{lone, payloads};
-ghost use Rattle.resolving.specs.Reads.{listed};
+ghost use Rattle.resolving.specs.Reads.{mention_list};
 
 use crate::locals::Locals;
 use program::Mention;
@@ -28,7 +28,7 @@ pub(crate) fn add_listed(
     mention: Option<Mention>,
     found: &mut Vec<Mention>,
 ) -> Result<(), AllocError>
-    ensures { OnOk result (found.new.items ≡ found.old.items ++ listed mention) }
+    ensures { OnOk result (found.new.items ≡ found.old.items ++ mention_list mention) }
 {
     if let Some(mention) = mention {
         found.push(mention)?;

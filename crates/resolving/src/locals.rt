@@ -8,7 +8,7 @@ ghost use Rattle.resolving.specs.Frames.{IsLocalFrame, local_model, number_model
 ghost use Rattle.resolving.specs.Messages.{contract_of, end_contract};
 ghost use Rattle.resolving.specs.Methods.{no_variables};
 ghost use Rattle.resolving.specs.Locals.{LocalFrame, local_named, mention, next_number, number_of};
-ghost use Rattle.resolving.specs.Locals.{entered, counted, declared, declared_heap};
+ghost use Rattle.resolving.specs.Locals.{with_local, with_variable, with_declaration, declared_heap};
 
 use program::{HeapType, Mention, Role, VarId, Variable};
 use source::Span;
@@ -141,7 +141,7 @@ impl<'a> Locals<'a> {
         declaration: Declaration,
     ) -> Result<(), AllocError>
         ensures { (f : LocalFrame) → IsLocalFrame text.now f self.old
-            → OnOk result (IsLocalFrame text.now (declared text.now declaration f) self.new) }
+            → OnOk result (IsLocalFrame text.now (with_declaration text.now declaration f) self.new) }
     {
         match declaration.held {
             Some(held) => self.declare_heap(alloc, text, declaration, held),
@@ -177,7 +177,7 @@ impl<'a> Locals<'a> {
     ) -> Result<(), AllocError>
         ensures { (f : LocalFrame) → IsLocalFrame text.now f self.old
             → OnOk result (IsLocalFrame text.now (record {
-              locals = entered text.now declaration
+              locals = with_local text.now declaration
                   (number_model number) f.locals;
               last = f.last;
               variables = f.variables;
@@ -206,7 +206,7 @@ impl<'a> Locals<'a> {
             → OnOk result (IsLocalFrame text.now (record {
               locals = f.locals;
               last = f.last;
-              variables = counted text.now declaration ty f.last f.variables;
+              variables = with_variable text.now declaration ty f.last f.variables;
             }) self.new) }
     {
         let name = Vec::from_slice(alloc, declaration.name.slice(text))?;

@@ -11,7 +11,7 @@ ghost use Rattle.program.specs.declared.limits.TheConstants.{MOST_METHODS};
 ghost use Rattle.program.specs.Methods.{method_model};
 ghost use Rattle.declarations.specs.Scopes.{IsScope};
 ghost use Rattle.resolving.specs.Around.{IsAround, program_in};
-ghost use Rattle.resolving.specs.Brought.{brought, messages_told};
+ghost use Rattle.resolving.specs.Brought.{payload_types, messages_told};
 ghost use Rattle.program.specs.Programs.{type_lists};
 ghost use Rattle.resolving.specs.Callees.{all_methods};
 ghost use Rattle.resolving.specs.Fields.{structs_told};

@@ -11,7 +11,8 @@ ghost use Rattle.resolving.specs.Frames.{IsLocalFrame};
 ghost use Rattle.resolving.specs.Types.{type_held};
 ghost use Rattle.resolving.specs.Locals.{LocalFrame, mention_of, next_number};
 ghost use Rattle.resolving.specs.Steps.{TellsStatement};
-ghost use Rattle.resolving.specs.Plain.{declaration_of, deleted, written, first_value, returned, plain_told, frame_behind};
+ghost use Rattle.resolving.specs.Plain.{declaration_of, delete_of, first_value, frame_behind, plain_told};
+ghost use Rattle.resolving.specs.Plain.{return_statement, write_statement};
 
 use crate::around::Around;
 use crate::calls::tell_start;
@@ -29,7 +30,7 @@ use tree::{Declare, Expression, Target, Value};
 
 /// What a variable has is freed.
 fn delete_action(mention: Option<Mention>) -> Action
-    ensures { result ≡ deleted mention }
+    ensures { result ≡ delete_of mention }
 {
     match mention {
         Some(mention) => Action::Delete(mention),
@@ -47,7 +48,7 @@ fn tell_assign(
 ) -> Result<Statement, AllocError>
     ensures { (items : List ItemTree) (own : ℕ) → IsAround (program_in text.now items) own around.now
         → IfOk result (TellsStatement text.now locals.now
-        (λ f. written (program_in text.now items) own f (target_tree target.now) (value_tree value.now))) }
+        (λ f. write_statement (program_in text.now items) own f (target_tree target.now) (value_tree value.now))) }
 {
     match target {
         Target::Variable(name) => {
@@ -115,7 +116,7 @@ fn tell_return(
     value: &Option<Box<Expression>>,
 ) -> Result<Statement, AllocError>
     ensures { (items : List ItemTree) (own : ℕ) → IfOk result (TellsStatement text.now locals.now
-        (λ f. returned (program_in text.now items) own f place (option_map (λ e. expression_tree e.value) value.now))) }
+        (λ f. return_statement (program_in text.now items) own f place (option_map (λ e. expression_tree e.value) value.now))) }
 {
     let scope = locals.last();
     match value {

@@ -4,7 +4,7 @@ ghost use Rattle.std.specs.Prelude.{OnOk};
 ghost use Rattle.tree.specs.ExpressionTrees.{expression_tree, disjunction_tree, conjunction_tree, equality_tree, relation_tree};
 ghost use Rattle.tree.specs.ExpressionTrees.{sum_tree, factors_tree, unary_tree, prefixed_tree, atom_tree, target_tree};
 ghost use Rattle.resolving.specs.Locals.{mention};
-ghost use Rattle.resolving.specs.Reads.{reads, atom_reads, target_reads, listed};
+ghost use Rattle.resolving.specs.Reads.{reads, atom_reads, target_reads, mention_list};
 ghost use Rattle.resolving.specs.Steps.{AddsReads};
 
 use crate::locals::Locals;
@@ -221,7 +221,7 @@ fn add_mention(
     found: &mut Vec<Mention>,
 ) -> Result<(), AllocError>
     ensures { OnOk result (AddsReads text.now locals.now
-        (λ f. listed (mention text.now f.locals name)) found.old.items found.new.items) }
+        (λ f. mention_list (mention text.now f.locals name)) found.old.items found.new.items) }
 {
     if let Some(mention) = locals.mention(text, name) {
         found.push(mention)?;

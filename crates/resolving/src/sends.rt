@@ -150,7 +150,7 @@ pub(crate) fn channel_action(
     channel: NewChannel,
 ) -> Action
     ensures { (items : List ItemTree) (own : ℕ) (f : LocalFrame) → IsAround (program_in text.now items) own around.now
-        → IsLocalFrame text.now f locals.now → result ≡ told.channel (program_in text.now items) own f channel }
+        → IsLocalFrame text.now f locals.now → result ≡ told.channel_or_nothing (program_in text.now items) own f channel }
 {
     match channel_of(text, around, locals, channel) {
         Some(action) => action,

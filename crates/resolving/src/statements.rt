@@ -6,7 +6,7 @@ ghost use Rattle.program.specs.Statements.{statement_model, block_model, test_mo
 ghost use Rattle.resolving.specs.Around.{IsAround, program_in};
 ghost use Rattle.resolving.specs.Frames.{IsLocalFrame, staying_model};
 ghost use Rattle.resolving.specs.Locals.{LocalFrame};
-ghost use Rattle.resolving.specs.Steps.{IsResolvedPiece, walked};
+ghost use Rattle.resolving.specs.Steps.{IsResolvedPiece, pieces_in_order};
 ghost use Rattle.resolving.specs.Plain.{plain_told, frame_behind};
 ghost use Rattle.resolving.specs.Told.{follow, statement_told, statements_told, block_told, test_told, others_told, case_told, cases_told};
 ghost use Rattle.tree.specs.Trees.{ItemTree};
@@ -178,7 +178,7 @@ fn tell_tests<'a>(
     tests: &[tree::Test],
 ) -> Result<Vec<Test>, AllocError>
     ensures { (items : List ItemTree) (own : ℕ) (f : LocalFrame) → IsAround (program_in text.now items) own around.now
-        → IsLocalFrame text.now f locals.old → IfOk result (λ list. IsResolvedPiece text.now (walked (test_told (program_in
+        → IsLocalFrame text.now f locals.old → IfOk result (λ list. IsResolvedPiece text.now (pieces_in_order (test_told (program_in
         text.now items) own (staying_model stays)) (map test_tree tests.now) f) (map test_model list.items) locals.new) }
 {
     let mut told = Vec::with_capacity(around.alloc, tests.len())?;

@@ -12,7 +12,8 @@ ghost use Rattle.resolving.specs.Steps.{AddsReads, TellsStatement};
 ghost use Rattle.resolving.specs.Frames.{IsLocalFrame};
 ghost use Rattle.resolving.specs.Locals.{LocalFrame};
 ghost use Rattle.resolving.specs.Reads.{reads};
-ghost use Rattle.resolving.specs.Plain.{told, moved, used, made_reads, made_arguments, new_of, taken, scalar_taken, assigned, part_taken};
+ghost use Rattle.resolving.specs.Plain.{assign_statement, made_arguments, made_reads, move_of, new_of, part_taken};
+ghost use Rattle.resolving.specs.Plain.{scalar_taken, simple_of, take_statement, use_of};
 
 use crate::around::Around;
 use crate::calls::{ResultUse, tell_call};
@@ -25,21 +26,21 @@ use tree::{Expression, Made, Value};
 
 /// The statement that reads these, and then does this.
 fn simple_statement(reads: Vec<Mention>, action: Action) -> Statement
-    ensures { statement_model result ≡ told reads.items action }
+    ensures { statement_model result ≡ simple_of reads.items action }
 {
     Statement::Simple(Simple { reads, action })
 }
 
 /// A statement that reads nothing.
 pub(crate) fn unread(alloc: Global, action: Action) -> Statement
-    ensures { statement_model result ≡ told [] action }
+    ensures { statement_model result ≡ simple_of [] action }
 {
     simple_statement(Vec::new(alloc), action)
 }
 
 /// The target takes what the source has, if there is a source.
 fn move_action(target: Mention, source: Option<Mention>) -> Action
-    ensures { result ≡ moved target source }
+    ensures { result ≡ move_of target source }
 {
     match source {
         Some(source) => Action::Move { target, source },
@@ -49,7 +50,7 @@ fn move_action(target: Mention, source: Option<Mention>) -> Action
 
 /// A part of what the variable has is written.
 fn use_action(whole: Option<Mention>) -> Action
-    ensures { result ≡ used whole }
+    ensures { result ≡ use_of whole }
 {
     match whole {
         Some(whole) => Action::Use(whole),
@@ -98,7 +99,7 @@ fn tell_made(
     action: Action,
 ) -> Result<Statement, AllocError>
     ensures { (items : List ItemTree) (own : ℕ) → IfOk result (TellsStatement text.now locals.now
-        (λ f. told (before.items ++ made_reads (program_in text.now items) own f (made_tree made.now)) action)) }
+        (λ f. simple_of (before.items ++ made_reads (program_in text.now items) own f (made_tree made.now)) action)) }
 {
     add_made_reads(text, locals, made, &mut before)?;
     Ok(simple_statement(before, action))
@@ -133,7 +134,7 @@ pub(crate) fn tell_read(
     action: Action,
 ) -> Result<Statement, AllocError>
     ensures { IfOk result (TellsStatement text.now locals.now
-        (λ f. told (before.items ++ reads text.now f.locals (expression_tree expression.now)) action)) }
+        (λ f. simple_of (before.items ++ reads text.now f.locals (expression_tree expression.now)) action)) }
 {
     add_reads(text, locals, expression, &mut before)?;
     Ok(simple_statement(before, action))
@@ -148,7 +149,7 @@ fn tell_taken(
     value: &Value,
 ) -> Result<Statement, AllocError>
     ensures { (items : List ItemTree) (own : ℕ) → IsAround (program_in text.now items) own around.now → IfOk result (TellsStatement
-        text.now locals.now (λ f. taken (program_in text.now items) own f target (value_tree value.now))) }
+        text.now locals.now (λ f. take_statement (program_in text.now items) own f target (value_tree value.now))) }
 {
     match value {
         Value::Expression(expression) => {
@@ -202,7 +203,7 @@ pub(crate) fn tell_assigned(
     value: &Value,
 ) -> Result<Statement, AllocError>
     ensures { (items : List ItemTree) (own : ℕ) → IsAround (program_in text.now items) own around.now → IfOk result (TellsStatement
-        text.now locals.now (λ f. assigned (program_in text.now items) own f target (value_tree value.now))) }
+        text.now locals.now (λ f. assign_statement (program_in text.now items) own f target (value_tree value.now))) }
 {
     match target {
         Some(target) => tell_taken(text, around, locals, target, value),

@@ -12,9 +12,9 @@ use Rattle.program.specs.Methods.{MethodModel}
 use Rattle.program.specs.declared.call.Argument.{Argument}
 use Rattle.program.specs.declared.statement.Mention.{Mention}
 use Rattle.rules.specs.Checks.{AreIn, StandsFor, check_model}
-use Rattle.rules.specs.Arguments.{claimed, given_before}
+use Rattle.rules.specs.Arguments.{after_claims, given_before}
 use Rattle.rules.specs.Mentions.{name_of}
-use Rattle.rules.specs.Outcomes.{Check, Pair, checked, refused}
+use Rattle.rules.specs.Outcomes.{Check, Pair, after_checks, refuse_if}
 use Rattle.rules.specs.Repeats.{first_again, require_none_again}
 use Rattle.rules.specs.Texts.{twice}
 use Rattle.rules.specs.declared.breach.Breach.{Breach}
@@ -66,13 +66,13 @@ none_in set empty = λ q. ap (list_any (is_at (nat_cmp q))) empty
 pub looked_first : (set : BTreeSet ℕ) (arguments : List Argument) → IsEmpty set → Looked set arguments 0
 looked_first set arguments empty = record { same = ([], none_in set empty, refl) }
 
-one : (m : MethodModel) (b : Bool) (x : Mention) (checks more : List Check) (again : Option Mention) (after : List Pair) → checked (checks ++ more) after ≡ checked (require_none_again m again ∷ more) after
-    → checked (refused b (twice (name_of m x.variable.0) x.place) ∷ (checks ++ more)) after ≡ checked (require_none_again m (if b then Some x else again) ∷ more) after
+one : (m : MethodModel) (b : Bool) (x : Mention) (checks more : List Check) (again : Option Mention) (after : List Pair) → after_checks (checks ++ more) after ≡ after_checks (require_none_again m again ∷ more) after
+    → after_checks (refuse_if b (twice (name_of m x.variable.0) x.place) ∷ (checks ++ more)) after ≡ after_checks (require_none_again m (if b then Some x else again) ∷ more) after
 one m true x checks more again after h = refl
 one m false x checks more again after h = h
 
 -- the first one that was given before is the finding
-pub again_is : (m : MethodModel) (earlier : List ℕ) (arguments : List Argument) (more : List Check) (after : List Pair) → checked (given_before m earlier arguments ++ more) after ≡ checked (require_none_again m (first_again earlier arguments) ∷ more) after
+pub again_is : (m : MethodModel) (earlier : List ℕ) (arguments : List Argument) (more : List Check) (after : List Pair) → after_checks (given_before m earlier arguments ++ more) after ≡ after_checks (require_none_again m (first_again earlier arguments) ∷ more) after
 again_is m earlier [] more after = refl
 again_is m earlier (a ∷ arguments) more after =
     let x = a.mention in
@@ -81,11 +81,11 @@ again_is m earlier (a ∷ arguments) more after =
 -- what was found stands for the checks that none was given before
 pub again_stands : (m : MethodModel) (earlier : List ℕ) (arguments : List Argument) (again : Option Mention) (says : Breach → FindingModel) (found : Result (Unit {0}) Breach) → again ≡ first_again earlier arguments → check_model says found ≡ require_none_again m again → StandsFor says found (given_before m earlier arguments)
 again_stands m earlier arguments again says found is told =
-    record { all = λ more after. again_is m earlier arguments more after ∙ ap (λ a. checked (require_none_again m a ∷ more) after) (sym is) ∙ ap (λ f. checked (f ∷ more) after) (sym told) }
+    record { all = λ more after. again_is m earlier arguments more after ∙ ap (λ a. after_checks (require_none_again m a ∷ more) after) (sym is) ∙ ap (λ f. after_checks (f ∷ more) after) (sym told) }
 
 -- of these checks only those are left
 pub record Left (checks left : List Check) : Type 0 where
-  pub all : (more : List Check) (after : List Pair) → checked (checks ++ more) after ≡ checked (left ++ more) after
+  pub all : (more : List Check) (after : List Pair) → after_checks (checks ++ more) after ≡ after_checks (left ++ more) after
 
 -- none was looked at
 pub left_all : (checks : List Check) → Left checks checks
@@ -93,9 +93,9 @@ left_all checks = record { all = λ more after. refl }
 
 module _ (says : Breach → FindingModel) where
   left_behind : (checks before left rest : List Check) (found : Result (Unit {0}) Breach) → left ≡ before ++ rest → StandsFor says found before → Left checks left
-      → (more : List Check) (after : List Pair) → checked (checks ++ more) after ≡ checked (check_model says found ∷ (rest ++ more)) after
+      → (more : List Check) (after : List Pair) → after_checks (checks ++ more) after ≡ after_checks (check_model says found ∷ (rest ++ more)) after
   left_behind checks before left rest found is stands h more after =
-      h.all more after ∙ ap (λ l. checked (l ++ more) after) is ∙ ap (λ l. checked l after) (append_assoc before rest more) ∙ stands.all (rest ++ more) after
+      h.all more after ∙ ap (λ l. after_checks (l ++ more) after) is ∙ ap (λ l. after_checks l after) (append_assoc before rest more) ∙ stands.all (rest ++ more) after
 
   -- the first of those that are left went well
   pub left_less : (checks before left rest : List Check) → left ≡ before ++ rest → StandsFor says (Ok tt) before → Left checks left → Left checks rest
@@ -107,16 +107,16 @@ module _ (says : Breach → FindingModel) where
   left_found checks before left rest answer breach is passed stands h = record {
     all = λ more after.
         left_behind checks before left rest (Err breach) is stands h more after
-        ∙ sym (ap (λ f. checked (check_model says f ∷ more) after) (passed_on answer breach passed));
+        ∙ sym (ap (λ f. after_checks (check_model says f ∷ more) after) (passed_on answer breach passed));
   }
 
   -- none is left
   pub left_none : (checks left : List Check) → left ≡ [] → Left checks left → StandsFor says (Ok tt) checks
-  left_none checks left is h = record { all = λ more after. h.all more after ∙ ap (λ l. checked (l ++ more) after) is }
+  left_none checks left is h = record { all = λ more after. h.all more after ∙ ap (λ l. after_checks (l ++ more) after) is }
 
 -- what is claimed of one argument more is gone
-pub claimed_more : (row less : List Leaf) (arguments : List Argument) (done : ℕ) (d : Argument) → done < length arguments → less ≡ claimed row (slice_index_or arguments done d ∷ []) → claimed less (drop (done + 1) arguments) ≡ claimed row (drop done arguments)
-claimed_more row less arguments done d lt is = sym (at_drop_more (claimed row) arguments done d lt ∙ ap (λ r. claimed r (drop (done + 1) arguments)) (sym is))
+pub claimed_more : (row less : List Leaf) (arguments : List Argument) (done : ℕ) (d : Argument) → done < length arguments → less ≡ after_claims row (slice_index_or arguments done d ∷ []) → after_claims less (drop (done + 1) arguments) ≡ after_claims row (drop done arguments)
+claimed_more row less arguments done d lt is = sym (at_drop_more (after_claims row) arguments done d lt ∙ ap (λ r. after_claims r (drop (done + 1) arguments)) (sym is))
 
 -- two lists side by side, from one place on
 pub zip_more : {A B : Type 0} (xs : List A) (ys : List B) (i : ℕ) (d : A) (e : B) → i < length xs → i < length ys → zip (drop i xs) (drop i ys) ≡ (slice_index_or xs i d, slice_index_or ys i e) ∷ zip (drop (i + 1) xs) (drop (i + 1) ys)

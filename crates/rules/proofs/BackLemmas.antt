@@ -8,7 +8,7 @@ use Rattle.program.specs.Programs.{ProgramModel}
 use Rattle.rules.specs.Mentions.{name_of}
 use Rattle.source.specs.Findings.{FindingModel}
 use Rattle.rules.specs.Checks.{StandsFor, check_model}
-use Rattle.rules.specs.Outcomes.{Check, checked, refused}
+use Rattle.rules.specs.Outcomes.{Check, after_checks, refuse_if}
 use Rattle.rules.specs.RuleTable.{is_not_back}
 use Rattle.rules.specs.Texts.{not_back}
 use Rattle.rules.specs.declared.breach.Breach.{Breach}
@@ -16,7 +16,7 @@ use Rattle.rows.specs.declared.row.Leaf.{Leaf}
 
 module _ (p : ProgramModel) (m : MethodModel) (row : List Leaf) (place : Place) where
   abbrev pub back_check : ℕ → Check
-  back_check v = refused (is_not_back p m row v) (not_back (name_of m v) place)
+  back_check v = refuse_if (is_not_back p m row v) (not_back (name_of m v) place)
 
   -- the checks of the variables from this one on
   abbrev pub back_from : ℕ → List Check
@@ -35,5 +35,5 @@ module _ (p : ProgramModel) (m : MethodModel) (row : List Leaf) (place : Place) 
   -- what is said of one that is not back stands for its check
   pub told_back : (v : ℕ) (says : Breach → FindingModel) (found : Result (Unit {0}) Breach) → is_not_back p m row v ≡ true → check_model says found ≡ Some (not_back (name_of m v) place) → StandsFor says found (back_check v ∷ [])
   told_back v says found out told = record {
-    all = λ more after. ap (λ (b : Bool). checked (refused b (not_back (name_of m v) place) ∷ more) after) out ∙ ap (λ f. checked (f ∷ more) after) (sym told);
+    all = λ more after. ap (λ (b : Bool). after_checks (refuse_if b (not_back (name_of m v) place) ∷ more) after) out ∙ ap (λ f. after_checks (f ∷ more) after) (sym told);
   }

@@ -4,7 +4,7 @@ use Rattle.std.specs.Prelude.{Result, IsErrAnd}
 use Rattle.source.specs.Findings.{FindingModel}
 use Rattle.rules.specs.Checks.{StandsFor, check_model}
 use Rattle.rules.specs.Onwards.{onward_model, onward_of}
-use Rattle.rules.specs.Outcomes.{Check, Pair, Fails, checked, refused}
+use Rattle.rules.specs.Outcomes.{Check, Pair, Fails, after_checks, refuse_if}
 use Rattle.rules.specs.declared.breach.Breach.{Breach}
 use Rattle.rules.specs.declared.onward.Onward.{Onward}
 use Rattle.rows.specs.declared.row.Leaf.{Leaf}
@@ -16,7 +16,7 @@ passed_on (Err b) breach is = ap (λ e. Err e) is
 
 -- the same checks said otherwise
 pub of_checks : {says : Breach → FindingModel} {answer : Result (Unit {0}) Breach} {checks others : List Check} → checks ≡ others → StandsFor says answer checks → StandsFor says answer others
-of_checks is stands = record { all = λ more after. ap (λ l. checked (l ++ more) after) (sym is) ∙ stands.all more after }
+of_checks is stands = record { all = λ more after. ap (λ l. after_checks (l ++ more) after) (sym is) ∙ stands.all more after }
 
 module _ (says : Breach → FindingModel) where
   -- a rule answers a breach that a check had
@@ -25,23 +25,23 @@ module _ (says : Breach → FindingModel) where
   told_on (Err b) breach row is = ap (λ e. Fails (says e)) is
 
   -- nothing comes behind these checks
-  pub alone : (checks : List Check) (answer : Result (Unit {0}) Breach) (after : List Pair) → StandsFor says answer checks → checked (check_model says answer ∷ []) after ≡ checked checks after
-  alone checks answer after stands = sym (ap (λ l. checked l after) (sym (append-nil checks)) ∙ stands.all [] after)
+  pub alone : (checks : List Check) (answer : Result (Unit {0}) Breach) (after : List Pair) → StandsFor says answer checks → after_checks (check_model says answer ∷ []) after ≡ after_checks checks after
+  alone checks answer after stands = sym (ap (λ l. after_checks l after) (sym (append-nil checks)) ∙ stands.all [] after)
 
   -- one check before others went well
-  pub behind_one : (check : Check) (checks : List Check) (after : List Pair) → None ≡ check → checked checks after ≡ checked (check ∷ checks) after
-  behind_one check checks after is = ap (λ c. checked (c ∷ checks) after) is
+  pub behind_one : (check : Check) (checks : List Check) (after : List Pair) → None ≡ check → after_checks checks after ≡ after_checks (check ∷ checks) after
+  behind_one check checks after is = ap (λ c. after_checks (c ∷ checks) after) is
 
   -- two lists of checks, of which the first went well
   pub both_stand : (checks behind : List Check) (answer : Result (Unit {0}) Breach) → StandsFor says (Ok tt) checks → StandsFor says answer behind → StandsFor says answer (checks ++ behind)
   both_stand checks behind answer stands more_stands = record {
     all = λ more after.
-        ap (λ l. checked l after) (append_assoc checks behind more) ∙ stands.all (behind ++ more) after ∙ more_stands.all more after;
+        ap (λ l. after_checks l after) (append_assoc checks behind more) ∙ stands.all (behind ++ more) after ∙ more_stands.all more after;
   }
 
   -- the same, where nothing comes behind
   pub second_of : (checks behind : List Check) (answer : Result (Unit {0}) Breach) (after : List Pair) → StandsFor says (Ok tt) checks → StandsFor says answer behind
-      → checked (check_model says answer ∷ []) after ≡ checked (checks ++ behind) after
+      → after_checks (check_model says answer ∷ []) after ≡ after_checks (checks ++ behind) after
   second_of checks behind answer after stands more_stands =
       alone (checks ++ behind) answer after (both_stand checks behind answer stands more_stands)
 
@@ -49,18 +49,18 @@ module _ (says : Breach → FindingModel) where
   pub first_stands : (checks behind : List Check) (answer : Result (Unit {0}) Breach) (breach : Breach) → IsErrAnd answer (λ b. b ≡ breach) → StandsFor says (Err breach) checks → StandsFor says answer (checks ++ behind)
   first_stands checks behind answer breach passed stands = record {
     all = λ more after.
-        ap (λ l. checked l after) (append_assoc checks behind more) ∙ stands.all (behind ++ more) after
-        ∙ sym (ap (λ f. checked (check_model says f ∷ more) after) (passed_on answer breach passed));
+        ap (λ l. after_checks l after) (append_assoc checks behind more) ∙ stands.all (behind ++ more) after
+        ∙ sym (ap (λ f. after_checks (check_model says f ∷ more) after) (passed_on answer breach passed));
   }
 
   -- a check that went well, before others
-  pub passes : (fails : Bool) (told : FindingModel) (checks : List Check) (answer : Result (Unit {0}) Breach) → fails ≡ false → StandsFor says answer checks → StandsFor says answer (refused fails told ∷ checks)
+  pub passes : (fails : Bool) (told : FindingModel) (checks : List Check) (answer : Result (Unit {0}) Breach) → fails ≡ false → StandsFor says answer checks → StandsFor says answer (refuse_if fails told ∷ checks)
   passes fails told checks answer well stands = record {
-    all = λ more after. ap (λ b. checked (refused b told ∷ (checks ++ more)) after) well ∙ stands.all more after;
+    all = λ more after. ap (λ b. after_checks (refuse_if b told ∷ (checks ++ more)) after) well ∙ stands.all more after;
   }
 
   -- a check that fails, before others
-  pub refuses : (fails : Bool) (told : FindingModel) (checks : List Check) (breach : Breach) → fails ≡ true → says breach ≡ told → StandsFor says (Err breach) (refused fails told ∷ checks)
+  pub refuses : (fails : Bool) (told : FindingModel) (checks : List Check) (breach : Breach) → fails ≡ true → says breach ≡ told → StandsFor says (Err breach) (refuse_if fails told ∷ checks)
   refuses fails told checks breach failed is = record {
-    all = λ more after. ap (λ b. checked (refused b told ∷ (checks ++ more)) after) failed ∙ ap (λ f. Fails f) (sym is);
+    all = λ more after. ap (λ b. after_checks (refuse_if b told ∷ (checks ++ more)) after) failed ∙ ap (λ f. Fails f) (sym is);
   }

@@ -6,7 +6,7 @@ use Rattle.std.proofs.lemmas.List.Folds.{list_any_more}
 use Rattle.program.specs.Lists.{is_among}
 use Rattle.program.specs.declared.types.HeapType.{HeapType}
 use Rattle.program.specs.declared.statement.Mention.{Mention}
-use Rattle.rules.specs.Arguments.{claimed, payload}
+use Rattle.rules.specs.Arguments.{after_claims, payload}
 use Rattle.rules.specs.Repeats.{first_again}
 use Rattle.rows.specs.declared.row.Leaf.{Leaf}
 use Rattle.rules.proofs.ArgumentLemmas.{zip_nil}
@@ -80,7 +80,7 @@ taken_none types payloads i (inl le) = at_drop_all (λ l. zip l (map payload (dr
 taken_none types payloads i (inr le) = at_drop_all (λ l. zip (drop i types) (map payload l)) payloads i le ∙ zip_nil (drop i types) [] refl
 
 -- one payload more is gone
-pub taken_gone : (row less : List Leaf) (payloads : List Mention) (done : ℕ) (d : Mention) → done < length payloads → less ≡ claimed row (payload (slice_index_or payloads done d) ∷ [])
-    → claimed less (map payload (drop (done + 1) payloads)) ≡ claimed row (map payload (drop done payloads))
+pub taken_gone : (row less : List Leaf) (payloads : List Mention) (done : ℕ) (d : Mention) → done < length payloads → less ≡ after_claims row (payload (slice_index_or payloads done d) ∷ [])
+    → after_claims less (map payload (drop (done + 1) payloads)) ≡ after_claims row (map payload (drop done payloads))
 taken_gone row less payloads done d lt is =
-    sym (at_drop_more (λ l. claimed row (map payload l)) payloads done d lt ∙ ap (λ r. claimed r (map payload (drop (done + 1) payloads))) (sym is))
+    sym (at_drop_more (λ l. after_claims row (map payload l)) payloads done d lt ∙ ap (λ r. after_claims r (map payload (drop (done + 1) payloads))) (sym is))

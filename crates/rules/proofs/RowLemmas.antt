@@ -15,14 +15,14 @@ use Rattle.program.specs.Programs.{ProgramModel}
 use Rattle.program.specs.declared.contract.Edge.{Edge}
 use Rattle.program.specs.declared.types.HeapType.{HeapType}
 use Rattle.program.specs.declared.number.VarId.{VarId}
-use Rattle.rules.specs.Endpoints.{brought, declared_leaf, field_of, fields_of, first_state, type_of, message_name, parameter_types, result_of}
-use Rattle.rules.specs.Switches.{awaited_edges, bound_leaves, closed, comes_at, pair_at, received, switch_checks, switch_pairs}
+use Rattle.rules.specs.Endpoints.{payload_types, declared_leaf, field_of, fields_of, first_state, type_of, message_name, parameter_types, result_of}
+use Rattle.rules.specs.Switches.{awaited_edges, bound_leaves, close_pairs, comes_at, pair_at, receive_pairs, switch_checks, switch_pairs}
 use Rattle.program.specs.declared.call.Argument.{Argument}
 use Rattle.program.specs.declared.statement.Mention.{Mention}
 use Rattle.rows.specs.Rows.{IsRowOf, leaf_at}
-use Rattle.rules.specs.Arguments.{all_arguments, all_fields, all_payloads, claimed, field_checks, given_leaf, lacks_edge, payload, sent_leaf, target_checks}
-use Rattle.rules.specs.Mentions.{given_back, require_nothing, require_owned, require_another, require_not_lent}
-use Rattle.rules.specs.Outcomes.{Check, Fails, Goes, Pair, Step, checked, refused}
+use Rattle.rules.specs.Arguments.{all_arguments, all_fields, all_payloads, after_claims, field_checks, given_leaf, lacks_edge, payload, sent_leaf, target_checks}
+use Rattle.rules.specs.Mentions.{given_back, require_empty, require_owned, require_another, require_not_lent}
+use Rattle.rules.specs.Outcomes.{Check, Fails, Goes, Pair, Step, after_checks, refuse_if}
 use Rattle.rules.specs.RuleTable.{back_checks, instruction_outcome, value_checks, ways}
 use Rattle.rules.specs.Scopes.{declared_between}
 use Rattle.rules.specs.Texts.{not_sent}
@@ -31,7 +31,7 @@ use Rattle.rows.specs.declared.row.Leaf.{Leaf}
 use Rattle.rows.specs.declared.row.Leaf.TheVariants.{Nothing, Block, CutOff, State}
 use Rattle.rules.proofs.ProgramLemmas.{outcome_is}
 
-pub claimed_size : (row : List Leaf) (arguments : List Argument) → length (claimed row arguments) ≡ length row
+pub claimed_size : (row : List Leaf) (arguments : List Argument) → length (after_claims row arguments) ≡ length row
 claimed_size row [] = refl
 claimed_size row (a ∷ arguments) =
     claimed_size (if a.claimed then set row a.mention.variable.0 Nothing else row) arguments ∙ one a.claimed
@@ -55,7 +55,7 @@ same_goes : (a b : List Pair) → Path (Step Pair FindingModel) (Goes a) (Goes b
 same_goes a b e = cc
 
 -- where checks go well, the step leads to what comes then
-goes_on : (checks : List Check) (after to : List Pair) → checked checks after ≡ Goes to → after ≡ to
+goes_on : (checks : List Check) (after to : List Pair) → after_checks checks after ≡ Goes to → after ≡ to
 goes_on [] after to e = same_goes after to e
 goes_on (None ∷ checks) after to e = goes_on checks after to e
 goes_on (Some finding ∷ checks) after to e = absurd (no_step finding e)
@@ -74,7 +74,7 @@ module _ (p : ProgramModel) (m : MethodModel) where
   one_row next row rest is all = All-cons (λ x. IsRowOf m x.1) (next, row) rest is all
 
   leads_on : (checks : List Check) (next : ℕ) (row : List Leaf) (to : List Pair)
-      → IsRowOf m row → checked checks ((next, row) ∷ []) ≡ Goes to → AreRows to
+      → IsRowOf m row → after_checks checks ((next, row) ∷ []) ≡ Goes to → AreRows to
   leads_on checks next row to is e = subst AreRows (goes_on checks ((next, row) ∷ []) to e) (one_row next row [] is no_rows)
 
   ways_on : (branches : Branches) (row : List Leaf) → IsRowOf m row → AreRows (ways branches row)
@@ -92,19 +92,19 @@ module _ (p : ProgramModel) (m : MethodModel) where
   case_sequence None after is = no_rows
   case_sequence (Some c) after is = one_row c.next (after c) [] (is c) no_rows
 
-  received_on : (row : List Leaf) (cases : List EntranceModel) (e : ℕ) (d : Edge) → IsRowOf m row → AreRows (received p m row cases e d)
+  received_on : (row : List Leaf) (cases : List EntranceModel) (e : ℕ) (d : Edge) → IsRowOf m row → AreRows (receive_pairs p m row cases e d)
   received_on row cases e d is =
-      case_sequence (case_for cases e (Some d.message.0)) (λ c. bound_leaves (set row e (State d.to.0)) c.targets (brought p d.message.0))
-      (λ c. bound_size (set row e (State d.to.0)) c.targets (brought p d.message.0) ∙ length-set row e (State d.to.0) ∙ is)
+      case_sequence (case_for cases e (Some d.message.0)) (λ c. bound_leaves (set row e (State d.to.0)) c.targets (payload_types p d.message.0))
+      (λ c. bound_size (set row e (State d.to.0)) c.targets (payload_types p d.message.0) ∙ length-set row e (State d.to.0) ∙ is)
 
-  closed_on : (row : List Leaf) (cases : List EntranceModel) (e : ℕ) → IsRowOf m row → AreRows (closed p m row cases e)
+  closed_on : (row : List Leaf) (cases : List EntranceModel) (e : ℕ) → IsRowOf m row → AreRows (close_pairs p m row cases e)
   closed_on row cases e is = case_sequence (case_for cases e None) (λ c. set row e CutOff) (λ c. length-set row e CutOff ∙ is)
 
   switch_on : (row : List Leaf) (cases : List EntranceModel) → IsRowOf m row → AreRows (switch_pairs p m row cases)
   switch_on row cases is =
       each_row (comes_at p m row cases) (first_mentions [] cases)
-      (λ e. both_rows (flat_map (received p m row cases e.variable.0) (awaited_edges p m row e)) (closed p m row cases e.variable.0)
-      (each_row (received p m row cases e.variable.0) (awaited_edges p m row e) (λ d. received_on row cases e.variable.0 d is))
+      (λ e. both_rows (flat_map (receive_pairs p m row cases e.variable.0) (awaited_edges p m row e)) (close_pairs p m row cases e.variable.0)
+      (each_row (receive_pairs p m row cases e.variable.0) (awaited_edges p m row e) (λ d. received_on row cases e.variable.0 d is))
       (closed_on row cases e.variable.0 is))
 
   instruction_on : (i : Instruction) (row : List Leaf) (to : List Pair)
@@ -112,7 +112,7 @@ module _ (p : ProgramModel) (m : MethodModel) where
   instruction_on (Use v next) row to is e = leads_on (require_owned m row v ∷ []) next row to is e
   instruction_on (New v arguments next) row to is e =
       let given = map payload arguments in
-      let left = claimed row given in
+      let left = after_claims row given in
       leads_on (all_fields m row (fields_of p m v.variable.0) given ++ target_checks m left (Some v)) next (set left v.variable.0 Block) to
       (length-set left v.variable.0 Block ∙ claimed_size row given ∙ is) e
   instruction_on (Exchange x next) row to is e =
@@ -123,33 +123,33 @@ module _ (p : ProgramModel) (m : MethodModel) where
   instruction_on (NewChannel c next) row to is e =
       let first = State (first_state p c.contract.0) in
       let one = set row c.first.variable.0 first in
-      let checks = require_not_lent m c.first ∷ require_nothing m row c.first ∷ require_not_lent m c.second ∷ require_nothing m row c.second ∷ [] in
+      let checks = require_not_lent m c.first ∷ require_empty m row c.first ∷ require_not_lent m c.second ∷ require_empty m row c.second ∷ [] in
       leads_on checks next (set one c.second.variable.0 first) to (length-set one c.second.variable.0 first ∙ length-set row c.first.variable.0 first ∙ is) e
   instruction_on (Move v w next) row to is e =
       let moved = set row v.variable.0 (leaf_at row w.variable.0) in
-      let checks = require_another m v w ∷ require_not_lent m w ∷ require_owned m row w ∷ require_not_lent m v ∷ require_nothing m row v ∷ [] in
+      let checks = require_another m v w ∷ require_not_lent m w ∷ require_owned m row w ∷ require_not_lent m v ∷ require_empty m row v ∷ [] in
       let size = length-set moved w.variable.0 Nothing ∙ length-set row v.variable.0 (leaf_at row w.variable.0) ∙ is in
       leads_on checks next (set moved w.variable.0 Nothing) to size e
   instruction_on (Delete v next) row to is e =
       let freed = set row v.variable.0 Nothing in
       leads_on (require_not_lent m v ∷ require_owned m row v ∷ []) next freed to (length-set row v.variable.0 Nothing ∙ is) e
   instruction_on (Send place x message payloads next) row to is e =
-      let gone = claimed row (map payload payloads) in
+      let gone = after_claims row (map payload payloads) in
       let leaf = sent_leaf p (type_of m x.variable.0) message.0 (leaf_at row x.variable.0) in
       let leaf_now = leaf_at row x.variable.0 in
       let ty = type_of m x.variable.0 in
       let name = message_name p ty message.0 in
       leads_on
-      (require_owned m row x ∷ (all_payloads m row x name (brought p message.0) (map payload payloads) ++ refused (lacks_edge p ty message.0 leaf_now) (not_sent name place) ∷ []))
+      (require_owned m row x ∷ (all_payloads m row x name (payload_types p message.0) (map payload payloads) ++ refuse_if (lacks_edge p ty message.0 leaf_now) (not_sent name place) ∷ []))
       next (set gone x.variable.0 leaf) to (length-set gone x.variable.0 leaf ∙ claimed_size row (map payload payloads) ∙ is) e
   instruction_on (Switch place cases) row to is e =
       subst AreRows (goes_on (switch_checks p m row place cases) (switch_pairs p m row cases) to e) (switch_on row cases is)
   instruction_on (Call place method arguments target next) row to is e =
-      let after = claimed row arguments in
+      let after = after_claims row arguments in
       let ty = result_of p method.0 in
       leads_on (all_arguments m row (parameter_types p method.0) arguments ++ target_checks m after target) next (given_leaf after ty target) to (given_size after ty target ∙ claimed_size row arguments ∙ is) e
   instruction_on (Start place method arguments next) row to is e =
-      leads_on (all_arguments m row (parameter_types p method.0) arguments) next (claimed row arguments) to (claimed_size row arguments ∙ is) e
+      leads_on (all_arguments m row (parameter_types p method.0) arguments) next (after_claims row arguments) to (claimed_size row arguments ∙ is) e
   instruction_on (Branch place branches) row to is e = subst AreRows (same_goes (ways branches row) to e) (ways_on branches row is)
   instruction_on (Forget f next) row to is e =
       leads_on (given_back m row f.place None (declared_between m f.outer (Some f.last))) next row to is e

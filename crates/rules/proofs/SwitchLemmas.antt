@@ -9,7 +9,7 @@ use Rattle.program.specs.declared.contract.Edge.{Edge}
 use Rattle.program.specs.declared.statement.Mention.{Mention}
 use Rattle.rules.specs.Endpoints.{type_of, message_name}
 use Rattle.rules.specs.Mentions.{name_of}
-use Rattle.rules.specs.Outcomes.{Check, refused}
+use Rattle.rules.specs.Outcomes.{Check, refuse_if}
 use Rattle.rules.specs.Switches.{bound_leaves}
 use Rattle.rules.specs.Texts.{not_covered}
 use Rattle.rows.specs.declared.row.Leaf.{Leaf}
@@ -21,7 +21,7 @@ use Rattle.program.specs.declared.number.VarId.{VarId}
 abbrev pub edge_checks : ProgramModel → MethodModel → List EntranceModel → Mention → List Edge → List Check
 edge_checks p m cases e edges =
     map
-    (λ d. refused (is_none (case_for cases e.variable.0 (Some d.message.0)))
+    (λ d. refuse_if (is_none (case_for cases e.variable.0 (Some d.message.0)))
     (not_covered (name_of m e.variable.0) (message_name p (type_of m e.variable.0) d.message.0) e.place))
     edges
 

@@ -15,12 +15,12 @@ use Rattle.program.specs.Programs.{ProgramModel}
 use Rattle.rules.specs.Arguments.{all_fields, field_checks}
 use Rattle.rules.specs.Endpoints.{fields_of}
 use Rattle.rules.specs.Mentions.{is_lent, name_of}
-use Rattle.rules.specs.Outcomes.{Goes, Pair, Check, checked, refused}
+use Rattle.rules.specs.Outcomes.{Goes, Pair, Check, after_checks, refuse_if}
 use Rattle.rows.specs.Rows.{is_owned, leaf_at}
 use Rattle.rules.specs.RuleTable.{instruction_outcome}
 use Rattle.rules.specs.Steps.{method_outcome, outcome, point_outcome}
 use Rattle.rules.specs.Texts.{lent, not_owned, overwritten, twice}
-use Rattle.rules.specs.Transfers.{allows, fits, fitting, transfer_at, transfer_in, transferred}
+use Rattle.rules.specs.Transfers.{allows, fits, fitting_transfer, transfer_at, transfer_in, row_after_transfer}
 use Rattle.rows.specs.declared.row.Leaf.{Leaf}
 use Rattle.rows.specs.declared.row.Leaf.TheVariants.{Nothing, Block}
 use Rattle.rules.specs.declared.transfer.Transfer.{Transfer}
@@ -49,13 +49,13 @@ one_of false x y e = absurd (none_some x (sym e))
 
 -- a check that passes
 pass : (b : Bool) (f : FindingModel) (checks : List Check) (after : List Pair) → b ≡ false
-    → checked (refused b f ∷ checks) after ≡ checked checks after
-pass b f checks after e = ap (λ c. checked (refused c f ∷ checks) after) e
+    → after_checks (refuse_if b f ∷ checks) after ≡ after_checks checks after
+pass b f checks after e = ap (λ c. after_checks (refuse_if c f ∷ checks) after) e
 
 module _ (p : ProgramModel) (m : MethodModel) (row : List Leaf) where
   -- where the transfer fits and is allowed, that is what comes of the instruction
   abbrev Comes : Instruction → Transfer × ℕ → Type 0
-  Comes i u = fits m u.0 ≡ true → allows u.0 row ≡ true → instruction_outcome p m i row ≡ Goes ((u.1, transferred u.0 row) ∷ [])
+  Comes i u = fits m u.0 ≡ true → allows u.0 row ≡ true → instruction_outcome p m i row ≡ Goes ((u.1, row_after_transfer u.0 row) ∷ [])
 
   -- the checks of a variable
   abbrev lent_one : Mention → FindingModel
@@ -77,15 +77,15 @@ module _ (p : ProgramModel) (m : MethodModel) (row : List Leaf) where
   new_comes : (v : Mention) (next : ℕ) → Comes (graphs.New v [] next) (New v.variable, next)
   new_comes v next fit allowed =
       let after = (next, set row v.variable.0 Block) ∷ [] in
-      let filled = refused (is_owned row v.variable.0) (having v) ∷ [] in
-      ap (λ checks. checked (checks ++ (refused (is_lent m v.variable.0) (lent_one v) ∷ filled)) after) (no_fields (fields_of p m v.variable.0))
+      let filled = refuse_if (is_owned row v.variable.0) (having v) ∷ [] in
+      ap (λ checks. after_checks (checks ++ (refuse_if (is_lent m v.variable.0) (lent_one v) ∷ filled)) after) (no_fields (fields_of p m v.variable.0))
       ∙ pass (is_lent m v.variable.0) (lent_one v) filled after (of_not (is_lent m v.variable.0) fit)
       ∙ pass (is_owned row v.variable.0) (having v) [] after (of_not (is_owned row v.variable.0) allowed)
 
   delete_comes : (v : Mention) (next : ℕ) → Comes (graphs.Delete v next) (Delete v.variable, next)
   delete_comes v next fit allowed =
       let after = (next, set row v.variable.0 Nothing) ∷ [] in
-      let lacks = refused (not (is_owned row v.variable.0)) (lacking v) ∷ [] in
+      let lacks = refuse_if (not (is_owned row v.variable.0)) (lacking v) ∷ [] in
       pass (is_lent m v.variable.0) (lent_one v) lacks after (of_not (is_lent m v.variable.0) fit)
       ∙ pass (not (is_owned row v.variable.0)) (lacking v) [] after (ap not allowed)
 
@@ -96,10 +96,10 @@ module _ (p : ProgramModel) (m : MethodModel) (row : List Leaf) where
       let lent_either = of_both (not (is_lent m w.variable.0)) (not (is_lent m v.variable.0)) lends.1 in
       let owns = of_both (is_owned row w.variable.0) (not (is_owned row v.variable.0)) allowed in
       let after = (next, set (set row v.variable.0 (leaf_at row w.variable.0)) w.variable.0 Nothing) ∷ [] in
-      let last = refused (is_owned row v.variable.0) (having v) ∷ [] in
-      let fourth = refused (is_lent m v.variable.0) (lent_one v) ∷ last in
-      let third = refused (not (is_owned row w.variable.0)) (lacking w) ∷ fourth in
-      let second = refused (is_lent m w.variable.0) (lent_one w) ∷ third in
+      let last = refuse_if (is_owned row v.variable.0) (having v) ∷ [] in
+      let fourth = refuse_if (is_lent m v.variable.0) (lent_one v) ∷ last in
+      let third = refuse_if (not (is_owned row w.variable.0)) (lacking w) ∷ fourth in
+      let second = refuse_if (is_lent m w.variable.0) (lent_one w) ∷ third in
       pass same (twice (name_of m w.variable.0) w.place) second after (of_not same lends.0)
       ∙ pass (is_lent m w.variable.0) (lent_one w) third after (of_not (is_lent m w.variable.0) lent_either.0)
       ∙ pass (not (is_owned row w.variable.0)) (lacking w) fourth after (ap not owns.0)
@@ -124,28 +124,28 @@ module _ (p : ProgramModel) (m : MethodModel) (row : List Leaf) where
   comes (graphs.Stop place) u e = absurd (none_some u e)
 
   fitting_comes : (i : Instruction) (o : Option (Transfer × ℕ)) (t : Transfer × ℕ) → Path (Option (Transfer × ℕ)) (transfer_in i) o
-      → Path (Option (Transfer × ℕ)) (Some t) (fitting m o) → allows t.0 row ≡ true
-      → instruction_outcome p m i row ≡ Goes ((t.1, transferred t.0 row) ∷ [])
+      → Path (Option (Transfer × ℕ)) (Some t) (fitting_transfer m o) → allows t.0 row ≡ true
+      → instruction_outcome p m i row ≡ Goes ((t.1, row_after_transfer t.0 row) ∷ [])
   fitting_comes i None t is e allowed = absurd (none_some t (sym e))
   fitting_comes i (Some u) t is e allowed =
       let both = one_of (fits m u.0) t u e in
-      subst (λ (w : Transfer × ℕ). allows w.0 row ≡ true → instruction_outcome p m i row ≡ Goes ((w.1, transferred w.0 row) ∷ [])) (sym both.1)
+      subst (λ (w : Transfer × ℕ). allows w.0 row ≡ true → instruction_outcome p m i row ≡ Goes ((w.1, row_after_transfer w.0 row) ∷ [])) (sym both.1)
       (comes i u is both.0) allowed
 
   transfer_goes : (i : Option Instruction) (t : Transfer × ℕ) → Path (Option (Transfer × ℕ)) (Some t) (transfer_at m i)
-      → allows t.0 row ≡ true → point_outcome p m row i ≡ Goes ((t.1, transferred t.0 row) ∷ [])
+      → allows t.0 row ≡ true → point_outcome p m row i ≡ Goes ((t.1, row_after_transfer t.0 row) ∷ [])
   transfer_goes None t e allowed = absurd (none_some t (sym e))
   transfer_goes (Some i) t e allowed = fitting_comes i (transfer_in i) t refl e allowed
 
 pub transfer_on : (p : ProgramModel) (n point : ℕ) (found : Option (Transfer × ℕ))
     → IsSomeAnd (slice_get p.methods n) (λ m. found ≡ transfer_at m (slice_get (graph_of m).instructions point))
-    → IfSome found (λ t. (row : List Leaf) → allows t.0 row ≡ true → outcome p n (point, row) ≡ Goes ((t.1, transferred t.0 row) ∷ []))
+    → IfSome found (λ t. (row : List Leaf) → allows t.0 row ≡ true → outcome p n (point, row) ≡ Goes ((t.1, row_after_transfer t.0 row) ∷ []))
 transfer_on p n point None h = tt
 transfer_on p n point (Some t) h = λ row allowed. outcome_is p n (point, row) ∙ go (slice_get p.methods n) row h allowed
   where
     go : (o : Option MethodModel) (row : List Leaf)
         → IsSomeAnd o (λ m. Path (Option (Transfer × ℕ)) (Some t) (transfer_at m (slice_get (graph_of m).instructions point)))
-        → allows t.0 row ≡ true → method_outcome p o (point, row) ≡ Goes ((t.1, transferred t.0 row) ∷ [])
+        → allows t.0 row ≡ true → method_outcome p o (point, row) ≡ Goes ((t.1, row_after_transfer t.0 row) ∷ [])
     go None row h allowed = absurd h
     go (Some m) row h allowed = transfer_goes p m row (slice_get (graph_of m).instructions point) t h allowed
 

@@ -12,17 +12,17 @@ use Rattle.program.specs.declared.types.HeapType.{HeapType}
 use Rattle.program.specs.declared.statement.Mention.{Mention}
 use Rattle.contracts.specs.Leaving.{end_on}
 use Rattle.rules.specs.Endpoints.{declared_leaf, edges_out, in_state, is_wrong}
-use Rattle.rules.specs.Mentions.{require_nothing, require_owned, is_lent, require_not_lent, name_of}
-use Rattle.rules.specs.Outcomes.{Check, refused}
+use Rattle.rules.specs.Mentions.{require_empty, require_owned, is_lent, require_not_lent, name_of}
+use Rattle.rules.specs.Outcomes.{Check, refuse_if}
 use Rattle.rows.specs.Rows.{leaf_at}
 use Rattle.rules.specs.Texts.{lent, twice, wrong_for, wrong_for_call, wrong_for_field}
 use Rattle.rows.specs.declared.row.Leaf.{Leaf}
 use Rattle.rows.specs.declared.row.Leaf.TheVariants.{Nothing, State}
 
 -- what is claimed of arguments is gone
-abbrev pub claimed : List Leaf → List Argument → List Leaf
-claimed row [] = row
-claimed row (a ∷ arguments) = claimed (if a.claimed then set row a.mention.variable.0 Nothing else row) arguments
+abbrev pub after_claims : List Leaf → List Argument → List Leaf
+after_claims row [] = row
+after_claims row (a ∷ arguments) = after_claims (if a.claimed then set row a.mention.variable.0 Nothing else row) arguments
 
 -- a message claims what is given with it, and so does a block what is given for its fields
 abbrev pub payload : Mention → Argument
@@ -46,15 +46,15 @@ module _ (m : MethodModel) where
   abbrev pub given_before : List ℕ → List Argument → List Check
   given_before earlier [] = []
   given_before earlier (a ∷ arguments) =
-      refused (is_among earlier a.mention.variable.0) (twice (name_of m a.mention.variable.0) a.mention.place)
+      refuse_if (is_among earlier a.mention.variable.0) (twice (name_of m a.mention.variable.0) a.mention.place)
       ∷ given_before (a.mention.variable.0 ∷ earlier) arguments
 
   -- The checks of what is given for a parameter: it is there, not lent where it is claimed, and in the state that the parameter asks.
   abbrev pub argument_checks : List Leaf → HeapType → Argument → List Check
   argument_checks row ty a =
       require_owned m row a.mention
-      ∷ refused (a.claimed && is_lent m a.mention.variable.0) (lent (name_of m a.mention.variable.0) a.mention.place)
-      ∷ refused (is_wrong ty (leaf_at row a.mention.variable.0)) (wrong_for_call (name_of m a.mention.variable.0) a.mention.place)
+      ∷ refuse_if (a.claimed && is_lent m a.mention.variable.0) (lent (name_of m a.mention.variable.0) a.mention.place)
+      ∷ refuse_if (is_wrong ty (leaf_at row a.mention.variable.0)) (wrong_for_call (name_of m a.mention.variable.0) a.mention.place)
       ∷ []
 
   -- the checks of arguments, for parameters of these types
@@ -66,7 +66,7 @@ module _ (m : MethodModel) where
   abbrev pub taken_checks : List Leaf → (wrong : List ℕ → Place → FindingModel) → HeapType → Argument → List Check
   taken_checks row wrong ty a =
       require_not_lent m a.mention ∷ require_owned m row a.mention
-      ∷ refused (is_wrong ty (leaf_at row a.mention.variable.0)) (wrong (name_of m a.mention.variable.0) a.mention.place)
+      ∷ refuse_if (is_wrong ty (leaf_at row a.mention.variable.0)) (wrong (name_of m a.mention.variable.0) a.mention.place)
       ∷ []
 
   -- the checks of all that goes there at once; none of it is one of these
@@ -91,4 +91,4 @@ module _ (m : MethodModel) where
   -- the checks of what takes a block: it is not lent, and has nothing
   abbrev pub target_checks : List Leaf → Option Mention → List Check
   target_checks row None = []
-  target_checks row (Some v) = require_not_lent m v ∷ require_nothing m row v ∷ []
+  target_checks row (Some v) = require_not_lent m v ∷ require_empty m row v ∷ []

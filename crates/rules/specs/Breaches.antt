@@ -23,25 +23,25 @@ module _ (p : ProgramModel) (m : MethodModel) where
   name_along endpoint message = message_name p (type_of m endpoint.0) message.0
 
   -- the finding at a place, a line for each reason
-  abbrev pub told : Place → Reason → FindingModel
-  told place (NotOwned variable) = not_owned (name_of m variable.0) place
-  told place (NotSent endpoint message) = not_sent (name_along endpoint message) place
-  told place (WrongFor variable endpoint message) = wrong_for (name_of m variable.0) (name_along endpoint message) place
-  told place (WrongForCall variable) = wrong_for_call (name_of m variable.0) place
-  told place (NotCovered endpoint message) = not_covered (name_of m endpoint.0) (name_along endpoint message) place
-  told place NothingToReceive = nothing_to_receive place
-  told place (Overwritten variable) = overwritten (name_of m variable.0) place
-  told place (StillOwned variable) = still_owned (name_of m variable.0) place
-  told place (NotBack variable) = not_back (name_of m variable.0) place
-  told place (Lent variable) = lent (name_of m variable.0) place
-  told place (Twice variable) = twice (name_of m variable.0) place
-  told place (WrongForResult variable) = wrong_for_result (name_of m variable.0) place
-  told place NoResult = no_result place
-  told place (WrongForField variable) = wrong_for_field (name_of m variable.0) place
+  abbrev pub finding_for_reason : Place → Reason → FindingModel
+  finding_for_reason place (NotOwned variable) = not_owned (name_of m variable.0) place
+  finding_for_reason place (NotSent endpoint message) = not_sent (name_along endpoint message) place
+  finding_for_reason place (WrongFor variable endpoint message) = wrong_for (name_of m variable.0) (name_along endpoint message) place
+  finding_for_reason place (WrongForCall variable) = wrong_for_call (name_of m variable.0) place
+  finding_for_reason place (NotCovered endpoint message) = not_covered (name_of m endpoint.0) (name_along endpoint message) place
+  finding_for_reason place NothingToReceive = nothing_to_receive place
+  finding_for_reason place (Overwritten variable) = overwritten (name_of m variable.0) place
+  finding_for_reason place (StillOwned variable) = still_owned (name_of m variable.0) place
+  finding_for_reason place (NotBack variable) = not_back (name_of m variable.0) place
+  finding_for_reason place (Lent variable) = lent (name_of m variable.0) place
+  finding_for_reason place (Twice variable) = twice (name_of m variable.0) place
+  finding_for_reason place (WrongForResult variable) = wrong_for_result (name_of m variable.0) place
+  finding_for_reason place NoResult = no_result place
+  finding_for_reason place (WrongForField variable) = wrong_for_field (name_of m variable.0) place
 
   -- the finding of a breach
   abbrev pub breach_model : Breach → FindingModel
-  breach_model breach = told breach.place breach.reason
+  breach_model breach = finding_for_reason breach.place breach.reason
 
 -- the finding of a breach in the method of a number; calls ask for methods of the program alone
 abbrev pub breach_in : ProgramModel → ℕ → Breach → FindingModel

@@ -10,7 +10,7 @@ use Rattle.program.specs.Scopes.{outer_of}
 use Rattle.program.specs.declared.number.VarId.{VarId}
 use Rattle.program.specs.declared.statement.Mention.{Mention}
 use Rattle.rules.specs.Mentions.{is_kept}
-use Rattle.rules.specs.Outcomes.{Check, Pair, checked}
+use Rattle.rules.specs.Outcomes.{Check, Pair, after_checks}
 use Rattle.rules.specs.declared.breach.Breach.{Breach}
 use Rattle.rows.specs.declared.row.Leaf.{Leaf}
 
@@ -60,4 +60,5 @@ AreIn listed set = (q : ℕ) → contains nat_cmp set q ≡ is_among listed q
 
 -- The answer stands for these checks, whatever checks come behind them.
 pub record StandsFor (says : Breach → FindingModel) (answer : Result (Unit {0}) Breach) (checks : List Check) : Type 0 where
-  pub all : (more : List Check) (after : List Pair) → checked (checks ++ more) after ≡ checked (check_model says answer ∷ more) after
+  pub all : (more : List Check) (after : List Pair)
+      → after_checks (checks ++ more) after ≡ after_checks (check_model says answer ∷ more) after

@@ -14,8 +14,8 @@ use Rattle.rows.specs.declared.row.Leaf.{Leaf}
 use Rattle.rows.specs.declared.row.Leaf.TheVariants.{Block, State}
 
 -- what a message brings for its parameters of the exchange heap
-abbrev pub brought : ProgramModel → ℕ → List HeapType
-brought p message = option_map_or (λ types. types) (slice_get p.messages message) []
+abbrev pub payload_types : ProgramModel → ℕ → List HeapType
+payload_types p message = option_map_or (λ types. types) (slice_get p.messages message) []
 
 -- what a method takes for its parameters of the exchange heap
 abbrev pub parameter_types : ProgramModel → ℕ → List HeapType

@@ -14,12 +14,12 @@ use Rattle.flow.specs.Graphs.{Instruction, Use, New, Move, Delete, Exchange, New
 use Rattle.flow.specs.Graphs.{Return, Stop}
 use Rattle.flow.specs.declared.graph.Branches.{Branches}
 use Rattle.flow.specs.declared.graph.Branches.TheVariants.{Either, Only}
-use Rattle.rules.specs.Arguments.{all_arguments, all_fields, all_payloads, claimed, field_checks, given_leaf, lacks_edge, payload}
+use Rattle.rules.specs.Arguments.{all_arguments, all_fields, all_payloads, after_claims, field_checks, given_leaf, lacks_edge, payload}
 use Rattle.rules.specs.Arguments.{sent_leaf, target_checks}
-use Rattle.rules.specs.Endpoints.{brought, declared_leaf, field_of, fields_of, first_state, is_wrong, type_of, message_name}
+use Rattle.rules.specs.Endpoints.{payload_types, declared_leaf, field_of, fields_of, first_state, is_wrong, type_of, message_name}
 use Rattle.rules.specs.Endpoints.{parameter_types, result_of}
-use Rattle.rules.specs.Mentions.{given_back, require_nothing, require_owned, require_another, is_lent, require_not_lent, name_of}
-use Rattle.rules.specs.Outcomes.{Step, Goes, Fails, Pair, Check, checked, refused}
+use Rattle.rules.specs.Mentions.{given_back, require_empty, require_owned, require_another, is_lent, require_not_lent, name_of}
+use Rattle.rules.specs.Outcomes.{Step, Goes, Fails, Pair, Check, after_checks, refuse_if}
 use Rattle.rows.specs.Rows.{leaf_at}
 use Rattle.rules.specs.Scopes.{declared_between}
 use Rattle.rules.specs.Switches.{switch_checks, switch_pairs}
@@ -38,7 +38,7 @@ module _ (p : ProgramModel) (m : MethodModel) where
   value_checks row None = []
   value_checks row (Some v) =
       require_not_lent m v ∷ require_owned m row v
-      ∷ refused (option_map_or (λ ty. is_wrong ty (leaf_at row v.variable.0)) m.result false)
+      ∷ refuse_if (option_map_or (λ ty. is_wrong ty (leaf_at row v.variable.0)) m.result false)
       (wrong_for_result (name_of m v.variable.0) v.place) ∷ []
 
   -- whether an endpoint was lent, and is neither cut off nor in its declared state
@@ -47,50 +47,51 @@ module _ (p : ProgramModel) (m : MethodModel) where
 
   -- the checks of endpoints that were lent, in order: each is cut off, or back in its state
   abbrev pub back_checks : List Leaf → Place → List Check
-  back_checks row place = map (λ v. refused (is_not_back row v) (not_back (name_of m v) place)) (range_with_len 0 (length m.variables))
+  back_checks row place = map (λ v. refuse_if (is_not_back row v) (not_back (name_of m v) place)) (range_with_len 0 (length m.variables))
 
   -- An exchange with a field of this type. What the field held is in the state that the field asks.
-  abbrev pub exchanged : List Leaf → stated.Exchange.Exchange → ℕ → Option HeapType → Step Pair FindingModel
-  exchanged row e next ty =
-      checked (require_another m e.holder e.given ∷ require_owned m row e.holder
+  abbrev pub after_exchange : List Leaf → stated.Exchange.Exchange → ℕ → Option HeapType → Step Pair FindingModel
+  after_exchange row e next ty =
+      after_checks (require_another m e.holder e.given ∷ require_owned m row e.holder
       ∷ option_map_or (λ ty. field_checks m row ty (payload e.given)) ty [])
       ((next, set row e.given.variable.0 (option_map_or declared_leaf ty Nothing)) ∷ [])
 
   -- a line for each instruction
   abbrev pub instruction_outcome : Instruction → List Leaf → Step Pair FindingModel
-  instruction_outcome (Use v next) row = checked (require_owned m row v ∷ []) ((next, row) ∷ [])
+  instruction_outcome (Use v next) row = after_checks (require_owned m row v ∷ []) ((next, row) ∷ [])
   instruction_outcome (New v arguments next) row =
       let given = map payload arguments in
-      checked (all_fields m row (fields_of p m v.variable.0) given ++ target_checks m (claimed row given) (Some v))
-      ((next, set (claimed row given) v.variable.0 Block) ∷ [])
-  instruction_outcome (Exchange e next) row = exchanged row e next (field_of p m e.holder.variable.0 e.field)
+      after_checks (all_fields m row (fields_of p m v.variable.0) given ++ target_checks m (after_claims row given) (Some v))
+      ((next, set (after_claims row given) v.variable.0 Block) ∷ [])
+  instruction_outcome (Exchange e next) row = after_exchange row e next (field_of p m e.holder.variable.0 e.field)
   instruction_outcome (NewChannel c next) row =
-      checked
-      (require_not_lent m c.first ∷ require_nothing m row c.first ∷ require_not_lent m c.second ∷ require_nothing m row c.second ∷ [])
+      after_checks
+      (require_not_lent m c.first ∷ require_empty m row c.first ∷ require_not_lent m c.second ∷ require_empty m row c.second ∷ [])
       (let first = State (first_state p c.contract.0) in (next, set (set row c.first.variable.0 first) c.second.variable.0 first) ∷ [])
   instruction_outcome (Move v w next) row =
-      checked (require_another m v w ∷ require_not_lent m w ∷ require_owned m row w ∷ require_not_lent m v ∷ require_nothing m row v ∷ [])
+      after_checks
+      (require_another m v w ∷ require_not_lent m w ∷ require_owned m row w ∷ require_not_lent m v ∷ require_empty m row v ∷ [])
       ((next, set (set row v.variable.0 (leaf_at row w.variable.0)) w.variable.0 Nothing) ∷ [])
   instruction_outcome (Delete v next) row =
-      checked (require_not_lent m v ∷ require_owned m row v ∷ []) ((next, set row v.variable.0 Nothing) ∷ [])
+      after_checks (require_not_lent m v ∷ require_owned m row v ∷ []) ((next, set row v.variable.0 Nothing) ∷ [])
   instruction_outcome (Send place e message payloads next) row =
       let ty = type_of m e.variable.0 in
       let leaf = leaf_at row e.variable.0 in
       let name = message_name p ty message.0 in
-      checked
+      after_checks
       (require_owned m row e
-      ∷ (all_payloads m row e name (brought p message.0) (map payload payloads)
-      ++ refused (lacks_edge p ty message.0 leaf) (not_sent name place) ∷ []))
-      ((next, set (claimed row (map payload payloads)) e.variable.0 (sent_leaf p ty message.0 leaf)) ∷ [])
-  instruction_outcome (Switch place cases) row = checked (switch_checks p m row place cases) (switch_pairs p m row cases)
+      ∷ (all_payloads m row e name (payload_types p message.0) (map payload payloads)
+      ++ refuse_if (lacks_edge p ty message.0 leaf) (not_sent name place) ∷ []))
+      ((next, set (after_claims row (map payload payloads)) e.variable.0 (sent_leaf p ty message.0 leaf)) ∷ [])
+  instruction_outcome (Switch place cases) row = after_checks (switch_checks p m row place cases) (switch_pairs p m row cases)
   instruction_outcome (Call place method arguments target next) row =
-      checked (all_arguments m row (parameter_types p method.0) arguments ++ target_checks m (claimed row arguments) target)
-      ((next, given_leaf (claimed row arguments) (result_of p method.0) target) ∷ [])
+      after_checks (all_arguments m row (parameter_types p method.0) arguments ++ target_checks m (after_claims row arguments) target)
+      ((next, given_leaf (after_claims row arguments) (result_of p method.0) target) ∷ [])
   instruction_outcome (Start place method arguments next) row =
-      checked (all_arguments m row (parameter_types p method.0) arguments) ((next, claimed row arguments) ∷ [])
+      after_checks (all_arguments m row (parameter_types p method.0) arguments) ((next, after_claims row arguments) ∷ [])
   instruction_outcome (Branch place branches) row = Goes (ways branches row)
   instruction_outcome (Forget f next) row =
-      checked (given_back m row f.place None (declared_between m f.outer (Some f.last))) ((next, row) ∷ [])
+      after_checks (given_back m row f.place None (declared_between m f.outer (Some f.last))) ((next, row) ∷ [])
   instruction_outcome (Return place value scope) row =
-      checked (value_checks row value ++ (given_back m row place value (declared_between m None scope) ++ back_checks row place)) []
+      after_checks (value_checks row value ++ (given_back m row place value (declared_between m None scope) ++ back_checks row place)) []
   instruction_outcome (Stop place) row = Fails (no_result place)

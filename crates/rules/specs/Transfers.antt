@@ -18,11 +18,11 @@ allows (Move target source) row = is_owned row source.0 && not (is_owned row tar
 allows (Delete v) row = is_owned row v.0
 
 -- the row behind it
-abbrev pub transferred : Transfer → List Leaf → List Leaf
-transferred (Use v) row = row
-transferred (New v) row = set row v.0 Block
-transferred (Move target source) row = set (set row target.0 (leaf_at row source.0)) source.0 Nothing
-transferred (Delete v) row = set row v.0 Nothing
+abbrev pub row_after_transfer : Transfer → List Leaf → List Leaf
+row_after_transfer (Use v) row = row
+row_after_transfer (New v) row = set row v.0 Block
+row_after_transfer (Move target source) row = set (set row target.0 (leaf_at row source.0)) source.0 Nothing
+row_after_transfer (Delete v) row = set row v.0 Nothing
 
 -- whether the checks pass that ask no row: nothing is given to itself, and nothing that is lent is taken or given
 abbrev pub fits : MethodModel → Transfer → Bool
@@ -40,11 +40,11 @@ transfer_in (graphs.Delete at next) = Some (Delete at.variable, next)
 transfer_in _ = None
 
 -- that transfer, where it fits
-abbrev pub fitting : MethodModel → Option (Transfer × ℕ) → Option (Transfer × ℕ)
-fitting m None = None
-fitting m (Some t) = if fits m t.0 then Some t else None
+abbrev pub fitting_transfer : MethodModel → Option (Transfer × ℕ) → Option (Transfer × ℕ)
+fitting_transfer m None = None
+fitting_transfer m (Some t) = if fits m t.0 then Some t else None
 
 -- the transfer that fits, if an instruction is there and has one
 abbrev pub transfer_at : MethodModel → Option Instruction → Option (Transfer × ℕ)
 transfer_at m None = None
-transfer_at m (Some instruction) = fitting m (transfer_in instruction)
+transfer_at m (Some instruction) = fitting_transfer m (transfer_in instruction)

@@ -2,12 +2,12 @@
 
 ghost use Rattle.std.specs.Prelude.{◌≡◌, ◌&&◌, [], ◌∷◌, IfSome};
 ghost use Rattle.program.specs.Methods.{method_model};
-ghost use Rattle.rules.specs.Arguments.{all_arguments, argument_checks, claimed, given_leaf, target_checks};
+ghost use Rattle.rules.specs.Arguments.{all_arguments, argument_checks, after_claims, given_leaf, target_checks};
 ghost use Rattle.rules.specs.Breaches.{breach_model};
 ghost use Rattle.rules.specs.Checks.{StandsFor, check_model};
 ghost use Rattle.rules.specs.Endpoints.{declared_leaf, is_wrong};
 ghost use Rattle.rules.specs.Mentions.{is_lent, name_of};
-ghost use Rattle.rules.specs.Outcomes.{refused};
+ghost use Rattle.rules.specs.Outcomes.{refuse_if};
 ghost use Rattle.rules.specs.Programs.{model_of};
 ghost use Rattle.rules.specs.Repeats.{first_again};
 ghost use Rattle.rules.specs.Texts.{lent, wrong_for_call};
@@ -15,7 +15,7 @@ ghost use Rattle.rows.specs.Leaves.{IsNumbered};
 ghost use Rattle.rows.specs.Rows.{leaf_at, row_model};
 
 use crate::breach::{Breach, Reason};
-use crate::checks::{require_none_again, require_not_lent, require_nothing, require_owned};
+use crate::checks::{require_empty, require_none_again, require_not_lent, require_owned};
 use crate::endpoints::{declared_leaf, is_wrong};
 use crate::here::Here;
 use program::{Argument, HeapType, Mention};
@@ -23,7 +23,7 @@ use rows::{Leaf, Row};
 
 /// That what is claimed of an argument is not lent.
 fn require_claimable(here: &Here<'_>, argument: Argument) -> Result<(), Breach>
-    ensures { check_model (breach_model (model_of here.now.program.now) (method_model here.now.method.now)) result ≡ refused
+    ensures { check_model (breach_model (model_of here.now.program.now) (method_model here.now.method.now)) result ≡ refuse_if
         (argument.claimed && is_lent (method_model here.now.method.now) argument.mention.variable.0)
         (lent (name_of (method_model here.now.method.now) argument.mention.variable.0) argument.mention.place) }
 {
@@ -35,7 +35,7 @@ fn require_claimable(here: &Here<'_>, argument: Argument) -> Result<(), Breach>
 
 /// That what is given for a parameter of this type is in its state.
 fn require_state(here: &Here<'_>, ty: HeapType, mention: Mention) -> Result<(), Breach>
-    ensures { check_model (breach_model (model_of here.now.program.now) (method_model here.now.method.now)) result ≡ refused
+    ensures { check_model (breach_model (model_of here.now.program.now) (method_model here.now.method.now)) result ≡ refuse_if
         (is_wrong ty (leaf_at (row_model here.now.row.now) mention.variable.0))
         (wrong_for_call (name_of (method_model here.now.method.now) mention.variable.0) mention.place) }
 {
@@ -82,12 +82,12 @@ pub(crate) fn require_target(here: &Here<'_>, target: Option<Mention>) -> Result
         return Ok(());
     };
     require_not_lent(here, target)?;
-    require_nothing(here, target)
+    require_empty(here, target)
 }
 
 /// Takes away what is claimed of an argument.
 fn claim(row: &mut Row, argument: Argument)
-    ensures { row_model row.new ≡ claimed (row_model row.old) (argument ∷ []) }
+    ensures { row_model row.new ≡ after_claims (row_model row.old) (argument ∷ []) }
 {
     if argument.claimed {
         row.set(argument.mention.variable, Leaf::Nothing);
@@ -96,7 +96,7 @@ fn claim(row: &mut Row, argument: Argument)
 
 /// Takes away what is claimed of arguments.
 pub(crate) fn claim_all(row: &mut Row, arguments: &[Argument])
-    ensures { row_model row.new ≡ claimed (row_model row.old) arguments.now }
+    ensures { row_model row.new ≡ after_claims (row_model row.old) arguments.now }
 {
     for argument in arguments {
         claim(row, *argument);

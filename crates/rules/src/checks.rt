@@ -55,9 +55,9 @@ pub(crate) fn require_owned(here: &Here<'_>, mention: Mention) -> Result<(), Bre
 }
 
 /// That the variable has nothing.
-pub(crate) fn require_nothing(here: &Here<'_>, mention: Mention) -> Result<(), Breach>
+pub(crate) fn require_empty(here: &Here<'_>, mention: Mention) -> Result<(), Breach>
     ensures { check_model (breach_model (model_of here.now.program.now) (method_model here.now.method.now)) result
-        ≡ table.require_nothing (method_model here.now.method.now) (row_model here.now.row.now) mention }
+        ≡ table.require_empty (method_model here.now.method.now) (row_model here.now.row.now) mention }
 {
     if !here.row.owns(mention.variable) {
         return Ok(());

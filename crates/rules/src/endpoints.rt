@@ -50,8 +50,8 @@ impl Program {
     ghost use Rattle.rules.specs.Programs.{model_of};
 
     /// What a message brings for its parameters of the exchange heap.
-    pub(crate) fn brought(&self, message: MessageId) -> &[HeapType]
-        ensures types { result.now ≡ table.brought (model_of self.now) message.0 }
+    pub(crate) fn payload_types(&self, message: MessageId) -> &[HeapType]
+        ensures types { result.now ≡ table.payload_types (model_of self.now) message.0 }
         ensures numbered { All (λ ty. IsNumbered (declared_leaf ty)) result.now }
     {
         match self.methods.messages().get(message.0 as usize) {

@@ -7,12 +7,12 @@ ghost use Rattle.program.specs.Lists.{is_among};
 ghost use Rattle.program.specs.Methods.{MethodModel, method_model};
 ghost use Rattle.program.specs.Programs.{ProgramModel};
 ghost use Rattle.source.specs.declared.place.Place.{Place};
-ghost use Rattle.rules.specs.Arguments.{all_taken, claimed, payload, taken_checks};
+ghost use Rattle.rules.specs.Arguments.{all_taken, after_claims, payload, taken_checks};
 ghost use Rattle.rules.specs.Breaches.{breach_model};
 ghost use Rattle.rules.specs.Checks.{StandsFor, check_model};
 ghost use Rattle.rules.specs.Endpoints.{is_wrong};
 ghost use Rattle.rules.specs.Mentions.{name_of};
-ghost use Rattle.rules.specs.Outcomes.{refused};
+ghost use Rattle.rules.specs.Outcomes.{refuse_if};
 ghost use Rattle.rules.specs.Programs.{model_of};
 ghost use Rattle.rules.specs.Repeats.{first_again};
 ghost use Rattle.rows.specs.Rows.{leaf_at, row_model};
@@ -100,7 +100,7 @@ fn require_state(
     ty: HeapType,
     mention: Mention,
 ) -> Result<(), Breach>
-    ensures { check_model (breach_model (model_of here.now.program.now) (method_model here.now.method.now)) result ≡ refused
+    ensures { check_model (breach_model (model_of here.now.program.now) (method_model here.now.method.now)) result ≡ refuse_if
         (is_wrong ty (leaf_at (row_model here.now.row.now) mention.variable.0))
         (wrong_in (model_of here.now.program.now) (method_model here.now.method.now) taker
         (name_of (method_model here.now.method.now) mention.variable.0) mention.place) }
@@ -150,7 +150,7 @@ pub(crate) fn require_payloads(
 
 /// Takes away what goes there.
 pub(crate) fn claim_payloads(row: &mut Row, payloads: &[Mention])
-    ensures { row_model row.new ≡ claimed (row_model row.old) (map payload payloads.now) }
+    ensures { row_model row.new ≡ after_claims (row_model row.old) (map payload payloads.now) }
 {
     for mention in payloads {
         row.set(mention.variable, Leaf::Nothing);

@@ -9,7 +9,7 @@ ghost use Rattle.rules.specs.Checks.{StandsFor, check_model};
 ghost use Rattle.rules.specs.Endpoints as endpoints;
 ghost use Rattle.rules.specs.Mentions as mentions;
 ghost use Rattle.rules.specs.Onwards.{onward_model, onward_of};
-ghost use Rattle.rules.specs.Outcomes.{refused};
+ghost use Rattle.rules.specs.Outcomes.{refuse_if};
 ghost use Rattle.rules.specs.Texts.{wrong_for_result};
 ghost use Rattle.rules.specs.Programs.{model_of};
 ghost use Rattle.rows.specs.Rows.{leaf_at, row_model};
@@ -48,7 +48,7 @@ pub(crate) fn return_(here: &Here<'_>, returning: Returning) -> Result<Onward, B
 
 /// That what a method gives is in the state of its result.
 fn require_state(here: &Here<'_>, value: Mention) -> Result<(), Breach>
-    ensures { check_model (breach_model (model_of here.now.program.now) (method_model here.now.method.now)) result ≡ refused
+    ensures { check_model (breach_model (model_of here.now.program.now) (method_model here.now.method.now)) result ≡ refuse_if
         (option_map_or (λ ty. endpoints.is_wrong ty (leaf_at (row_model here.now.row.now) value.variable.0))
         (method_model here.now.method.now).result false)
         (wrong_for_result (mentions.name_of (method_model here.now.method.now) value.variable.0) value.place) }

@@ -41,7 +41,7 @@ pub(crate) fn send(site: &Site<'_>, row: &mut Row, sending: &Sending) -> Result<
     let (endpoint, message) = (sending.endpoint, sending.message);
     require_owned(&here, endpoint)?;
     let payloads = sending.payloads.as_slice();
-    let types = site.program.brought(message);
+    let types = site.program.payload_types(message);
     let taker = Taker::Message { endpoint, message };
     require_payloads(&here, taker, types, payloads)?;
     let ty = type_of(site.method, endpoint.variable);

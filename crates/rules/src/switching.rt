@@ -114,7 +114,7 @@ fn awaited_edges<'a>(here: &Here<'a>, endpoint: Mention) -> &'a [Edge]
 /// That each message which may come at an endpoint has a case.
 fn require_covered(here: &Here<'_>, cases: &Cases, endpoint: Mention) -> Result<(), Breach>
     ensures { StandsFor (breach_model (model_of here.now.program.now) (method_model here.now.method.now)) result
-        (table.covered (model_of here.now.program.now) (method_model here.now.method.now) (row_model here.now.row.now)
+        (table.cover_checks (model_of here.now.program.now) (method_model here.now.method.now) (row_model here.now.row.now)
         (cases_model cases.now)
         endpoint) }
 {
@@ -132,7 +132,7 @@ fn require_covered(here: &Here<'_>, cases: &Cases, endpoint: Mention) -> Result<
 /// That each message which may come at one of the endpoints has a case.
 fn require_all_covered(here: &Here<'_>, cases: &Cases) -> Result<(), Breach>
     ensures { StandsFor (breach_model (model_of here.now.program.now) (method_model here.now.method.now)) result
-        (flat_map (table.covered (model_of here.now.program.now) (method_model here.now.method.now) (row_model here.now.row.now)
+        (flat_map (table.cover_checks (model_of here.now.program.now) (method_model here.now.method.now) (row_model here.now.row.now)
         (cases_model cases.now)) (first_mentions [] (cases_model cases.now))) }
 {
     let endpoints = cases.endpoints();
@@ -163,13 +163,17 @@ fn receive(
 ) -> Result<(), Memory>
     requires numbered { edge.to.0 < MOST_STATES }
     ensures { OnOk result (map pair_model pairs.new.items ≡ map pair_model pairs.old.items
-        ++ table.received (model_of here.now.program.now) (method_model here.now.method.now) (row_model here.now.row.now)
+        ++ table.receive_pairs (model_of here.now.program.now) (method_model here.now.method.now) (row_model here.now.row.now)
         (cases_model cases.now) endpoint.0 edge) }
 {
     if let Some(case) = cases.find(endpoint, Some(edge.message)) {
         let mut row = spare.copy_of(here.row)?;
         row.set(endpoint, Leaf::State(edge.to.0));
-        bind(&mut row, &case.targets, here.program.brought(edge.message));
+        bind(
+            &mut row,
+            &case.targets,
+            here.program.payload_types(edge.message),
+        );
         pairs.push((case.next, row))?;
     }
     Ok(())
@@ -184,7 +188,7 @@ fn close(
     pairs: &mut Vec<(usize, Row)>,
 ) -> Result<(), Memory>
     ensures { OnOk result (map pair_model pairs.new.items ≡ map pair_model pairs.old.items
-        ++ table.closed (model_of here.now.program.now) (method_model here.now.method.now) (row_model here.now.row.now)
+        ++ table.close_pairs (model_of here.now.program.now) (method_model here.now.method.now) (row_model here.now.row.now)
         (cases_model cases.now) endpoint.0) }
 {
     if let Some(case) = cases.find(endpoint, None) {

@@ -20,7 +20,7 @@ ghost use Rattle.rows.specs.declared.row.Leaf.{Leaf as LeafModel};
 
 use crate::arguments::{claim_all, give, require_arguments, require_target};
 use crate::breach::{Breach, Reason};
-use crate::checks::{require_another, require_not_lent, require_nothing, require_owned};
+use crate::checks::{require_another, require_empty, require_not_lent, require_owned};
 use crate::fields::{self, new};
 use crate::here::{Here, Site};
 use crate::onward::Onward;
@@ -120,9 +120,9 @@ fn new_channel(
         row,
     };
     require_not_lent(&here, channel.first)?;
-    require_nothing(&here, channel.first)?;
+    require_empty(&here, channel.first)?;
     require_not_lent(&here, channel.second)?;
-    require_nothing(&here, channel.second)?;
+    require_empty(&here, channel.second)?;
     let state = site.program.first_state(channel.contract);
     row.set(channel.first.variable, Leaf::State(state.0));
     row.set(channel.second.variable, Leaf::State(state.0));
@@ -152,7 +152,7 @@ fn move_(
     require_not_lent(&here, source)?;
     require_owned(&here, source)?;
     require_not_lent(&here, target)?;
-    require_nothing(&here, target)?;
+    require_empty(&here, target)?;
     let taken = row.leaf(source.variable);
     row.set(target.variable, taken);
     row.set(source.variable, Leaf::Nothing);

@@ -22,5 +22,6 @@ abbrev pub index_of : Receipt → ℕ
 index_of receipt = receipt.pushed.index
 
 -- the findings are the verdict of its method in the program that it remembers
-abbrev pub IsRight : Verdict → Type 0
-IsRight verdict = ∥ IsMethodVerdict (model_of (program_of verdict)) (verdict_number verdict) (map finding_model (findings_of verdict)) ∥₁
+abbrev pub IsOwnVerdict : Verdict → Type 0
+IsOwnVerdict verdict =
+    ∥ IsMethodVerdict (model_of (program_of verdict)) (verdict_number verdict) (map finding_model (findings_of verdict)) ∥₁

@@ -1,7 +1,7 @@
 -- The verdicts that were put so far, as they come one after another.
 use Rattle.std.specs.Prelude.{ℕ, ◌-◌, ◌≡◌, ◌≤◌, ◌<◌, Option, IsSomeAnd}
 use Rattle.analyse.specs.declared.verdict.Verdict.{Verdict}
-use Rattle.shelf.specs.Shelves.{IsRight, IsOf, index_of, verdict_of}
+use Rattle.shelf.specs.Shelves.{IsOwnVerdict, IsOf, index_of, verdict_of}
 use Rattle.shelf.specs.declared.receipt.Receipt.{Receipt}
 use Rattle.shelf.specs.declared.shelf.Shelf.{Shelf}
 use Rattle.shelf.specs.declared.so_far.SoFar.{SoFar}
@@ -32,7 +32,7 @@ pub record IsNextReceipt (old : SoFar) (verdict : Verdict) (new : SoFar) (receip
 -- what comes is a verdict that was put: its receipt is there. And it is the verdict of its method
 pub record GivesVerdict (old : SoFar) (verdict : Verdict) (new : SoFar) : Type 0 where
   pub put : IsSomeAnd (last_of new) (IsNextReceipt old verdict new)
-  pub judged : IsRight verdict
+  pub judged : IsOwnVerdict verdict
 
 -- nothing comes, since no index is left, and what came last is still that
 abbrev pub ComesToEnd : SoFar → SoFar → Type 0

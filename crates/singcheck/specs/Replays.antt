@@ -3,7 +3,7 @@ use Rattle.std.specs.Prelude.{◌≡◌, ◌≢◌, ℕ, List, [], ◌∷◌, �
 use Rattle.std.specs.List.{flat_map}
 use Rattle.source.specs.declared.token.Span.{Span}
 use Rattle.tree.specs.Trees.{DefinitionTree, Struct, Class, ItemTree, MethodTree}
-use Rattle.declarations.specs.Resolution.{printed}
+use Rattle.declarations.specs.Resolution.{printed_name}
 use Rattle.tables.specs.Words.{word_at}
 use Rattle.program.specs.Lists.{Each}
 use Rattle.program.specs.Programs.{ProgramModel}
@@ -35,7 +35,7 @@ method_names text items = flat_map (λ i. names_in text i.definition) items
 
 -- the name of a struct, if it is one
 abbrev pub struct_in : List ℕ → DefinitionTree → List (List ℕ)
-struct_in text (Struct s) = printed text s.name ∷ []
+struct_in text (Struct s) = printed_name text s.name ∷ []
 struct_in text _ = []
 
 -- how all structs are printed, in order of the text

@@ -21,13 +21,13 @@ use Rattle.flow.specs.Lowering.{graph_of}
 use Rattle.contracts.specs.Bounds.{sign_to}
 use Rattle.contracts.specs.TwoEnds.{HeldAlways, NeverLonger}
 use Rattle.rules.specs.Endpoints.{first_state}
-use Rattle.machine.specs.Blocks.{handed, is_own_still, new_block, owns_none, end_type}
+use Rattle.machine.specs.Blocks.{with_new_owner, is_own_still, new_block, owns_none, end_type}
 use Rattle.machine.specs.Frames.{method_at, variables_of, type_at, payloads_claimed, address, addresses, choices, point_instruction}
 use Rattle.machine.specs.Machine.{outcome_of, outcome_in}
 use Rattle.machine.specs.Machine.{event_outcome}
-use Rattle.machine.specs.Outcomes.{Outcome, NoChoice, QueueBounds, tested}
+use Rattle.machine.specs.Outcomes.{Outcome, NoChoice, QueueBounds, after_tests}
 use Rattle.machine.specs.Runs.{Run, begins, goes_on}
-use Rattle.machine.specs.World.{no_type, MessageHeld, Block, Frame, World, block_at, stack_at, changed, read, owns, let_go}
+use Rattle.machine.specs.World.{no_type, MessageHeld, Block, Frame, World, block_at, stack_at, change_each, read, owns, let_go}
 use Rattle.machine.specs.Heaps.{top}
 use Rattle.machine.specs.declared.worlds.Owner.TheVariants.{Inside}
 use Rattle.machine.specs.declared.halts.Event.{Event}
@@ -51,7 +51,7 @@ use Rattle.program.specs.WellFormed.{AreWellFormed}
 use Rattle.sound.specs.Premises.{AreSound}
 use Rattle.machine.specs.Runs.{AreBounds}
 use Rattle.sound.proofs.Trees.{graphs_fit}
-use Rattle.machine.specs.Instructions.{is_own, argument_tests, send_tests, edge_out, value_tests, returns, event_of, exchanges}
+use Rattle.machine.specs.Instructions.{is_own, argument_tests, send_tests, state_by_send, value_tests, returns, outcome_from, exchanges}
 use Rattle.machine.proofs.ChangeLemmas.{eqb_same, true≢false}
 
 -- What is asked of an instruction, whatever is found: a new block is no endpoint, and the contract of a new channel is there.
@@ -72,7 +72,7 @@ module _ (p : ProgramModel) (bound : QueueBounds) (w : World) (self : ℕ) (f : 
   returns_fine (Some v) (g ∷ more) = h
 
   value_fine : (value : Option Mention)
-      → IsFine p (tested (value_tests p bound w self f rest value) (returns p bound w self f rest value rest))
+      → IsFine p (after_tests (value_tests p bound w self f rest value) (returns p bound w self f rest value rest))
   value_fine None = returns_fine None rest
   value_fine (Some v) =
       one_test p (is_own p bound w self f rest (read f.variables v.variable.0)) F3 [] _ (λ e. tt) (λ e. returns_fine (Some v) rest)
@@ -87,7 +87,7 @@ module _ (p : ProgramModel) (bound : QueueBounds) (w : World) (self : ℕ) (f : 
 
   new_fits : (m : MethodModel) (v : Mention) (arguments : List Mention) → method_at p f.method ≡ Some m
       → is_end (type_at m.variables v.variable.0) ≡ false → AreGiven p bound w self f rest h [] (payloads_claimed arguments)
-      → RunFits p (changed (handed (Inside (length w.blocks)) (addresses f.variables (payloads_claimed arguments))) w.blocks
+      → RunFits p (change_each (with_new_owner (Inside (length w.blocks)) (addresses f.variables (payloads_claimed arguments))) w.blocks
       ++ new_block (type_at (variables_of p f.method) v.variable.0) self 0 0 (addresses f.variables (payloads_claimed arguments)) ∷ [])
   new_fits m v arguments there plain given =
       let xs = addresses f.variables (payloads_claimed arguments) in
@@ -130,7 +130,7 @@ module _ (p : ProgramModel) (bound : QueueBounds) (w : World) (self : ℕ) (f : 
 
   module _ (always : HeldAlways) (longer : NeverLonger) (sound : IsSoundProgram p bound) (m : MethodModel)
       (there : method_at p f.method ≡ Some m) where
-    instruction_fine : (i : Instruction) (choice : ℕ) → IsMadeWell p m i → IsFine p (event_of p bound w self f rest i choice)
+    instruction_fine : (i : Instruction) (choice : ℕ) → IsMadeWell p m i → IsFine p (outcome_from p bound w self f rest i choice)
     instruction_fine (Use v next) choice fit =
         one_test p (is_own p bound w self f rest (read f.variables v.variable.0)) F1 [] _ (λ e. tt) (λ e. h)
     instruction_fine (New v arguments next) choice fit =
@@ -159,7 +159,7 @@ module _ (p : ProgramModel) (bound : QueueBounds) (w : World) (self : ℕ) (f : 
         one_test p (is_own p bound w self f rest x) F1 _ _ (λ k. tt)
         (λ k. let o = own_at p bound w self f rest h x k in
         subst (λ (z : Outcome). IsFine p z) (sym (tested_append (argument_tests p bound w self f rest [] args)
-        (send_tests p bound w self f rest (address x) (edge_out p bound w self f rest (address x) message.0)) _))
+        (send_tests p bound w self f rest (address x) (state_by_send p bound w self f rest (address x) message.0)) _))
         (given_fine p bound w self f rest h [] args _ (λ given. send_fine p bound w self f rest h longer sound (address x) msg
         (let_go f.variables args) next (ap (λ (x : Option ℕ). owns w.blocks self (address x)) o.is ∙ o.owned)
         (given_mine p bound w self f rest h [] args given) (once_given payloads given))))
@@ -182,7 +182,7 @@ module _ (always : HeldAlways) (longer : NeverLonger) (p : ProgramModel) (bound 
   fine_at w e f rest h (Some m) there = by (slice_get (graph_of m).instructions f.point) refl
     where
       chosen : (b : Bool) (i : Instruction) → slice_get (graph_of m).instructions f.point ≡ Some i
-          → IsFine p (if b then event_of p bound w e.process f rest i e.choice else NoChoice)
+          → IsFine p (if b then outcome_from p bound w e.process f rest i e.choice else NoChoice)
       chosen true i at = instruction_fine p bound w e.process f rest h always longer sound m there i e.choice
           (made_well.each f.method m f.point i there at)
       chosen false i at = tt

@@ -24,9 +24,9 @@ use Rattle.program.specs.Parts.{IsWhole}
 pub use Rattle.machine.specs.Heaps.{one_if}
 use Rattle.machine.specs.Heaps.{FieldsHold}
 use Rattle.machine.specs.Outcomes.{QueueBounds}
-use Rattle.contracts.specs.TwoEnds.{Ends, Moves, begun}
-use Rattle.rules.specs.Arguments.{claimed}
-use Rattle.rules.specs.Endpoints.{brought, declared_leaf}
+use Rattle.contracts.specs.TwoEnds.{Ends, Moves, ends_at_start}
+use Rattle.rules.specs.Arguments.{after_claims}
+use Rattle.rules.specs.Endpoints.{payload_types, declared_leaf}
 use Rattle.rules.specs.Mentions.{is_lent_role}
 use Rattle.rows.specs.Rows.{leaf_at}
 use Rattle.rules.specs.Steps.{outcome, entry_of}
@@ -34,7 +34,7 @@ use Rattle.rows.specs.declared.row.Leaf.TheVariants as leaf
 use Rattle.rows.specs.declared.row.Leaf.{Leaf}
 use Rattle.analyse.specs.Reach.{Reached}
 use Rattle.machine.specs.Frames.{method_at, instruction_at}
-use Rattle.machine.specs.World.{MessageHeld, Block, Frame, World, block_at, stack_at, read, is_queue, owns, freed, cut_off, let_go}
+use Rattle.machine.specs.World.{MessageHeld, Block, Frame, World, block_at, stack_at, read, is_queue, owns, is_freed_at, cut_off, let_go}
 use Rattle.sound.specs.Operands.{stateless}
 
 -- ---- what a leaf says of an address
@@ -137,7 +137,7 @@ pub record WaitsFor (p : ProgramModel) (bs : List Block) (g above : Frame) : Typ
   pub call : instruction_at p g ≡ Some (Call place record { 0 = above.method } arguments target next)
   pub before : List Leaf
   pub reached : Reached (outcome p g.method) (entry_of p g.method) (g.point, before)
-  pub fits : RowFits bs m.variables (kept_back p g) (claimed (claimed before arguments) (as_claimed arguments))
+  pub fits : RowFits bs m.variables (kept_back p g) (after_claims (after_claims before arguments) (as_claimed arguments))
   pub lent : AreLent bs g.variables before callee.variables above.variables arguments
   pub long : length g.variables ≡ length m.variables
 
@@ -172,12 +172,12 @@ AreDeclared bs (k ∷ types) (a ∷ given) = HasLeaf bs k a (declared_leaf k) ×
 AreDeclared bs _ _ = ⊥
 
 abbrev pub AreBrought : ProgramModel → List Block → List MessageHeld → Type 0
-AreBrought p bs queue = Each (λ m. AreDeclared bs (brought p m.message) m.payload) queue
+AreBrought p bs queue = Each (λ m. AreDeclared bs (payload_types p m.message) m.payload) queue
 
 -- ---- fields
 -- the fields of each block that is not freed hold what they are declared with
 abbrev pub FieldsDeclared : ProgramModel → List Block → Type 0
-FieldsDeclared p bs = (a : ℕ) → a < length bs → freed bs a ≡ false
+FieldsDeclared p bs = (a : ℕ) → a < length bs → is_freed_at bs a ≡ false
     → AreDeclared bs (field_types p.structs (block_at bs a).ty) (block_at bs a).fields
 
 -- ---- channels
@@ -197,9 +197,9 @@ pub record ChannelFits (p : ProgramModel) (bs : List Block) (a c : ℕ) : Type 0
   pub contract_there : slice_get p.contracts c ≡ Some contract
   pub n : ℕ
   pub ends : Ends
-  pub moves : Moves contract.parts.edges n (begun contract.parts.first) ends
-  pub mine : freed bs a ≡ false → IsEndOf ends Imp (block_at bs a)
-  pub theirs : freed bs peer ≡ false → IsEndOf ends Exp (block_at bs peer)
+  pub moves : Moves contract.parts.edges n (ends_at_start contract.parts.first) ends
+  pub mine : is_freed_at bs a ≡ false → IsEndOf ends Imp (block_at bs a)
+  pub theirs : is_freed_at bs peer ≡ false → IsEndOf ends Exp (block_at bs peer)
 
 -- an exporting end is the peer of its peer
 pub record IsPeer (bs : List Block) (a c : ℕ) : Type 0 where

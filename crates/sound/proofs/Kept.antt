@@ -13,8 +13,8 @@ use Rattle.program.specs.declared.types.HeapType.{HeapType}
 use Rattle.program.specs.declared.method.Role.TheVariants as role
 use Rattle.program.specs.declared.method.Role.{Role}
 use Rattle.flow.specs.Graphs.{Call}
-use Rattle.rules.specs.Arguments.{claimed}
-use Rattle.rules.specs.Endpoints.{brought, declared_leaf}
+use Rattle.rules.specs.Arguments.{after_claims}
+use Rattle.rules.specs.Endpoints.{payload_types, declared_leaf}
 use Rattle.rules.specs.Mentions.{is_lent_role}
 use Rattle.rows.specs.Rows.{leaf_at}
 use Rattle.rules.specs.Steps.{outcome, entry_of}
@@ -23,7 +23,7 @@ use Rattle.rows.specs.declared.row.Leaf.{Leaf}
 use Rattle.analyse.specs.Reach.{Reached}
 use Rattle.machine.specs.Frames.{method_at, instruction_at}
 use Rattle.machine.specs.Heaps.{FieldsHold, occurs}
-use Rattle.machine.specs.World.{MessageHeld, Block, Frame, World, block_at, stack_at, read, is_inside, is_queue, owns, cut_off, freed}
+use Rattle.machine.specs.World.{MessageHeld, Block, Frame, World, block_at, stack_at, read, is_inside, is_queue, owns, cut_off, is_freed_at}
 use Rattle.sound.specs.Operands.{stateless}
 use Rattle.sound.proofs.Basics.{standing_read, process_apart, stack_there}
 use Rattle.sound.proofs.Invariant.{IsOn, HasLeaf, LeafFits, RowFits, one_if, standing, kept_back, waiting, held, IsLent}
@@ -174,7 +174,7 @@ waits_kept p bs bs' g above cut kept h = record {
   before = h.before;
   reached = h.reached;
   long = h.long;
-  fits = row_kept bs bs' h.m.variables (kept_back p g) (claimed (claimed h.before h.arguments) (as_claimed h.arguments)) cut kept h.fits;
+  fits = row_kept bs bs' h.m.variables (kept_back p g) (after_claims (after_claims h.before h.arguments) (as_claimed h.arguments)) cut kept h.fits;
   lent = all_lent_kept bs bs' g.variables h.before h.callee.variables above.variables h.arguments cut h.lent;
 }
 
@@ -248,7 +248,7 @@ pub brought_kept : (p : ProgramModel) (bs bs' : List Block) (queue : List Messag
     → AreKept bs bs' (λ a. 0 < in_queue a queue) → AreBrought p bs queue → AreBrought p bs' queue
 brought_kept p bs bs' [] cut kept h = h
 brought_kept p bs bs' (m ∷ ms) cut kept h = (
-  declared_kept bs bs' (brought p m.message) m.payload cut
+  declared_kept bs bs' (payload_types p m.message) m.payload cut
       (λ a some within. kept a (omega arith) within) h.0,
   brought_kept p bs bs' ms cut (λ a some within. kept a (omega arith) within) h.1,
 )
@@ -267,12 +267,12 @@ pub record SameFields (p : ProgramModel) (bs bs' : List Block) : Type 0 where
   pub cut : StaysCutOff bs bs'
   pub kept : AreKept bs bs' (LiesInside bs)
   pub types : (a : ℕ) → a < length bs → (block_at bs' a).ty ≡ (block_at bs a).ty
-  pub lives : (a : ℕ) → a < length bs → freed bs' a ≡ false → freed bs a ≡ false
-  pub fields : (a : ℕ) → a < length bs → freed bs' a ≡ false → (block_at bs' a).fields ≡ (block_at bs a).fields
+  pub lives : (a : ℕ) → a < length bs → is_freed_at bs' a ≡ false → is_freed_at bs a ≡ false
+  pub fields : (a : ℕ) → a < length bs → is_freed_at bs' a ≡ false → (block_at bs' a).fields ≡ (block_at bs a).fields
 
 -- the fields of a block that was there are still as they are declared
 pub fields_kept : (p : ProgramModel) (bs bs' : List Block) (a : ℕ) → FieldsHold bs → SameFields p bs bs' → FieldsDeclared p bs → a < length bs
-    → freed bs' a ≡ false → AreDeclared bs' (field_types p.structs (block_at bs' a).ty) (block_at bs' a).fields
+    → is_freed_at bs' a ≡ false → AreDeclared bs' (field_types p.structs (block_at bs' a).ty) (block_at bs' a).fields
 fields_kept p bs bs' a held same h within lives =
     subst (λ (k : HeapType). AreDeclared bs' (field_types p.structs k) (block_at bs' a).fields) (sym (same.types a within))
     (subst (λ (xs : List ℕ). AreDeclared bs' (field_types p.structs (block_at bs a).ty) xs) (sym (same.fields a within lives))

@@ -24,17 +24,17 @@ use Rattle.flow.specs.Graphs.{Instruction, Use, New, Move, Delete, Exchange, New
 use Rattle.flow.specs.Graphs.{Return, Stop}
 use Rattle.flow.specs.Lowering.{graph_of}
 use Rattle.flow.specs.declared.graph.Branches.TheVariants.{Either, Only}
-use Rattle.rules.specs.Arguments.{all_arguments, all_fields, all_payloads, claimed, field_checks, given_leaf, lacks_edge, payload}
+use Rattle.rules.specs.Arguments.{all_arguments, all_fields, all_payloads, after_claims, field_checks, given_leaf, lacks_edge, payload}
 use Rattle.rules.specs.Arguments.{sent_leaf, target_checks}
-use Rattle.rules.specs.Endpoints.{brought, declared_leaf, fields_of, result_of, first_state, message_name, parameter_types, type_of}
+use Rattle.rules.specs.Endpoints.{payload_types, declared_leaf, fields_of, result_of, first_state, message_name, parameter_types, type_of}
 use Rattle.rows.specs.Leaves.{is_something}
-use Rattle.rules.specs.Mentions.{is_lent, is_kept, require_owned, given_back, require_not_lent, require_nothing, require_another}
-use Rattle.rules.specs.Outcomes.{Goes, Pair, refused}
+use Rattle.rules.specs.Mentions.{is_lent, is_kept, require_owned, given_back, require_not_lent, require_empty, require_another}
+use Rattle.rules.specs.Outcomes.{Goes, Pair, refuse_if}
 use Rattle.rows.specs.Rows.{leaf_at, leaf_or_nothing, is_owned}
-use Rattle.rules.specs.RuleTable.{exchanged, instruction_outcome, value_checks, back_checks}
+use Rattle.rules.specs.RuleTable.{after_exchange, instruction_outcome, value_checks, back_checks}
 use Rattle.rules.specs.Scopes.{declared_between}
 use Rattle.rules.specs.Steps.{outcome, entry_of, method_entry, method_outcome, point_outcome, entry_leaf}
-use Rattle.rules.specs.Switches.{bound_leaves, pair_at, received, closed, awaited_edges, comes_at, switch_checks, switch_pairs}
+use Rattle.rules.specs.Switches.{bound_leaves, pair_at, receive_pairs, close_pairs, awaited_edges, comes_at, switch_checks, switch_pairs}
 use Rattle.rules.specs.Texts.{not_sent}
 use Rattle.rows.specs.declared.row.Leaf.TheVariants as leaf
 use Rattle.rows.specs.declared.row.Leaf.{Leaf}
@@ -101,7 +101,7 @@ module _ (p : ProgramModel) (m : MethodModel) (scope : (point variable : ℕ) �
   set_nothing : (to : ℕ) (row : List Leaf) (t : ℕ) → NoneOut (to, row) → NoneOut (to, set row t leaf.Nothing)
   set_nothing to row t h v out = row_set_still row t v (h v out)
 
-  claimed_out : (to : ℕ) (row : List Leaf) (arguments : List Argument) → NoneOut (to, row) → NoneOut (to, claimed row arguments)
+  claimed_out : (to : ℕ) (row : List Leaf) (arguments : List Argument) → NoneOut (to, row) → NoneOut (to, after_claims row arguments)
   claimed_out to row arguments h v out = row_still row arguments v (h v out)
 
   -- a variable that has something is in scope, and stays there
@@ -124,7 +124,7 @@ module _ (p : ProgramModel) (m : MethodModel) (scope : (point variable : ℕ) �
       bound_in from to (set row v.0 (declared_leaf k)) bound types b.1 (set_in to row v.0 (declared_leaf k) b.0.after h)
 
   received_in : (from : ℕ) (row : List Leaf) (cases : List EntranceModel) (e : ℕ) (d : Edge) → NoneOut (from, row)
-      → Each (IsEntrance p m scope from) cases → is_owned row e ≡ true → Each NoneOut (received p m row cases e d)
+      → Each (IsEntrance p m scope from) cases → is_owned row e ≡ true → Each NoneOut (receive_pairs p m row cases e d)
   received_in from row cases e d h fits owned = by (case_for cases e (Some d.message.0)) refl
     where
       binds_at : (a : Awaited) (c : EntranceModel) → c.awaited ≡ a → IsEntrance p m scope from c → awaits a (Some d.message.0) ≡ true
@@ -133,11 +133,11 @@ module _ (p : ProgramModel) (m : MethodModel) (scope : (point variable : ℕ) �
       binds_at Closed c is k e = absurd (true≢false e refl)
 
       by : (x : Option EntranceModel) → case_for cases e (Some d.message.0) ≡ x
-          → Each NoneOut (pair_at x (λ c. bound_leaves (set row e (leaf.State d.to.0)) c.targets (brought p d.message.0)))
+          → Each NoneOut (pair_at x (λ c. bound_leaves (set row e (leaf.State d.to.0)) c.targets (payload_types p d.message.0)))
       by None is = tt
       by (Some c) is =
           let k = case_is (IsEntrance p m scope from) cases e (Some d.message.0) c fits is in (
-            bound_in from c.next (set row e (leaf.State d.to.0)) c.targets (brought p d.message.0) (binds_at c.awaited c refl k.0 k.2)
+            bound_in from c.next (set row e (leaf.State d.to.0)) c.targets (payload_types p d.message.0) (binds_at c.awaited c refl k.0 k.2)
                 (set_in c.next row e (leaf.State d.to.0) (owned_in from c.next e row k.0.keeps h owned)
                 (keeps_all from c.next row k.0.keeps h)),
             tt,
@@ -145,7 +145,7 @@ module _ (p : ProgramModel) (m : MethodModel) (scope : (point variable : ℕ) �
 
   closed_in : (from : ℕ) (row : List Leaf) (cases : List EntranceModel) (e : ℕ) → NoneOut (from, row)
       → Each (IsEntrance p m scope from) cases
-      → is_owned row e ≡ true → Each NoneOut (closed p m row cases e)
+      → is_owned row e ≡ true → Each NoneOut (close_pairs p m row cases e)
   closed_in from row cases e h fits owned = by (case_for cases e None) refl
     where
       by : (x : Option EntranceModel) → case_for cases e None ≡ x → Each NoneOut (pair_at x (λ c. set row e leaf.CutOff))
@@ -158,9 +158,9 @@ module _ (p : ProgramModel) (m : MethodModel) (scope : (point variable : ℕ) �
       → Each (IsEntrance p m scope from) cases
       → is_owned row e.variable.0 ≡ true → Each NoneOut (comes_at p m row cases e)
   comes_in from row cases e h fits owned =
-      each_append NoneOut (flat_map (received p m row cases e.variable.0) (awaited_edges p m row e)) (closed p m row cases e.variable.0)
-      (each_flat NoneOut (received p m row cases e.variable.0) (awaited_edges p m row e)
-      (each_all (λ d. Each NoneOut (received p m row cases e.variable.0 d)) (awaited_edges p m row e)
+      each_append NoneOut (flat_map (receive_pairs p m row cases e.variable.0) (awaited_edges p m row e)) (close_pairs p m row cases e.variable.0)
+      (each_flat NoneOut (receive_pairs p m row cases e.variable.0) (awaited_edges p m row e)
+      (each_all (λ d. Each NoneOut (receive_pairs p m row cases e.variable.0 d)) (awaited_edges p m row e)
       (λ d. received_in from row cases e.variable.0 d h fits owned)))
       (closed_in from row cases e.variable.0 h fits owned)
 
@@ -172,10 +172,10 @@ module _ (p : ProgramModel) (m : MethodModel) (scope : (point variable : ℕ) �
       (keeps_all from next row fit h, tt)
   step_in from row (New v arguments next) all fit h e =
       let given = map payload arguments in
-      let k = checked_passed (all_fields m row (fields_of p m v.variable.0) given ++ target_checks m (claimed row given) (Some v))
-      ((next, set (claimed row given) v.variable.0 leaf.Block) ∷ []) all e in
+      let k = checked_passed (all_fields m row (fields_of p m v.variable.0) given ++ target_checks m (after_claims row given) (Some v))
+      ((next, set (after_claims row given) v.variable.0 leaf.Block) ∷ []) all e in
       subst (λ ps. Each NoneOut ps) k.1 (
-        set_in next (claimed row given) v.variable.0 leaf.Block fit.in_scope
+        set_in next (after_claims row given) v.variable.0 leaf.Block fit.in_scope
             (claimed_out next row given (keeps_all from next row fit.keeps h)),
         tt,
       )
@@ -184,11 +184,11 @@ module _ (p : ProgramModel) (m : MethodModel) (scope : (point variable : ℕ) �
       let l = declared_leaf fit.ty in
       let k = checked_passed
       (require_another m x.holder x.given ∷ require_owned m row x.holder ∷ field_checks m row fit.ty (payload x.given))
-      ((next, set row x.given.variable.0 l) ∷ []) all (sym (ap (λ (o : Option HeapType). exchanged p m row x next o) ty) ∙ e) in
+      ((next, set row x.given.variable.0 l) ∷ []) all (sym (ap (λ (o : Option HeapType). after_exchange p m row x next o) ty) ∙ e) in
       subst (λ ps. Each NoneOut ps) k.1
       (set_in next row x.given.variable.0 l fit.in_scope (keeps_all from next row fit.keeps h), tt)
   step_in from row (Move v u next) all fit h e =
-      let k = checked_passed (require_another m v u ∷ require_not_lent m u ∷ require_owned m row u ∷ require_not_lent m v ∷ require_nothing m row v ∷ [])
+      let k = checked_passed (require_another m v u ∷ require_not_lent m u ∷ require_owned m row u ∷ require_not_lent m v ∷ require_empty m row v ∷ [])
       ((next, set (set row v.variable.0 (leaf_at row u.variable.0)) u.variable.0 leaf.Nothing) ∷ []) all e in
       subst (λ ps. Each NoneOut ps) k.1 (
         set_nothing next (set row v.variable.0 (leaf_at row u.variable.0)) u.variable.0
@@ -200,7 +200,7 @@ module _ (p : ProgramModel) (m : MethodModel) (scope : (point variable : ℕ) �
       ((next, set row v.variable.0 leaf.Nothing) ∷ []) all e in subst (λ ps. Each NoneOut ps) k.1
       (set_nothing next row v.variable.0 (keeps_all from next row fit h), tt)
   step_in from row (NewChannel c next) all fit h e =
-      let k = checked_passed (require_not_lent m c.first ∷ require_nothing m row c.first ∷ require_not_lent m c.second ∷ require_nothing m row c.second
+      let k = checked_passed (require_not_lent m c.first ∷ require_empty m row c.first ∷ require_not_lent m c.second ∷ require_empty m row c.second
       ∷ []) ((
         next,
         set (set row c.first.variable.0 (leaf.State (first_state p c.contract.0))) c.second.variable.0
@@ -219,13 +219,13 @@ module _ (p : ProgramModel) (m : MethodModel) (scope : (point variable : ℕ) �
       let k =
       checked_passed
       (require_owned m row e
-      ∷ (all_payloads m row e name (brought p message.0) (map payload payloads)
-      ++ refused (lacks_edge p ty message.0 l) (not_sent name place) ∷ []))
-      ((next, set (claimed row (map payload payloads)) e.variable.0 (sent_leaf p ty message.0 l)) ∷ []) all eq
+      ∷ (all_payloads m row e name (payload_types p message.0) (map payload payloads)
+      ++ refuse_if (lacks_edge p ty message.0 l) (not_sent name place) ∷ []))
+      ((next, set (after_claims row (map payload payloads)) e.variable.0 (sent_leaf p ty message.0 l)) ∷ []) all eq
       in
       let owned = not_false (is_owned row e.variable.0) (not_refused (not (is_owned row e.variable.0)) _ k.0.0) in
       subst (λ ps. Each NoneOut ps) k.1 (
-        set_in next (claimed row (map payload payloads)) e.variable.0 (sent_leaf p ty message.0 l)
+        set_in next (after_claims row (map payload payloads)) e.variable.0 (sent_leaf p ty message.0 l)
             (owned_in from next e.variable.0 row fit.keeps h owned)
             (claimed_out next row (map payload payloads) (keeps_all from next row fit.keeps h)),
         tt,
@@ -251,16 +251,16 @@ module _ (p : ProgramModel) (m : MethodModel) (scope : (point variable : ℕ) �
       )
   step_in from row (Call place method arguments target next) all fit h e =
       let k = checked_passed (all_arguments m row (parameter_types p method.0) arguments
-      ++ target_checks m (claimed row arguments) target) ((next, given_leaf (claimed row arguments) (result_of p method.0) target)
+      ++ target_checks m (after_claims row arguments) target) ((next, given_leaf (after_claims row arguments) (result_of p method.0) target)
       ∷ []) all e in
       subst (λ ps. Each NoneOut ps) k.1 (
-        given_in next (claimed row arguments) (result_of p method.0) target fit.in_scope
+        given_in next (after_claims row arguments) (result_of p method.0) target fit.in_scope
             (claimed_out next row arguments (keeps_all from next row fit.keeps h)),
         tt,
       )
   step_in from row (Start place method arguments next) all fit h e =
       let k = checked_passed (all_arguments m row (parameter_types p method.0) arguments)
-      ((next, claimed row arguments) ∷ []) all e in subst (λ ps. Each NoneOut ps) k.1
+      ((next, after_claims row arguments) ∷ []) all e in subst (λ ps. Each NoneOut ps) k.1
       (claimed_out next row arguments (keeps_all from next row fit.keeps h), tt)
   step_in from row (Return place value last) all fit h e = let k =
       checked_passed (value_checks p m row value

@@ -17,8 +17,8 @@ use Rattle.program.specs.declared.statement.Action.{Action}
 use Rattle.program.specs.declared.statement.Forget.{Forget}
 use Rattle.program.specs.declared.statement.Mention.{Mention}
 use Rattle.flow.specs.Graphs as graph
-use Rattle.flow.specs.Lowering.{Lays, acts, both, called, forgets, made_new, one, reads, sent, started}
-use Rattle.rules.specs.Endpoints.{brought}
+use Rattle.flow.specs.Lowering.{Lays, acts, both, lay_call, forgets, made_new, one, reads, lay_send, lay_start}
+use Rattle.rules.specs.Endpoints.{payload_types}
 use Rattle.sound.specs.GraphFit.{KeepsScope, ScopeAt}
 use Rattle.sound.proofs.Binding.{leads_in}
 use Rattle.sound.proofs.events.Branching.{keeps_within}
@@ -207,7 +207,7 @@ module _ (p : ProgramModel) (m : MethodModel) (well : IsWellFormed p.contracts p
 
   pub called_fit : (c : CallModel) (exit again here : Option VarId) (Outside : ScopeAt → Type 0) (from next : ℕ)
       → IsSomeAnd (slice_get p.methods c.method.0) (IsCallOf (around exit again here) c)
-      → here_fits (called c) here here Outside from next
+      → here_fits (lay_call c) here here Outside from next
   called_fit c exit again here Outside from next wf =
       let s = around exit again here in
       let f = some_there (slice_get p.methods c.method.0) (IsCallOf s c) wf in
@@ -231,7 +231,7 @@ module _ (p : ProgramModel) (m : MethodModel) (well : IsWellFormed p.contracts p
   pub started_fit : (c : CallModel) (exit again here : Option VarId) (Outside : ScopeAt → Type 0) (from next : ℕ)
       → ((n : ℕ) (callee : MethodModel) → slice_get p.methods n ≡ Some callee → callee.gives ≡ false → callee.result ≡ None)
       → IsSomeAnd (slice_get p.methods c.method.0) (IsStartOf (around exit again here) c)
-      → here_fits (started c) here here Outside from next
+      → here_fits (lay_start c) here here Outside from next
   started_fit c exit again here Outside from next void_at wf =
       let s = around exit again here in
       let f = some_there (slice_get p.methods c.method.0) (IsStartOf s c) wf in
@@ -248,14 +248,14 @@ module _ (p : ProgramModel) (m : MethodModel) (well : IsWellFormed p.contracts p
       from next
 
   pub sent_fit : (x : SendModel) (exit again here : Option VarId) (Outside : ScopeAt → Type 0) (from next : ℕ)
-      → IsSend (around exit again here) x → here_fits (sent x) here here Outside from next
+      → IsSend (around exit again here) x → here_fits (lay_send x) here here Outside from next
   sent_fit x exit again here Outside from next wf =
       let s = around exit again here in
       both_here (reads x.reads) (one (graph.Send x.place x.endpoint x.message x.payloads)) here Outside (reads_fit x.reads here Outside)
       (λ at to. one_fits p m (graph.Send x.place x.endpoint x.message x.payloads) (in_scope m here) (in_scope m here) Outside at to
       (λ scope is w out. record {
         endpoint = end_variable s (λ c. IsMessageOf c x.message) x.endpoint wf.endpoint;
-        types = payloads_of_types s (brought p x.message.0) x.payloads
+        types = payloads_of_types s (payload_types p x.message.0) x.payloads
             (found_types (slice_get p.messages x.message.0) (λ types. HoldAll s types (map (λ y. y.variable) x.payloads)) wf.payloads);
         keeps = keeps_here scope at to here is w;
       }))

@@ -45,7 +45,7 @@ use Rattle.sound.proofs.events.Starting.{good_start}
 use Rattle.sound.proofs.events.Switching.{good_switch}
 use Rattle.sound.proofs.Reaching.{reached_none}
 use Rattle.sound.proofs.Here.{IsGood, Here, outcome_at}
-use Rattle.machine.specs.Instructions.{event_of}
+use Rattle.machine.specs.Instructions.{outcome_from}
 use Rattle.machine.proofs.ChangeLemmas.{true≢false}
 
 -- a process that has ended owns nothing
@@ -87,7 +87,7 @@ here p w self f rest i graphs none h is t below at =
 good_instruction : HeldAlways → NeverLonger → (p : ProgramModel) (bound : QueueBounds) → IsSoundProgram p bound → AreGraphsFit p
     → ((n : ℕ) (x : MethodModel) → method_at p n ≡ Some x → IsClean p n)
     → (w : World) (self choice : ℕ) (f : Frame) (rest : List Frame) (m : MethodModel) (i : Instruction)
-    → Here p w self f rest m i → ((h : IsGraphFit p m) → IsFit p m h.scope f.point i) → IsGood p w (event_of p bound w self f rest i choice)
+    → Here p w self f rest m i → ((h : IsGraphFit p m) → IsFit p m h.scope f.point i) → IsGood p w (outcome_from p bound w self f rest i choice)
 good_instruction always longer p bound sound graphs none w self choice f rest m (Use v next) h fit =
     good_use p bound w self choice f rest m v next h
 good_instruction always longer p bound sound graphs none w self choice f rest m (New v arguments next) h fit =
@@ -140,7 +140,7 @@ module _ (always : HeldAlways) (longer : NeverLonger) (p : ProgramModel) (bound 
   good_at w e f rest h is t below None at = tt
   good_at w e f rest h is t below (Some i) at = by (nat_lt e.choice (choices i))
     where
-      by : (b : Bool) → IsGood p w (if b then event_of p bound w e.process f rest i e.choice else NoChoice)
+      by : (b : Bool) → IsGood p w (if b then outcome_from p bound w e.process f rest i e.choice else NoChoice)
       by true =
           let point : slice_get (graph_of t.m).instructions f.point ≡ Some i = sym (ap (λ x. point_instruction x f.point) t.there) ∙ at in
           good_instruction always longer p bound sound graphs none w e.process e.choice f rest t.m i

@@ -19,7 +19,7 @@ use Rattle.flow.specs.Graphs.{Instruction, Use, New, Move, Delete, Exchange, New
 use Rattle.flow.specs.Graphs.{Return, Stop}
 use Rattle.flow.specs.Lowering.{graph_of}
 use Rattle.flow.specs.Within.{goes_on}
-use Rattle.rules.specs.Endpoints.{brought}
+use Rattle.rules.specs.Endpoints.{payload_types}
 use Rattle.rules.specs.Mentions.{is_lent}
 use Rattle.rules.specs.Scopes.{declared_between}
 use Rattle.sound.specs.Operands.{AreDistinct, AreArguments, AreClaims, AreOfTypes, IsEndVariable, IsOfType, IsTakenBy}
@@ -43,7 +43,7 @@ module _ (p : ProgramModel) (m : MethodModel) (scope : ScopeAt) where
   abbrev pub AreBrought : ℕ → Awaited → List VarId → ℕ → Type 0
   AreBrought from Closed bound to = Unit {0}
   AreBrought from (Message id) bound to =
-      AreOfTypes m.variables (brought p id.0) (map (λ v. v.0) bound)
+      AreOfTypes m.variables (payload_types p id.0) (map (λ v. v.0) bound)
       × (AreDistinct (map (λ v. v.0) bound) × Each (λ v. IsBoundAt from to v.0) bound)
 
   -- a case of a switch at a point
@@ -123,7 +123,7 @@ module _ (p : ProgramModel) (m : MethodModel) (scope : ScopeAt) where
   -- a Send: along an endpoint, of what the message brings
   pub record IsSendFit (point e message : ℕ) (payloads : List Mention) (next : ℕ) : Type 0 where
     pub endpoint : IsEndVariable m.variables e
-    pub types : AreOfTypes m.variables (brought p message) (map (λ x. x.variable.0) payloads)
+    pub types : AreOfTypes m.variables (payload_types p message) (map (λ x. x.variable.0) payloads)
     pub keeps : KeepsScope scope point next []
 
   -- A Forget: it names what leaves the scope, and nothing of it is lent.

@@ -10,7 +10,7 @@ use Rattle.machine.specs.Frames.{variables_of}
 use Rattle.machine.specs.Machine.{event_outcome}
 use Rattle.machine.specs.Outcomes.{QueueBounds, Faulty, Moved}
 use Rattle.machine.specs.Heaps.{Rooted, occurs, one_if}
-use Rattle.machine.specs.World.{Block, Frame, World, block_at, cut_off, freed, is_inside, owns, read, stack_at}
+use Rattle.machine.specs.World.{Block, Frame, World, block_at, cut_off, is_freed_at, is_inside, owns, read, stack_at}
 use Rattle.machine.specs.declared.halts.Event.{Event}
 use Rattle.machine.specs.declared.halts.Fault.{Fault}
 use Rattle.sound.specs.Queues.{IsLiveEnd, QueueIsWalk}
@@ -29,7 +29,7 @@ stands_in_frames p (f ∷ frames) a = stands_in (variables_of p f.method) f.vari
 -- The fields that own: each holds a block that is inside theirs, and each block that is inside another is in just one field.
 pub record FieldsOwn (p : ProgramModel) (blocks : List Block) : Type 0 where
   -- a block that is not freed has an address in each field that owns of its struct
-  pub full : (a : ℕ) → a < length blocks → freed blocks a ≡ false
+  pub full : (a : ℕ) → a < length blocks → is_freed_at blocks a ≡ false
       → length (block_at blocks a).fields ≡ length (field_types p.structs (block_at blocks a).ty)
   -- An address stands once in the fields of the block that it is directly inside, and in no field of another.
   pub once : (a x : ℕ) → occurs (block_at blocks a).fields x ≡ one_if (is_inside (block_at blocks x).owner a)

@@ -7,7 +7,7 @@ use Rattle.std.proofs.lemmas.Bool.{false≢true, and_parts, ltb-true}
 use Rattle.std.proofs.lemmas.Bool.Decides.{nat_tests}
 use Rattle.source.specs.declared.kind.Kind.{Kind}
 use Rattle.source.specs.declared.kind.Kind.TheVariants.{Name}
-use Rattle.source.specs.Words.{reserved, word_kind, word_text, kind_among}
+use Rattle.source.specs.Words.{reserved_words, word_kind, word_text, kind_among}
 
 -- those of the words that begin with this byte
 abbrev pub of_first : ℕ → List Kind → List Kind
@@ -38,9 +38,9 @@ of_first_find (k ∷ ks) word = by (of_first_find ks word) (slice_index (word_te
     by same false h = same ∙ ap (λ t. cond t (Some k) (find (is_written word) ks)) (sym (not_written word k (is_written word k) refl h))
 
 -- the kind of a word that begins with this byte
-pub kind_of_first : (word : List ℕ) (b : ℕ) → slice_index word 0 ≡ b → kind_among (of_first b reserved) word ≡ word_kind word
+pub kind_of_first : (word : List ℕ) (b : ℕ) → slice_index word 0 ≡ b → kind_among (of_first b reserved_words) word ≡ word_kind word
 unfolding word_kind
-kind_of_first word b e = ap (λ m. kind_among (of_first m reserved) word) (sym e) ∙ ap (λ r. unwrap_or r Name) (of_first_find reserved word)
+kind_of_first word b e = ap (λ m. kind_among (of_first m reserved_words) word) (sym e) ∙ ap (λ r. unwrap_or r Name) (of_first_find reserved_words word)
 
 -- the bytes that reserved words begin with
 abbrev pub is_first : ℕ → Bool
@@ -61,7 +61,7 @@ no_first b x0 x1 x2 x3 x4 x5 x6 x7 x8 x9 x10 x11 x12 x13 x14 x15 x16 x17 x18 = g
 -- a word that begins with no such byte is a name
 pub name_of_first : (word : List ℕ) → is_first (slice_index word 0) ≡ false → Name ≡ word_kind word
 name_of_first word none =
-    ap (λ ks. kind_among ks word) (sym (of_no_first reserved (slice_index word 0) refl none))
+    ap (λ ks. kind_among ks word) (sym (of_no_first reserved_words (slice_index word 0) refl none))
     ∙ kind_of_first word (slice_index word 0) refl
 
 -- a word that is shorter than each of these is none of them
@@ -75,4 +75,4 @@ none_shorter (k ∷ ks) word all h =
 -- a word of one letter is a name
 pub letter_is_name : (word : List ℕ) → length word < 2 → Name ≡ word_kind word
 unfolding word_kind
-letter_is_name word h = ap (λ r. unwrap_or r Name) (sym (none_shorter reserved word refl h))
+letter_is_name word h = ap (λ r. unwrap_or r Name) (sym (none_shorter reserved_words word refl h))

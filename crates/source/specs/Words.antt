@@ -8,8 +8,8 @@ use Rattle.source.specs.declared.kind.Kind.TheVariants.{Internal, Message, New, 
 use Rattle.source.specs.declared.kind.Kind.TheVariants.{Rep, Return, Start, State, Static, Struct, Switch, True, Void, While}
 
 -- the reserved words
-abbrev pub reserved : List Kind
-reserved =
+abbrev pub reserved_words : List Kind
+reserved_words =
     BoolWord ∷ Break ∷ Byte ∷ Case ∷ Class ∷ ChannelClosed ∷ Claims ∷ Continue ∷ Contract ∷ Delete
     ∷ Else ∷ Exchange ∷ Exp ∷ ExHeap ∷ False ∷ If ∷ Imp ∷ In ∷ Int ∷ Internal ∷ Message
     ∷ New ∷ NewChannel ∷ One ∷ Out ∷ Private ∷ Public ∷ Receive ∷ Rep ∷ Return ∷ Start
@@ -67,4 +67,4 @@ kind_among kinds bytes = unwrap_or (find (λ k. pointwise nat_eq (word_text k) b
 
 -- the kind of a whole word: the reserved word that is written so, else a name
 unfoldable pub word_kind : List ℕ → Kind
-word_kind bytes = kind_among reserved bytes
+word_kind bytes = kind_among reserved_words bytes

@@ -6,7 +6,7 @@ use Rattle.source.specs.declared.kind.Kind.{Kind}
 use Rattle.source.specs.declared.kind.Kind.TheVariants as kind
 use Rattle.source.specs.declared.token.Span.{Span}
 use Rattle.tree.specs.Symbols.{Symbol, Fixed, Placed, Named, is_kind, by_kind, kind_at, kind_is}
-use Rattle.tree.specs.Spelling.{word, placed, name, within, parens, optional}
+use Rattle.tree.specs.Spelling.{word, token_at, name, within, parens, optional}
 use Rattle.syntax.specs.Reading.{never, Stops, leads, optional_at}
 use Rattle.tree.specs.Operators.{Or, Single, Joined, prefix}
 use Rattle.syntax.specs.OperatorReads.{opens_prefix, opens_rest}
@@ -138,7 +138,7 @@ of_parens p = Parens p.0 p.1
 abbrev pub opens_other_atom : Option Kind → Bool
 opens_other_atom k = ((kind_is kind.Name k || kind_is kind.OpenParen k) || kind_is kind.True k) || kind_is kind.False k
 
-pub number_form : Form atom (placed kind.Number) Number (λ y. not (by_kind opens_other_atom y))
+pub number_form : Form atom (token_at kind.Number) Number (λ y. not (by_kind opens_other_atom y))
 number_form = record {
   first = record { each = λ span. record { head = Placed kind.Number span; tail = []; is = refl; first = refl } };
   same = λ span. refl;
@@ -151,7 +151,7 @@ number_form = record {
   ];
 }
 
-pub true_form : Form atom (placed kind.True) True (is_kind kind.True)
+pub true_form : Form atom (token_at kind.True) True (is_kind kind.True)
 true_form = record {
   first = record { each = λ span. record { head = Placed kind.True span; tail = []; is = refl; first = refl } };
   same = λ span. refl;
@@ -164,7 +164,7 @@ true_form = record {
   ];
 }
 
-pub false_form : Form atom (placed kind.False) False (is_kind kind.False)
+pub false_form : Form atom (token_at kind.False) False (is_kind kind.False)
 false_form = record {
   first = record { each = λ span. record { head = Placed kind.False span; tail = []; is = refl; first = refl } };
   same = λ span. refl;

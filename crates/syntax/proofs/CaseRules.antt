@@ -4,7 +4,7 @@ use Rattle.std.specs.Prelude.{not}
 use Rattle.source.specs.declared.kind.Kind.TheVariants as kind
 use Rattle.source.specs.declared.token.Span.{Span}
 use Rattle.tree.specs.Symbols.{Symbol, Fixed, Placed, Named, is_kind, by_kind}
-use Rattle.tree.specs.Spelling.{placed, name, optional, listed, parens}
+use Rattle.tree.specs.Spelling.{token_at, name, optional, comma_list, parens}
 use Rattle.syntax.specs.Reading.{never, Stops, optional_at}
 use Rattle.tree.specs.Grammar.{scalar_word, value_type}
 use Rattle.syntax.specs.Firsts.{opens_type}
@@ -42,7 +42,7 @@ message_form = record {
   each = elim [ Message span ↦ Same span refl | Closed span ↦ Other (record { head = Placed kind.ChannelClosed span; tail = []; is = refl; first = refl }) ];
 }
 
-pub closed_form : Form awaited (placed kind.ChannelClosed) Closed (λ y. not (is_kind kind.Name y))
+pub closed_form : Form awaited (token_at kind.ChannelClosed) Closed (λ y. not (is_kind kind.Name y))
 closed_form = record {
   first = record { each = λ span. record { head = Placed kind.ChannelClosed span; tail = []; is = refl; first = refl } };
   same = λ span. refl;
@@ -213,13 +213,13 @@ bind_item = record {
     begins None span = record { head = Named span; tail = []; is = refl; first = refl }
     begins (Some t) span = type_behind t span (by_kind opens_type) (type_starts.each t)
 
-pub binds_inside : InParens (listed bind) binds_on binds_at
+pub binds_inside : InParens (comma_list bind) binds_on binds_at
 binds_inside = record { on = refl; here = elim [ [] ↦ refl | b ∷ bs ↦ sequence_stops (is_kind kind.Comma) bind_at (Fixed kind.CloseParen) refl (λ b. bind_apart b.ty (Fixed kind.CloseParen) refl) (b ∷ bs) ] }
 
-pub bind_list_piece : Piece (listed bind) binds_on binds_at
+pub bind_list_piece : Piece (comma_list bind) binds_on binds_at
 bind_list_piece = listed_open_piece bind_item
 
-pub binds_piece : Piece (parens (listed bind)) never (λ _. never)
+pub binds_piece : Piece (parens (comma_list bind)) never (λ _. never)
 binds_piece = parens_piece binds_inside bind_list_piece
 
 -- case_front = "case" ID "." awaited binds ":" .

@@ -9,7 +9,7 @@ use Rattle.tree.specs.Symbols.{Symbol, by_kind, kind_at}
 use Rattle.syntax.specs.Reading.{never, leads, Fails, Takes}
 use Rattle.tree.specs.Operators.{Add, Multiply, Single, Joined}
 use Rattle.tree.specs.Expressions.{LevelTree, level}
-use Rattle.tree.specs.Factors.{FactorTree, factor_operator, factor, gathered}
+use Rattle.tree.specs.Factors.{FactorTree, factor_operator, factor, sum_of_factors}
 use Rattle.tree.specs.declared.expression.FactorOperator.{FactorOperator}
 use Rattle.syntax.specs.OperatorReads.{joins, joins_factors, opens_rest}
 use Rattle.syntax.specs.ExpressionReads.{level_on, level_at, factor_at, factors_end}
@@ -46,7 +46,7 @@ sequence_fails {old} {new} h = record {
   rest = h.rest;
   old_is = h.old_is;
   new_is = h.new_is;
-  piece = gathered h.piece.0 h.piece.1;
+  piece = sum_of_factors h.piece.0 h.piece.1;
   more = h.more;
   begins = gathered_spelled h.piece.0 h.piece.1 ∙ h.begins;
   rejects = λ z r s hr e.
@@ -80,14 +80,14 @@ other_factors_fail {old} {mid} {last} {new} u f read second h =
 
 -- a sequence is read, and a unary behind which no operator stands
 
-sequence_is_read : (old mid new : List Symbol) (u : LevelTree Single) (fs : List FactorTree) (z : LevelTree (Joined Add)) → z ≡ gathered u fs → Takes level level_at old mid u → Takes (flat_map factor) factors_end mid new fs → Takes level level_at old new z
+sequence_is_read : (old mid new : List Symbol) (u : LevelTree Single) (fs : List FactorTree) (z : LevelTree (Joined Add)) → z ≡ sum_of_factors u fs → Takes level level_at old mid u → Takes (flat_map factor) factors_end mid new fs → Takes level level_at old new z
 sequence_is_read old mid new u fs z is first others =
     let read : Takes (chain (level {l = Single}) factor_operator) (chain_at level_at (by_kind joins_factors)) old new (u, fs) = chain_reads factor_joins old mid new u fs first others in
-    let stops = stops_with (chain_at level_at (by_kind joins_factors) (u, fs)) (level_at (gathered u fs)) (λ y h. gathered_ends u fs y ∙ h) new read.1 in
+    let stops = stops_with (chain_at level_at (by_kind joins_factors) (u, fs)) (level_at (sum_of_factors u fs)) (λ y h. gathered_ends u fs y ∙ h) new read.1 in
     subst (Takes level level_at old new) (sym is) (read.0 ∙ ap (λ t. t ++ new) (sym (gathered_spelled u fs)), stops)
 
-pub factors_are_read : (old mid last new : List Symbol) (u : LevelTree Single) (f : FactorTree) (fs : List FactorTree) (z : LevelTree (Joined Add)) → z ≡ gathered u (f ∷ fs) → Takes level level_at old mid u → Takes factor factor_at mid last f → Takes (flat_map factor) factors_end last new fs → Takes level level_at old new z
+pub factors_are_read : (old mid last new : List Symbol) (u : LevelTree Single) (f : FactorTree) (fs : List FactorTree) (z : LevelTree (Joined Add)) → z ≡ sum_of_factors u (f ∷ fs) → Takes level level_at old mid u → Takes factor factor_at mid last f → Takes (flat_map factor) factors_end last new fs → Takes level level_at old new z
 factors_are_read old mid last new u f fs z is first second others = sequence_is_read old mid new u (f ∷ fs) z is first (more_reads factor (by_kind joins_factors) factor_at mid last new f fs second others)
 
-pub unary_is_sum : (old new : List Symbol) (u : LevelTree Single) (z : LevelTree (Joined Add)) → z ≡ gathered u [] → Takes level level_at old new u → joins_factors (kind_at new) ≡ false → Takes level level_at old new z
+pub unary_is_sum : (old new : List Symbol) (u : LevelTree Single) (z : LevelTree (Joined Add)) → z ≡ sum_of_factors u [] → Takes level level_at old new u → joins_factors (kind_at new) ≡ false → Takes level level_at old new z
 unary_is_sum old new u z is read ends = sequence_is_read old new new u [] z is read (refl, test_stops joins_factors new refl ends)

@@ -5,7 +5,7 @@ use Rattle.source.specs.declared.kind.Kind.{Kind}
 use Rattle.source.specs.declared.kind.Kind.TheVariants as kind
 use Rattle.source.specs.declared.token.Span.{Span}
 use Rattle.tree.specs.Symbols.{Symbol, Fixed, Placed, is_kind, by_kind}
-use Rattle.tree.specs.Spelling.{placed}
+use Rattle.tree.specs.Spelling.{token_at}
 use Rattle.syntax.specs.Reading.{never}
 use Rattle.tree.specs.Operators.{Operators, Or, And, Equal, Compare, Add, Multiply, operator, equality_word, relation_word, prefix_word, prefix, sum_operator}
 use Rattle.tree.specs.Factors.{factor_operator}
@@ -104,7 +104,7 @@ prefix_starts = record { each = λ p. record { head = Placed (prefix_word p.oper
 abbrev pub of_plus : Unit {0} → tree.SumOperator.SumOperator
 of_plus u = sum.Plus
 
-pub minus_form : Form sum_operator (placed kind.Minus) sum.Minus (is_kind kind.Minus)
+pub minus_form : Form sum_operator (token_at kind.Minus) sum.Minus (is_kind kind.Minus)
 minus_form = record {
   first = record { each = λ span. record { head = Placed kind.Minus span; tail = []; is = refl; first = refl } };
   same = λ span. refl;

@@ -5,7 +5,7 @@ use Rattle.std.proofs.lemmas.List.Folds.{list_all-append}
 use Rattle.source.specs.declared.kind.Kind.{Kind}
 use Rattle.source.specs.declared.kind.Kind.TheVariants as kind
 use Rattle.tree.specs.Symbols.{Symbol}
-use Rattle.tree.specs.Spelling.{word, optional, when, comma, listed}
+use Rattle.tree.specs.Spelling.{word, optional, when, comma, comma_list}
 use Rattle.tree.specs.Grammar.{in_heap_words, colon_name, bang_word, heap_type, value_type, param, message, edge, path, line, body, state, member, contract, access_word}
 use Rattle.tree.specs.ContractTrees.{Empty, Path, One, Message, State}
 use Rattle.tree.specs.Operators.{Operators, Add, Level, operator, prefix}
@@ -36,7 +36,7 @@ when_tokens : (a : List Symbol) → list_all is_token a ≡ true → SpellsToken
 when_tokens a h true = h
 when_tokens a h false = refl
 
-listed_tokens : {X : Type 0} (a : X → List Symbol) → SpellsTokens a → SpellsTokens (listed a)
+listed_tokens : {X : Type 0} (a : X → List Symbol) → SpellsTokens a → SpellsTokens (comma_list a)
 listed_tokens a h [] = refl
 listed_tokens a h (x ∷ xs) = simp (list_all-append, h, sequence_tokens (comma a) h xs)
 

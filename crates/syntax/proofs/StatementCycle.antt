@@ -6,7 +6,7 @@ use Rattle.source.specs.declared.kind.Kind.{Kind}
 use Rattle.source.specs.declared.kind.Kind.TheVariants as kind
 use Rattle.source.specs.declared.token.Span.{Span}
 use Rattle.tree.specs.Symbols.{Symbol, Fixed, Placed, is_kind, by_kind, kind_is}
-use Rattle.tree.specs.Spelling.{word, placed, name, optional, braced, listed, parens}
+use Rattle.tree.specs.Spelling.{word, token_at, name, optional, in_braces, comma_list, parens}
 use Rattle.syntax.specs.Reading.{never, Stops, Fails, optional_at}
 use Rattle.tree.specs.Expressions.{ExpressionTree, expression}
 use Rattle.tree.specs.StatementTrees.{StatementTree, If, BlockTree, Braces, TestTree, Test, OtherTrees, NoOther, Else, ElseIf, CaseTree, Case, IfTree, SwitchTree, statement_sequence}
@@ -38,16 +38,16 @@ block_back (Braces inner close) = ap (λ t. Braces t close) (list_sequence inner
 pub block_there : (p : List StatementTree × Span) → block_to (block_from p) ≡ p
 block_there p = λ i. (sequence_list p.0 i, p.1)
 
-pub block_spelled : (b : BlockTree) → braced (flat_map statement) (block_to b) ≡ block b
-block_spelled (Braces inner close) = ap (λ t. word kind.OpenBrace ++ (t ++ placed kind.CloseBrace close)) (list_spelled inner)
+pub block_spelled : (b : BlockTree) → in_braces (flat_map statement) (block_to b) ≡ block b
+block_spelled (Braces inner close) = ap (λ t. word kind.OpenBrace ++ (t ++ token_at kind.CloseBrace close)) (list_spelled inner)
 
-pub block_fails : {old new : List Symbol} → Fails (braced (flat_map statement)) never old new → Fails block never old new
+pub block_fails : {old new : List Symbol} → Fails (in_braces (flat_map statement)) never old new → Fails block never old new
 block_fails {old} {new} h = same_fails block_spelled (via_fails block_to block_from block_there h)
 
 -- test = word "(" expression ")" block .
 
 abbrev pub test_parts : Kind → Span × ((Span × ExpressionTree) × BlockTree) → List Symbol
-test_parts opening = both (placed opening) (both (parens expression) block)
+test_parts opening = both (token_at opening) (both (parens expression) block)
 
 abbrev pub test_to : TestTree → Span × ((Span × ExpressionTree) × BlockTree)
 test_to (Test span left e b) = (span, ((left, e), b))
@@ -172,8 +172,8 @@ case_there p = λ i. (p.0, sequence_list p.1 i)
 
 pub case_spelled : (c : CaseTree) → case_parts (case_to c) ≡ case c
 case_spelled (Case span endpoint message left binds inner) =
-    let ended : List Symbol = parens (listed bind) (left, binds) in
-    ap (λ t. placed kind.Case span ++ (name endpoint ++ (word kind.Dot ++ t)))
+    let ended : List Symbol = parens (comma_list bind) (left, binds) in
+    ap (λ t. token_at kind.Case span ++ (name endpoint ++ (word kind.Dot ++ t)))
     (append_assoc (awaited message) (ended ++ word kind.Colon) (flat_map statement (statement_list inner))
     ∙ ap (λ t. awaited message ++ t) (append_assoc ended (word kind.Colon) (flat_map statement (statement_list inner)) ∙ ap (λ t. ended ++ (word kind.Colon ++ t)) (list_spelled inner)))
 
@@ -227,16 +227,16 @@ block_inside = record { on = λ _. refl; here = λ xs span. statements_apart xs 
 -- { case } "}"
 
 abbrev pub cases_end : List CaseTree × Span → List Symbol
-cases_end = both (flat_map case) (placed kind.CloseBrace)
+cases_end = both (flat_map case) (token_at kind.CloseBrace)
 
-pub cases_follow : Follows cases_on (placed kind.CloseBrace) never
+pub cases_follow : Follows cases_on (token_at kind.CloseBrace) never
 cases_follow = record { each = λ span r h. refl }
 
-pub cases_meet : Meets cases_at (placed kind.CloseBrace) (λ _. never)
+pub cases_meet : Meets cases_at (token_at kind.CloseBrace) (λ _. never)
 cases_meet = record { here = λ cs span r h. sequence_stops (is_kind kind.Case) case_at (Placed kind.CloseBrace span) refl (λ c. case_apart c (Placed kind.CloseBrace span) refl) cs }
 
 cases_stop : (p : List CaseTree × Span) (r : List Symbol) → Stops statements_on (cases_end p ++ r)
-cases_stop p r = subst (Stops statements_on) (sym (append_assoc (flat_map case p.0) (placed kind.CloseBrace p.1) r)) (many_stops case_starts case_splits case_leaves p.0 (placed kind.CloseBrace p.1 ++ r) refl)
+cases_stop p r = subst (Stops statements_on) (sym (append_assoc (flat_map case p.0) (token_at kind.CloseBrace p.1) r)) (many_stops case_starts case_splits case_leaves p.0 (token_at kind.CloseBrace p.1 ++ r) refl)
 
 pub case_follows : Follows statements_on cases_end never
 case_follows = record { each = λ p r h. cases_stop p r }

@@ -5,7 +5,7 @@ use Rattle.source.specs.declared.kind.Kind.{Kind}
 use Rattle.source.specs.declared.kind.Kind.TheVariants as kind
 use Rattle.source.specs.declared.token.Span.{Span}
 use Rattle.tree.specs.Symbols.{Symbol, Fixed, Placed, Named, is_kind, by_kind, kind_is}
-use Rattle.tree.specs.Spelling.{word, placed}
+use Rattle.tree.specs.Spelling.{word, token_at}
 use Rattle.syntax.specs.Reading.{never, Stops, optional_at}
 use Rattle.tree.specs.Grammar.{scalar_word}
 use Rattle.syntax.specs.Firsts.{scalar_of}
@@ -76,7 +76,7 @@ of_switch s = Switch s.word s.first (case_sequence s.others) s.close
 pub switch_form : Form statement switch_parts of_switch (is_kind kind.Switch)
 switch_form = record {
   first = record { each = λ s. record { head = Placed kind.Switch s.word; tail = _; is = refl; first = refl } };
-  same = λ s. ap (λ t. placed kind.Switch s.word ++ (word kind.Receive ++ (word kind.OpenBrace ++ (case s.first ++ (t ++ placed kind.CloseBrace s.close))))) (case_sequence_spelled s.others);
+  same = λ s. ap (λ t. token_at kind.Switch s.word ++ (word kind.Receive ++ (word kind.OpenBrace ++ (case s.first ++ (t ++ token_at kind.CloseBrace s.close))))) (case_sequence_spelled s.others);
   each = each;
 }
   where

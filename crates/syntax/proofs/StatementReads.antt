@@ -5,7 +5,7 @@ use Rattle.source.specs.declared.kind.Kind.{Kind}
 use Rattle.source.specs.declared.kind.Kind.TheVariants as kind
 use Rattle.source.specs.declared.token.Span.{Span}
 use Rattle.tree.specs.Symbols.{Symbol, Fixed, is_kind}
-use Rattle.tree.specs.Spelling.{word, placed, braced, parens}
+use Rattle.tree.specs.Spelling.{word, token_at, in_braces, parens}
 use Rattle.syntax.specs.Reading.{never, Stops, leads, Fails, last_at}
 use Rattle.tree.specs.Expressions.{ExpressionTree, expression}
 use Rattle.tree.specs.StatementTrees.{StatementTree, BlockTree, TestTree, Test, CaseTree, IfTree, SwitchTree, last_other, other_sequence}
@@ -24,10 +24,10 @@ use Rattle.syntax.proofs.StatementWays.{block_piece, test_piece, others_piece}
 
 -- a block and a case are read by their parts
 
-pub block_read : {old mid last new : List Symbol} (xs : List StatementTree) (close : Span) (b : BlockTree) → b ≡ block_from (xs, close) → (old ≡ Fixed kind.OpenBrace ∷ mid) × Stops never mid → (mid ≡ flat_map statement xs ++ last) × Stops (statements_at xs) last → (last ≡ placed kind.CloseBrace close ++ new) × Stops never new → old ≡ block b ++ new
+pub block_read : {old mid last new : List Symbol} (xs : List StatementTree) (close : Span) (b : BlockTree) → b ≡ block_from (xs, close) → (old ≡ Fixed kind.OpenBrace ∷ mid) × Stops never mid → (mid ≡ flat_map statement xs ++ last) × Stops (statements_at xs) last → (last ≡ token_at kind.CloseBrace close ++ new) × Stops never new → old ≡ block b ++ new
 block_read {old} {mid} {last} {new} xs close b is left inner right =
-    let spelled : block b ≡ braced (flat_map statement) (xs, close) = ap block is ∙ sym (block_spelled (block_from (xs, close))) ∙ ap (braced (flat_map statement)) (block_there (xs, close)) in
-    left.0 ∙ ap (λ t. Fixed kind.OpenBrace ∷ t) (inner.0 ∙ ap (λ t. flat_map statement xs ++ t) right.0 ∙ sym (append_assoc (flat_map statement xs) (placed kind.CloseBrace close) new)) ∙ ap (λ t. t ++ new) (sym spelled)
+    let spelled : block b ≡ in_braces (flat_map statement) (xs, close) = ap block is ∙ sym (block_spelled (block_from (xs, close))) ∙ ap (in_braces (flat_map statement)) (block_there (xs, close)) in
+    left.0 ∙ ap (λ t. Fixed kind.OpenBrace ∷ t) (inner.0 ∙ ap (λ t. flat_map statement xs ++ t) right.0 ∙ sym (append_assoc (flat_map statement xs) (token_at kind.CloseBrace close) new)) ∙ ap (λ t. t ++ new) (sym spelled)
 
 pub case_read : (old mid new : List Symbol) (f : CaseFrontTree) (xs : List StatementTree) (c : CaseTree) → c ≡ case_from (f, xs) → (old ≡ case_front f ++ mid) × Stops never mid → (mid ≡ flat_map statement xs ++ new) × Stops (statements_at xs) new → (old ≡ case c ++ new) × Stops (case_at c) new
 case_read old mid new f xs c is front inner =
@@ -99,16 +99,16 @@ pub shorter_more : (a b c : ℕ) → a < b → b ≤ c → a ≤ c
 shorter_more a b c less le = omega arith
 
 -- a switch is read by its parts
-pub switch_read : (old a b d e f new : List Symbol) (span close : Span) (x : CaseTree) (xs : List CaseTree) (s : SwitchTree) → s ≡ record { word = span; first = x; others = xs; close = close } → old ≡ placed kind.Switch span ++ a → a ≡ Fixed kind.Receive ∷ b → b ≡ Fixed kind.OpenBrace ∷ d → d ≡ case x ++ e → e ≡ flat_map case xs ++ f → f ≡ placed kind.CloseBrace close ++ new → old ≡ switch_parts s ++ new
+pub switch_read : (old a b d e f new : List Symbol) (span close : Span) (x : CaseTree) (xs : List CaseTree) (s : SwitchTree) → s ≡ record { word = span; first = x; others = xs; close = close } → old ≡ token_at kind.Switch span ++ a → a ≡ Fixed kind.Receive ∷ b → b ≡ Fixed kind.OpenBrace ∷ d → d ≡ case x ++ e → e ≡ flat_map case xs ++ f → f ≡ token_at kind.CloseBrace close ++ new → old ≡ switch_parts s ++ new
 switch_read old a b d e f new span close x xs s is word_is receive_is left first more right =
     let sequence : List Symbol = flat_map case xs in
-    let ended : d ≡ (case x ++ (sequence ++ placed kind.CloseBrace close)) ++ new =
-    first ∙ ap (λ t. case x ++ t) (more ∙ ap (λ t. sequence ++ t) right ∙ sym (append_assoc sequence (placed kind.CloseBrace close) new)) ∙ sym (append_assoc (case x) (sequence ++ placed kind.CloseBrace close) new) in
-    word_is ∙ ap (λ t. placed kind.Switch span ++ t) (receive_is ∙ ap (λ t. Fixed kind.Receive ∷ t) (left ∙ ap (λ t. Fixed kind.OpenBrace ∷ t) ended))
+    let ended : d ≡ (case x ++ (sequence ++ token_at kind.CloseBrace close)) ++ new =
+    first ∙ ap (λ t. case x ++ t) (more ∙ ap (λ t. sequence ++ t) right ∙ sym (append_assoc sequence (token_at kind.CloseBrace close) new)) ∙ sym (append_assoc (case x) (sequence ++ token_at kind.CloseBrace close) new) in
+    word_is ∙ ap (λ t. token_at kind.Switch span ++ t) (receive_is ∙ ap (λ t. Fixed kind.Receive ∷ t) (left ∙ ap (λ t. Fixed kind.OpenBrace ∷ t) ended))
     ∙ ap (λ s. switch_parts s ++ new) (sym is)
 
 -- a test is read by its parts
-pub test_read : (old mid last new : List Symbol) (opening : Kind) (span : Span) (p : Span × ExpressionTree) (b : BlockTree) (t : TestTree) → t ≡ Test span p.0 p.1 b → old ≡ placed opening span ++ mid → mid ≡ parens expression p ++ last → last ≡ block b ++ new → old ≡ test opening t ++ new
+pub test_read : (old mid last new : List Symbol) (opening : Kind) (span : Span) (p : Span × ExpressionTree) (b : BlockTree) (t : TestTree) → t ≡ Test span p.0 p.1 b → old ≡ token_at opening span ++ mid → mid ≡ parens expression p ++ last → last ≡ block b ++ new → old ≡ test opening t ++ new
 test_read old mid last new opening span p b t is word_is inner body =
-    word_is ∙ ap (λ l. placed opening span ++ l) (inner ∙ ap (λ l. parens expression p ++ l) body ∙ sym (append_assoc (parens expression p) (block b) new))
+    word_is ∙ ap (λ l. token_at opening span ++ l) (inner ∙ ap (λ l. parens expression p ++ l) body ∙ sym (append_assoc (parens expression p) (block b) new))
     ∙ ap (λ t. test opening t ++ new) (sym is)

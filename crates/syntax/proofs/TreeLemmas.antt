@@ -6,8 +6,8 @@ use Rattle.std.proofs.lemmas.Simd.{map-map}
 use Rattle.source.specs.declared.token.Span.{Span}
 use Rattle.tree.specs.Operators.{Or, And, Equal, Compare}
 use Rattle.tree.specs.Expressions.{Unary, Chain, Number, True, False, Target, Field, StepOf}
-use Rattle.tree.specs.Factors.{gathered, step_sequence, summed, termed}
-use Rattle.tree.specs.ExpressionTrees.{unmarked, atom_of, expression_of, sum_of, target_of, unary_of, conjunction_of, disjunction_of, element_target_of, equality_of, equality_step_of, factor_of, factors_of, prefixed_of, relation_of, relation_step_of}
+use Rattle.tree.specs.Factors.{sum_of_factors, step_sequence, sum_alone, term_alone}
+use Rattle.tree.specs.ExpressionTrees.{without_sign, atom_of, expression_of, sum_of, target_of, unary_of, conjunction_of, disjunction_of, element_target_of, equality_of, equality_step_of, factor_of, factors_of, prefixed_of, relation_of, relation_step_of}
 use Rattle.tree.specs.ExpressionTrees.{atom_tree, expression_tree, sum_tree, target_tree, unary_tree, conjunction_tree, disjunction_tree, equality_tree, equality_step_tree, factor_tree, factors_tree, prefixed_tree, relation_tree, relation_step_tree}
 use Rattle.tree.specs.declared.expression.Prefix.{Prefix}
 use Rattle.tree.specs.declared.expression.FieldTarget.{FieldTarget}
@@ -32,18 +32,18 @@ use Rattle.tree.specs.declared.expression.Sum as sums
 use Rattle.tree.specs.declared.expression.Target as targets
 use Rattle.tree.specs.declared.expression.Unary as unaries
 
-pub summed_made : (s : sums.Sum) → expression_tree (expression.Sum s) ≡ summed (sum_tree s)
+pub summed_made : (s : sums.Sum) → expression_tree (expression.Sum s) ≡ sum_alone (sum_tree s)
 summed_made s = ap expression_tree (sym (expression.rolls-Sum s)) ∙ expressions.fold-roll-Expression _ _ _ _ _ _ _ _ _ _ _ _ _ _ _
     atom_of expression_of sum_of target_of unary_of conjunction_of disjunction_of element_target_of equality_of equality_step_of
     factor_of factors_of prefixed_of relation_of relation_step_of (layer.Sum s)
 
-pub disjunction_made : (first : conjunctions.Conjunction) (others : Vec conjunctions.Conjunction Global) → disjunction_tree (disjunctions.roll-Disjunction (record { first = first; others = others })) ≡ Chain Or (conjunction_tree first) (step_sequence Or (map (unmarked conjunction_tree) others.items))
+pub disjunction_made : (first : conjunctions.Conjunction) (others : Vec conjunctions.Conjunction Global) → disjunction_tree (disjunctions.roll-Disjunction (record { first = first; others = others })) ≡ Chain Or (conjunction_tree first) (step_sequence Or (map (without_sign conjunction_tree) others.items))
 disjunction_made first others = disjunctions.fold-roll-Disjunction _ _ _ _ _ _ _ _ _ _ _ _ _ _ _
     atom_of expression_of sum_of target_of unary_of conjunction_of disjunction_of element_target_of equality_of equality_step_of
     factor_of factors_of prefixed_of relation_of relation_step_of (record { first = first; others = others })
     ∙ ap (λ t. Chain Or (conjunction_tree first) (step_sequence Or t)) (map-map {C = StepOf Or} (λ x. (tt, x)) conjunction_tree others.items)
 
-pub conjunction_made : (first : equalities.Equality) (others : Vec equalities.Equality Global) → conjunction_tree (conjunctions.roll-Conjunction (record { first = first; others = others })) ≡ Chain And (equality_tree first) (step_sequence And (map (unmarked equality_tree) others.items))
+pub conjunction_made : (first : equalities.Equality) (others : Vec equalities.Equality Global) → conjunction_tree (conjunctions.roll-Conjunction (record { first = first; others = others })) ≡ Chain And (equality_tree first) (step_sequence And (map (without_sign equality_tree) others.items))
 conjunction_made first others = conjunctions.fold-roll-Conjunction _ _ _ _ _ _ _ _ _ _ _ _ _ _ _
     atom_of expression_of sum_of target_of unary_of conjunction_of disjunction_of element_target_of equality_of equality_step_of
     factor_of factors_of prefixed_of relation_of relation_step_of (record { first = first; others = others })
@@ -59,12 +59,12 @@ relation_made first others = relations.fold-roll-Relation _ _ _ _ _ _ _ _ _ _ _ 
     atom_of expression_of sum_of target_of unary_of conjunction_of disjunction_of element_target_of equality_of equality_step_of
     factor_of factors_of prefixed_of relation_of relation_step_of (record { first = first; others = others })
 
-pub termed_made : (u : unaries.Unary) → sum_tree (sum.Unary u) ≡ termed (unary_tree u)
+pub termed_made : (u : unaries.Unary) → sum_tree (sum.Unary u) ≡ term_alone (unary_tree u)
 termed_made u = ap sum_tree (sym (sum.rolls-Unary u)) ∙ sums.fold-roll-Sum _ _ _ _ _ _ _ _ _ _ _ _ _ _ _
     atom_of expression_of sum_of target_of unary_of conjunction_of disjunction_of element_target_of equality_of equality_step_of
     factor_of factors_of prefixed_of relation_of relation_step_of (layer.Unary u)
 
-pub factors_made : (first : unaries.Unary) (second : factors.Factor) (others : Vec factors.Factor Global) → factors_tree (factor_lists.roll-Factors (record { first = first; second = second; others = others })) ≡ gathered (unary_tree first) (factor_tree second ∷ map factor_tree others.items)
+pub factors_made : (first : unaries.Unary) (second : factors.Factor) (others : Vec factors.Factor Global) → factors_tree (factor_lists.roll-Factors (record { first = first; second = second; others = others })) ≡ sum_of_factors (unary_tree first) (factor_tree second ∷ map factor_tree others.items)
 factors_made first second others = factor_lists.fold-roll-Factors _ _ _ _ _ _ _ _ _ _ _ _ _ _ _
     atom_of expression_of sum_of target_of unary_of conjunction_of disjunction_of element_target_of equality_of equality_step_of
     factor_of factors_of prefixed_of relation_of relation_step_of (record { first = first; second = second; others = others })

@@ -3,7 +3,7 @@ use Rattle.std.proofs.Common.{◌≡◌, false, List, [], ◌∷◌, refl, ap}
 use Rattle.std.specs.Prelude.{◌||◌}
 use Rattle.source.specs.declared.kind.Kind.TheVariants as kind
 use Rattle.tree.specs.Symbols.{Fixed, is_kind}
-use Rattle.tree.specs.Spelling.{listed}
+use Rattle.tree.specs.Spelling.{comma_list}
 use Rattle.syntax.specs.Reading.{never}
 use Rattle.tree.specs.Expressions.{ExpressionTree, expression}
 use Rattle.syntax.specs.ExpressionReads.{expression_on, expression_at, opens_expression}
@@ -26,10 +26,10 @@ expression_item = record {
   leaves = record { apart = λ x y h. expression_apart x y (apart_kinds after_expression kind.Comma refl y h) };
 }
 
-pub expression_list_piece : Piece (listed expression) expressions_on expressions_at
+pub expression_list_piece : Piece (comma_list expression) expressions_on expressions_at
 expression_list_piece = listed_open_piece expression_item
 
-pub arguments_inside : InParens (listed expression) expressions_on expressions_at
+pub arguments_inside : InParens (comma_list expression) expressions_on expressions_at
 arguments_inside = record { on = refl; here = ends }
   where
     last : (x : ExpressionTree) (xs : List ExpressionTree) → expressions_at (x ∷ xs) (Fixed kind.CloseParen) ≡ false

@@ -6,7 +6,7 @@ use Rattle.source.specs.declared.kind.Kind.{Kind}
 use Rattle.source.specs.declared.kind.Kind.TheVariants.{Comma}
 use Rattle.tree.specs.Symbols.{Symbol, is_kind, by_kind}
 use Rattle.source.specs.declared.token.Span.{Span}
-use Rattle.tree.specs.Spelling.{word, placed, optional}
+use Rattle.tree.specs.Spelling.{word, token_at, optional}
 use Rattle.syntax.specs.declared.cursor.Stuck.{Stuck}
 use Rattle.syntax.specs.declared.cursor.Stuck.TheVariants.{Unexpected, Memory}
 
@@ -109,7 +109,7 @@ ReadsWord word_of old new result = ReadsEnded (λ x. x) (λ x. word (word_of x))
 
 -- the same of a word that keeps its place
 abbrev pub ReadsMark : {X : Type 0} → (X → Kind) → List Symbol → List Symbol → Result (X × Span) Stuck → Type 0
-ReadsMark word_of old new result = ReadsEnded (λ p. p) (λ p. placed (word_of p.0) p.1) old new result
+ReadsMark word_of old new result = ReadsEnded (λ p. p) (λ p. token_at (word_of p.0) p.1) old new result
 
 -- What a function returns that reads a piece, or nothing where it does not begin with such a token.
 abbrev pub ReadsOption : {X : Type 0} → (X → List Symbol) → (Option Kind → Bool) → List Symbol → List Symbol → Result (Option X) Stuck

@@ -6,7 +6,7 @@ use Rattle.source.specs.declared.kind.Kind.{Kind}
 use Rattle.source.specs.declared.kind.Kind.TheVariants as kind
 use Rattle.source.specs.declared.token.Span.{Span}
 use Rattle.tree.specs.Symbols.{Symbol, is_kind, kind_is, by_kind}
-use Rattle.tree.specs.Spelling.{word, placed, name, sequence, optional, listed, parens}
+use Rattle.tree.specs.Spelling.{word, token_at, name, sequence, optional, comma_list, parens}
 use Rattle.syntax.specs.Reading.{never, optional_at, listed_open_on, listed_open_at}
 use Rattle.tree.specs.Expressions.{ExpressionTree, expression}
 use Rattle.syntax.specs.ExpressionReads.{opens_expression, expression_on}
@@ -36,8 +36,8 @@ if_at i = others_at i.others
 
 -- switch = "switch" "receive" "{" case { case } "}" .
 abbrev pub switch_parts : SwitchTree → List Symbol
-switch_parts s = sequence (placed kind.Switch s.word ∷ word kind.Receive ∷ word kind.OpenBrace ∷ case s.first ∷ flat_map case s.others
-    ∷ placed kind.CloseBrace s.close ∷ [])
+switch_parts s = sequence (token_at kind.Switch s.word ∷ word kind.Receive ∷ word kind.OpenBrace ∷ case s.first ∷ flat_map case s.others
+    ∷ token_at kind.CloseBrace s.close ∷ [])
 
 -- what stands before the statements of a case
 pub record CaseFrontTree : Type 0 where
@@ -49,8 +49,8 @@ pub record CaseFrontTree : Type 0 where
 
 -- case_front = "case" ID "." awaited "(" [ bind { "," bind } ] ")" ":" .
 abbrev pub case_front : CaseFrontTree → List Symbol
-case_front c = sequence (placed kind.Case c.word ∷ name c.endpoint ∷ word kind.Dot ∷ awaited c.message
-    ∷ parens (listed bind) (c.open_paren, c.binds) ∷ word kind.Colon ∷ [])
+case_front c = sequence (token_at kind.Case c.word ∷ name c.endpoint ∷ word kind.Dot ∷ awaited c.message
+    ∷ parens (comma_list bind) (c.open_paren, c.binds) ∷ word kind.Colon ∷ [])
 
 -- declared = ID [ init ] ";" .
 abbrev pub declared : Span × Option ValueTree → List Symbol
@@ -66,12 +66,12 @@ called p = sequence (arguments p ∷ word kind.Semicolon ∷ [])
 
 -- channel_ends = "NewChannel" "(" "out" ID "," "out" ID ")" ";" .
 abbrev pub channel_ends : ChannelEnds → List Symbol
-channel_ends c = sequence (placed kind.NewChannel c.word ∷ placed kind.OpenParen c.open ∷ word kind.Out ∷ name c.first ∷ word kind.Comma
+channel_ends c = sequence (token_at kind.NewChannel c.word ∷ token_at kind.OpenParen c.open ∷ word kind.Out ∷ name c.first ∷ word kind.Comma
     ∷ word kind.Out ∷ name c.second ∷ word kind.CloseParen ∷ word kind.Semicolon ∷ [])
 
 -- jump = word ";" .
 abbrev pub jump : Kind → Span → List Symbol
-jump opening span = sequence (placed opening span ∷ word kind.Semicolon ∷ [])
+jump opening span = sequence (token_at opening span ∷ word kind.Semicolon ∷ [])
 
 -- delete = "delete" ID ";" .
 abbrev pub delete : Span → List Symbol
@@ -79,11 +79,11 @@ delete span = sequence (word kind.Delete ∷ name span ∷ word kind.Semicolon �
 
 -- start = "start" call ";" .
 abbrev pub start : Span × CallTree → List Symbol
-start p = sequence (placed kind.Start p.0 ∷ call p.1 ∷ word kind.Semicolon ∷ [])
+start p = sequence (token_at kind.Start p.0 ∷ call p.1 ∷ word kind.Semicolon ∷ [])
 
 -- return = "return" [ expression ] ";" .
 abbrev pub return_parts : Span × Option ExpressionTree → List Symbol
-return_parts p = sequence (placed kind.Return p.0 ∷ optional expression p.1 ∷ word kind.Semicolon ∷ [])
+return_parts p = sequence (token_at kind.Return p.0 ∷ optional expression p.1 ∷ word kind.Semicolon ∷ [])
 
 -- by what an initial value, or none, could go on
 abbrev pub init_on : Symbol → Bool

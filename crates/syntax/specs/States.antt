@@ -4,7 +4,7 @@ use Rattle.std.specs.List.{flat_map}
 use Rattle.source.specs.declared.kind.Kind.TheVariants as kind
 use Rattle.tree.specs.Symbols.{Symbol, is_kind, by_kind}
 use Rattle.source.specs.declared.token.Span.{Span}
-use Rattle.tree.specs.Spelling.{word, placed, name, sequence, when, braced}
+use Rattle.tree.specs.Spelling.{word, token_at, name, sequence, when, in_braces}
 use Rattle.syntax.specs.Reading.{never, when_at}
 use Rattle.tree.specs.ContractTrees.{PathTree, BodyTree, Empty, Path, One, StateTree, MemberTree, Message, State}
 use Rattle.tree.specs.Grammar.{line, sign_word}
@@ -13,11 +13,11 @@ use Rattle.syntax.specs.declared.states.Hop.{Hop}
 
 -- hop = sign "->" ID .
 abbrev pub hop : Hop → List Symbol
-hop h = sequence (placed (sign_word h.sign) h.mark ∷ word kind.Arrow ∷ name h.target ∷ [])
+hop h = sequence (token_at (sign_word h.sign) h.mark ∷ word kind.Arrow ∷ name h.target ∷ [])
 
 -- lines = "{" { line } "}" .
 abbrev pub lines : List PathTree × Span → List Symbol
-lines = braced (flat_map line)
+lines = in_braces (flat_map line)
 
 -- one = "one" lines [ ";" ] .
 abbrev pub one : (List PathTree × Span) × Bool → List Symbol

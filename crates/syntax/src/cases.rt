@@ -1,7 +1,7 @@
 //! Reads what stands before the statements of a case.
 
 ghost use Rattle.std.specs.Prelude.{◌≡◌};
-ghost use Rattle.tree.specs.Spelling.{comma, listed, parens};
+ghost use Rattle.tree.specs.Spelling.{comma, comma_list, parens};
 ghost use Rattle.syntax.specs.Reading.{Reads, ReadsEnded, ReadsOption};
 ghost use Rattle.tree.specs.StatementGrammar.{awaited, bind};
 ghost use Rattle.syntax.specs.StatementParts.{case_front, case_front_tree, typed, of_typed};
@@ -57,7 +57,7 @@ fn awaited(cursor: &mut Cursor<'_>) -> Result<Awaited, Stuck>
 
 /// binds = "(" [ bind { "," bind } ] ")" .
 fn binds(alloc: Global, cursor: &mut Cursor<'_>) -> Result<(Span, Vec<Bind>), Stuck>
-    ensures { ReadsEnded (λ p. (p.0, p.1.items)) (parens (listed bind)) cursor.old cursor.new result }
+    ensures { ReadsEnded (λ p. (p.0, p.1.items)) (parens (comma_list bind)) cursor.old cursor.new result }
 {
     let left = cursor.expect_span(Kind::OpenParen)?;
     let all = bind_list(alloc, cursor)?;
@@ -67,7 +67,7 @@ fn binds(alloc: Global, cursor: &mut Cursor<'_>) -> Result<(Span, Vec<Bind>), St
 
 /// [ bind { "," bind } ]
 fn bind_list(alloc: Global, cursor: &mut Cursor<'_>) -> Result<Vec<Bind>, Stuck>
-    ensures { Reads (λ v. v.items) (listed bind) binds_on binds_at cursor.old cursor.new result }
+    ensures { Reads (λ v. v.items) (comma_list bind) binds_on binds_at cursor.old cursor.new result }
 {
     let mut all = Vec::new(alloc);
     if !is_type(cursor.peek()) {

@@ -3,7 +3,7 @@
 ghost use Rattle.std.specs.Prelude.{◌≡◌, map};
 ghost use Rattle.std.specs.List.{flat_map};
 ghost use Rattle.tree.specs.Symbols.{is_kind, by_kind};
-ghost use Rattle.tree.specs.Spelling.{when, comma, listed, braced, parens};
+ghost use Rattle.tree.specs.Spelling.{when, comma, comma_list, in_braces, parens};
 ghost use Rattle.syntax.specs.Reading.{Reads, ReadsEnded, ReadsList, when_at, listed_on, listed_at};
 ghost use Rattle.syntax.specs.Firsts.{opens_parameter, opens_method};
 ghost use Rattle.syntax.specs.Types.{type_on};
@@ -36,7 +36,7 @@ pub fn class(alloc: Global, cursor: &mut Cursor<'_>) -> Result<Class, Stuck>
 
 /// methods = "{" { method } "}" .
 fn methods(alloc: Global, cursor: &mut Cursor<'_>) -> Result<(Vec<Method>, Span), Stuck>
-    ensures { ReadsEnded (λ p. (map method_tree p.0.items, p.1)) (braced (flat_map method))
+    ensures { ReadsEnded (λ p. (map method_tree p.0.items, p.1)) (in_braces (flat_map method))
         cursor.old cursor.new result }
 {
     cursor.expect(Kind::OpenBrace)?;
@@ -100,7 +100,7 @@ fn result_type(cursor: &mut Cursor<'_>) -> Result<Option<Type>, Stuck>
 
 /// parameters = "(" [ parameter { "," parameter } ] ")" .
 fn parameters(alloc: Global, cursor: &mut Cursor<'_>) -> Result<(Span, Vec<Parameter>), Stuck>
-    ensures { ReadsEnded (λ p. (p.0, p.1.items)) (parens (listed parameter)) cursor.old cursor.new result }
+    ensures { ReadsEnded (λ p. (p.0, p.1.items)) (parens (comma_list parameter)) cursor.old cursor.new result }
 {
     let left = cursor.expect_span(Kind::OpenParen)?;
     let all = parameter_list(alloc, cursor)?;
@@ -120,7 +120,7 @@ fn is_parameter(kind: Option<Kind>) -> bool
 
 /// [ parameter { "," parameter } ]
 fn parameter_list(alloc: Global, cursor: &mut Cursor<'_>) -> Result<Vec<Parameter>, Stuck>
-    ensures { Reads (λ v. v.items) (listed parameter) (listed_on (by_kind opens_parameter))
+    ensures { Reads (λ v. v.items) (comma_list parameter) (listed_on (by_kind opens_parameter))
         (listed_at (by_kind opens_parameter)) cursor.old cursor.new result }
 {
     let mut all = Vec::new(alloc);

@@ -3,7 +3,7 @@
 ghost use Rattle.std.specs.Prelude.{◌≡◌, ◌≢◌, ◌+◌, length, ◌↔◌, ◌∷◌, [], List, true, false, IsTrue, IsSome};
 ghost use Rattle.source.specs.declared.kind.Kind.{Kind};
 ghost use Rattle.tree.specs.Symbols.{Symbol, Fixed, Placed, Named, is_placed, kind_at, is_kind, symbols};
-ghost use Rattle.tree.specs.Spelling.{word, placed, name, optional, when};
+ghost use Rattle.tree.specs.Spelling.{word, token_at, name, optional, when};
 ghost use Rattle.syntax.specs.Reading.{Takes, ReadsEnded, never, optional_at, when_at};
 
 use source::{Kind, Span, Token};
@@ -129,7 +129,7 @@ impl Cursor<'_> {
     /// Takes a token of this kind, and answers where it lies.
     pub fn expect_span(&mut self, kind: Kind) -> Result<Span, Stuck>
         requires { is_placed kind ≡ true }
-        ensures { ReadsEnded (λ x. x) (placed kind) self.old self.new result }
+        ensures { ReadsEnded (λ x. x) (token_at kind) self.old self.new result }
     {
         if self.is_next(kind) {
             Ok(self.skip())
@@ -141,7 +141,7 @@ impl Cursor<'_> {
     /// Takes a token of this kind, if it is next, and answers where it lies.
     pub fn placed_if(&mut self, kind: Kind) -> Option<Span>
         requires { is_placed kind ≡ true }
-        ensures { Takes (optional (placed kind)) (optional_at (is_kind kind) (λ _. never)) self.old self.new result }
+        ensures { Takes (optional (token_at kind)) (optional_at (is_kind kind) (λ _. never)) self.old self.new result }
     {
         if self.is_next(kind) {
             Some(self.skip())

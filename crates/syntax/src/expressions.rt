@@ -14,7 +14,7 @@ ghost use Rattle.syntax.specs.ExpressionReads.{level_on, level_at, step_at, step
 ghost use Rattle.syntax.specs.ExpressionReads.{target_on, opens_expression};
 ghost use Rattle.tree.specs.ExpressionTrees.{expression_tree, disjunction_tree, conjunction_tree, equality_tree, equality_step_tree};
 ghost use Rattle.tree.specs.ExpressionTrees.{relation_tree, relation_step_tree, sum_tree, factor_tree, unary_tree, atom_tree, target_tree};
-ghost use Rattle.tree.specs.ExpressionTrees.{unmarked};
+ghost use Rattle.tree.specs.ExpressionTrees.{without_sign};
 
 use crate::cursor::{Cursor, Stuck};
 use crate::fitted::{push, shrink};
@@ -90,7 +90,7 @@ fn disjunction_from(alloc: Global, cursor: &mut Cursor<'_>, sum: Sum) -> Result<
 /// { "||" conjunction }
 #[cycle(expression)]
 fn conjunctions(alloc: Global, cursor: &mut Cursor<'_>) -> Result<Vec<Conjunction>, Stuck>
-    ensures { Reads (λ v. map (unmarked conjunction_tree) v.items) (flat_map (step Or)) (level_on (Joined Or)) (steps_end Or)
+    ensures { Reads (λ v. map (without_sign conjunction_tree) v.items) (flat_map (step Or)) (level_on (Joined Or)) (steps_end Or)
         cursor.old cursor.new result }
 {
     let mut all = Vec::new(alloc);
@@ -103,7 +103,7 @@ fn conjunctions(alloc: Global, cursor: &mut Cursor<'_>) -> Result<Vec<Conjunctio
 /// "||" conjunction
 #[cycle(expression)]
 fn or_conjunction(alloc: Global, cursor: &mut Cursor<'_>) -> Result<Conjunction, Stuck>
-    ensures { Reads (unmarked conjunction_tree) (step Or) (level_on (Joined And)) (step_at Or) cursor.old cursor.new result }
+    ensures { Reads (without_sign conjunction_tree) (step Or) (level_on (Joined And)) (step_at Or) cursor.old cursor.new result }
 {
     cursor.expect(Kind::OrOr)?;
     let sum = read_sum(alloc, cursor)?;
@@ -126,7 +126,7 @@ fn conjunction_from(alloc: Global, cursor: &mut Cursor<'_>, sum: Sum) -> Result<
 /// { "&&" equality }
 #[cycle(expression)]
 fn equalities(alloc: Global, cursor: &mut Cursor<'_>) -> Result<Vec<Equality>, Stuck>
-    ensures { Reads (λ v. map (unmarked equality_tree) v.items) (flat_map (step And)) (level_on (Joined And)) (steps_end And)
+    ensures { Reads (λ v. map (without_sign equality_tree) v.items) (flat_map (step And)) (level_on (Joined And)) (steps_end And)
         cursor.old cursor.new result }
 {
     let mut all = Vec::new(alloc);
@@ -139,7 +139,7 @@ fn equalities(alloc: Global, cursor: &mut Cursor<'_>) -> Result<Vec<Equality>, S
 /// "&&" equality
 #[cycle(expression)]
 fn and_equality(alloc: Global, cursor: &mut Cursor<'_>) -> Result<Equality, Stuck>
-    ensures { Reads (unmarked equality_tree) (step And) (level_on (Joined Equal)) (step_at And) cursor.old cursor.new result }
+    ensures { Reads (without_sign equality_tree) (step And) (level_on (Joined Equal)) (step_at And) cursor.old cursor.new result }
 {
     cursor.expect(Kind::AndAnd)?;
     let sum = read_sum(alloc, cursor)?;

@@ -2,7 +2,7 @@
 
 ghost use Rattle.std.specs.Prelude.{◌≡◌};
 ghost use Rattle.tree.specs.Symbols.{kind_is, by_kind};
-ghost use Rattle.tree.specs.Spelling.{word, comma, listed, parens};
+ghost use Rattle.tree.specs.Spelling.{word, comma, comma_list, parens};
 ghost use Rattle.syntax.specs.Reading.{ReadsWord, ReadsOption, ReadsList, Reads, ReadsEnded, listed_on, listed_at};
 ghost use Rattle.tree.specs.Grammar.{direction_word, param, message};
 ghost use Rattle.syntax.specs.Firsts.{direction_of, opens_message, opens_type};
@@ -64,7 +64,7 @@ pub fn message(alloc: Global, cursor: &mut Cursor<'_>) -> Result<Message, Stuck>
 
 /// params = "(" [ param { "," param } ] ")" .
 fn params(alloc: Global, cursor: &mut Cursor<'_>) -> Result<(Span, Vec<MessageParameter>), Stuck>
-    ensures { ReadsEnded (λ p. (p.0, p.1.items)) (parens (listed param)) cursor.old cursor.new result }
+    ensures { ReadsEnded (λ p. (p.0, p.1.items)) (parens (comma_list param)) cursor.old cursor.new result }
 {
     let left = cursor.expect_span(Kind::OpenParen)?;
     let all = param_list(alloc, cursor)?;
@@ -74,7 +74,7 @@ fn params(alloc: Global, cursor: &mut Cursor<'_>) -> Result<(Span, Vec<MessagePa
 
 /// [ param { "," param } ]
 fn param_list(alloc: Global, cursor: &mut Cursor<'_>) -> Result<Vec<MessageParameter>, Stuck>
-    ensures { Reads (λ v. v.items) (listed param) (listed_on (by_kind opens_type)) (listed_at (by_kind opens_type))
+    ensures { Reads (λ v. v.items) (comma_list param) (listed_on (by_kind opens_type)) (listed_at (by_kind opens_type))
         cursor.old cursor.new result }
 {
     let mut all = Vec::new(alloc);

@@ -3,7 +3,7 @@
 ghost use Rattle.std.specs.Prelude.{◌≡◌, map};
 ghost use Rattle.std.specs.List.{flat_map};
 ghost use Rattle.tree.specs.Symbols.{by_kind};
-ghost use Rattle.tree.specs.Spelling.{braced};
+ghost use Rattle.tree.specs.Spelling.{in_braces};
 ghost use Rattle.syntax.specs.Reading.{Reads, ReadsEnded};
 ghost use Rattle.syntax.specs.Firsts.{opens_field};
 ghost use Rattle.tree.specs.Trees.{struct_tree};
@@ -34,7 +34,7 @@ pub fn structure(alloc: Global, cursor: &mut Cursor<'_>) -> Result<Struct, Stuck
 
 /// fields = "{" { field } "}" .
 fn fields(alloc: Global, cursor: &mut Cursor<'_>) -> Result<(Vec<Field>, Span), Stuck>
-    ensures { ReadsEnded (λ p. (p.0.items, p.1)) (braced (flat_map field)) cursor.old cursor.new result }
+    ensures { ReadsEnded (λ p. (p.0.items, p.1)) (in_braces (flat_map field)) cursor.old cursor.new result }
 {
     cursor.expect(Kind::OpenBrace)?;
     let all = field_list(alloc, cursor)?;

@@ -3,7 +3,7 @@
 ghost use Rattle.std.specs.Prelude.{◌≡◌, ◌++◌, map};
 ghost use Rattle.source.specs.declared.kind.Kind.{Kind};
 ghost use Rattle.tree.specs.Symbols.{kind_at};
-ghost use Rattle.tree.specs.Spelling.{name, comma, listed, parens, optional};
+ghost use Rattle.tree.specs.Spelling.{name, comma, comma_list, parens, optional};
 ghost use Rattle.syntax.specs.Reading.{Stops, Reads, ReadsEnded};
 ghost use Rattle.tree.specs.Expressions.{expression, target, dot_name};
 ghost use Rattle.syntax.specs.ExpressionReads.{expression_on, expression_at, target_at};
@@ -179,7 +179,7 @@ pub fn read_arguments(
 
 /// [ expression { "," expression } ]
 fn expression_list(alloc: Global, cursor: &mut Cursor<'_>) -> Result<Vec<Expression>, Stuck>
-    ensures { Reads (λ v. map expression_tree v.items) (listed expression) expressions_on expressions_at
+    ensures { Reads (λ v. map expression_tree v.items) (comma_list expression) expressions_on expressions_at
         cursor.old cursor.new result }
 {
     let mut all = Vec::new(alloc);

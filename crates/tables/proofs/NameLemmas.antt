@@ -26,14 +26,14 @@ second_may b q = ltb 1 b.taken && nat_eq b.second_mark (mark_of q)
 
 -- a number, if the name at a place is this one
 abbrev at : List Name → List ℕ → ℕ → ℕ → Option ℕ
-at names q place k = option_and_then (λ (w : Name). cond (same_word q w.now) (Some k) None) (slice_get names place)
+at names q index k = option_and_then (λ (w : Name). cond (same_word q w.now) (Some k) None) (slice_get names index)
 
-at_apart : (names : List Name) (w : Name) (q : List ℕ) (place k : ℕ) → same_word q w.now ≡ false
-    → at (names ++ w ∷ []) q place k ≡ at names q place k
+at_apart : (names : List Name) (w : Name) (q : List ℕ) (index k : ℕ) → same_word q w.now ≡ false
+    → at (names ++ w ∷ []) q index k ≡ at names q index k
 at_apart [] w q zero k other = cond-false (same_word q w.now) (Some k) None other
-at_apart [] w q (suc place) k other = refl
+at_apart [] w q (suc index) k other = refl
 at_apart (n ∷ names) w q zero k other = refl
-at_apart (n ∷ names) w q (suc place) k other = at_apart names w q place k other
+at_apart (n ∷ names) w q (suc index) k other = at_apart names w q index k other
 
 at_there : (names : List Name) (w : Name) (k : ℕ) → at (names ++ w ∷ []) w.now (length names) k ≡ Some k
 at_there [] w k = cond-true (same_word w.now w.now) (Some k) None (nat_list_eq_equiv.refl w.now)
@@ -44,10 +44,10 @@ at_there_other : (names : List Name) (w : Name) (q : List ℕ) (k : ℕ) → sam
 at_there_other [] w q k other = cond-false (same_word q w.now) (Some k) None other
 at_there_other (n ∷ names) w q k other = at_there_other names w q k other
 
-at_before : (names more : List Name) (q : List ℕ) (place k : ℕ) → place < length names → at (names ++ more) q place k ≡ at names q place k
-at_before [] more q place k lt = absurd (omega (arith, lt))
+at_before : (names more : List Name) (q : List ℕ) (index k : ℕ) → index < length names → at (names ++ more) q index k ≡ at names q index k
+at_before [] more q index k lt = absurd (omega (arith, lt))
 at_before (n ∷ names) more q zero k lt = refl
-at_before (n ∷ names) more q (suc place) k lt = at_before names more q place k (omega (arith, lt))
+at_before (n ∷ names) more q (suc index) k lt = at_before names more q index k (omega (arith, lt))
 
 abbrev within : ℕ → ℕ → Option ℕ
 within i n = cond (ltb i n) (Some i) None
@@ -81,32 +81,32 @@ others_lack n names q h =
     cond-false (ltb i (length (words_of names))) (Some i) None (le-ltb i (length (words_of names)) rest)
 
 -- a name that a list lacks stands at none of its places
-lacks : (names : List Name) (q : List ℕ) → first_of (words_of names) q ≡ None → (place k : ℕ) → at names q place k ≡ None
-lacks [] q h place k = refl
+lacks : (names : List Name) (q : List ℕ) → first_of (words_of names) q ≡ None → (index k : ℕ) → at names q index k ≡ None
+lacks [] q h index k = refl
 lacks (n ∷ names) q h zero k = cond-false (same_word q n.now) (Some k) None (first_other n names q h)
-lacks (n ∷ names) q h (suc place) k = lacks names q (others_lack n names q h) place k
+lacks (n ∷ names) q h (suc index) k = lacks names q (others_lack n names q h) index k
 
 -- one name more, which the list lacked, stands behind it alone
-at_one_more : (names : List Name) (w : Name) (place : ℕ) → ((place k : ℕ) → at names w.now place k ≡ None)
-    → ((k : ℕ) → at (names ++ w ∷ []) w.now place k ≡ None) ⊎ (place ≡ length names)
+at_one_more : (names : List Name) (w : Name) (index : ℕ) → ((index k : ℕ) → at names w.now index k ≡ None)
+    → ((k : ℕ) → at (names ++ w ∷ []) w.now index k ≡ None) ⊎ (index ≡ length names)
 at_one_more [] w zero none = inr refl
-at_one_more [] w (suc place) none = inl (λ k. refl)
+at_one_more [] w (suc index) none = inl (λ k. refl)
 at_one_more (n ∷ names) w zero none = inl (λ k. none zero k)
-at_one_more (n ∷ names) w (suc place) none = ⊎_elim (λ before. inl before) (λ last. inr (ap suc last))
-    (at_one_more names w place (λ place k. none (suc place) k))
+at_one_more (n ∷ names) w (suc index) none = ⊎_elim (λ before. inl before) (λ last. inr (ap suc last))
+    (at_one_more names w index (λ index k. none (suc index) k))
 
 pub cond_none : (m : Bool) → cond {A = Option ℕ} m None None ≡ None
 cond_none true = refl
 cond_none false = refl
 
-none_or_if : (place : ℕ) (m : Bool) (o : Option ℕ) → NoneOr place o → NoneOr place (cond m o None)
-none_or_if place true o h = h
-none_or_if place false o h = inl refl
+none_or_if : (index : ℕ) (m : Bool) (o : Option ℕ) → NoneOr index o → NoneOr index (cond m o None)
+none_or_if index true o h = h
+none_or_if index false o h = inl refl
 
-none_or_both : (place : ℕ) (a b : Option ℕ) → NoneOr place a → NoneOr place b → NoneOr place (option_or a b)
-none_or_both place a b none_or_a none_or_b = ⊎_elim
-    (λ none. subst (λ o. NoneOr place (option_or o b)) (sym none) none_or_b)
-    (λ some. subst (λ o. NoneOr place (option_or o b)) (sym some) (inr refl))
+none_or_both : (index : ℕ) (a b : Option ℕ) → NoneOr index a → NoneOr index b → NoneOr index (option_or a b)
+none_or_both index a b none_or_a none_or_b = ⊎_elim
+    (λ none. subst (λ o. NoneOr index (option_or o b)) (sym none) none_or_b)
+    (λ some. subst (λ o. NoneOr index (option_or o b)) (sym some) (inr refl))
     none_or_a
 
 index_one_more : (names : List Name) (w : Name) (m : Bool) (p : ℕ) → first_of (words_of names) w.now ≡ None

@@ -48,10 +48,10 @@ enters_seated w old new more here kept others q = ⊎_elim
     ∙ sym (cond-false (same_word w.now q) (Some (length old.names.items)) (entry_of old q) other))
     (cases_Bool (same_word w.now q))
 
-none_or_index : (place : ℕ) (a : Option ℕ) → NoneOr place a → option_or a (Some place) ≡ Some place
-none_or_index place a h = ⊎_elim
-    (λ none. ap (λ o. option_or o (Some place)) none)
-    (λ some. ap (λ o. option_or o (Some place)) some)
+none_or_index : (index : ℕ) (a : Option ℕ) → NoneOr index a → option_or a (Some index) ≡ Some index
+none_or_index index a h = ⊎_elim
+    (λ none. ap (λ o. option_or o (Some index)) none)
+    (λ some. ap (λ o. option_or o (Some index)) some)
     h
 
 -- a name that comes behind the others and finds no seat
@@ -62,19 +62,19 @@ pub enters_beside : (w : Name) (old new : Table) → new.names.items ≡ old.nam
     → Enters w.now (Some (length old.names.items)) old new
 enters_beside w old new more absent kept others q = ⊎_elim
     (λ same. let e : w.now ≡ q = (bytes_eq-Decides w.now q).0 same in
-    ap (option_or (seated_of new q)) (others q ∙ cond-true (same_word w.now q) (Some place) (other_of old q) same)
-    ∙ none_or_index place (seated_of new q) (subst (λ v. NoneOr place (seated_of new v)) e said)
-    ∙ sym (cond-true (same_word w.now q) (Some place) (entry_of old q) same))
+    ap (option_or (seated_of new q)) (others q ∙ cond-true (same_word w.now q) (Some index) (other_of old q) same)
+    ∙ none_or_index index (seated_of new q) (subst (λ v. NoneOr index (seated_of new v)) e said)
+    ∙ sym (cond-true (same_word w.now q) (Some index) (entry_of old q) same))
     (λ other. ap (λ o. option_or o (other_of new q)) (other_seats w old new more (λ v none. kept v) q other)
-    ∙ ap (option_or (seated_of old q)) (others q ∙ cond-false (same_word w.now q) (Some place) (other_of old q) other)
-    ∙ sym (cond-false (same_word w.now q) (Some place) (entry_of old q) other))
+    ∙ ap (option_or (seated_of old q)) (others q ∙ cond-false (same_word w.now q) (Some index) (other_of old q) other)
+    ∙ sym (cond-false (same_word w.now q) (Some index) (entry_of old q) other))
     (cases_Bool (same_word w.now q))
   where
-    place : ℕ
-    place = length old.names.items
+    index : ℕ
+    index = length old.names.items
 
-    said : NoneOr place (seated_of new w.now)
-    said = subst (NoneOr place) (sym (kept w.now ∙ ap (λ names. seated_in names old.buckets.items w.now) more))
+    said : NoneOr index (seated_of new w.now)
+    said = subst (NoneOr index) (sym (kept w.now ∙ ap (λ names. seated_in names old.buckets.items w.now) more))
         (seated_one_more old.names.items w old.buckets.items absent)
 
 -- the words of a list of names and one more
@@ -116,15 +116,15 @@ table_entered words w old new h some more seats crowds others apart = record {
 }
 
 -- whoever has no seat has a crowded bucket, once a name found no seat
-pub crowds_beside : (word : List ℕ) (old new : Table) (all : List (List ℕ)) → IsTable all old → (place : ℕ)
+pub crowds_beside : (word : List ℕ) (old new : Table) (all : List (List ℕ)) → IsTable all old → (index : ℕ)
     → crowded_in new.buckets.items word ≡ true
     → ((q : List ℕ) → crowded_in new.buckets.items q ≡ false → crowded_in old.buckets.items q ≡ false)
-    → ((q : List ℕ) → other_of new q ≡ cond (same_word word q) (Some place) (other_of old q))
+    → ((q : List ℕ) → other_of new q ≡ cond (same_word word q) (Some index) (other_of old q))
     → (q : List ℕ) → crowded_in new.buckets.items q ≡ false → other_of new q ≡ None
-crowds_beside word old new all h place crowded uncrowded others q free = ⊎_elim
+crowds_beside word old new all h index crowded uncrowded others q free = ⊎_elim
     (λ same. let e : word ≡ q = (bytes_eq-Decides word q).0 same in
     let clash : true ≡ false = sym crowded ∙ ap (crowded_in new.buckets.items) e ∙ free in cc)
-    (λ other. others q ∙ cond-false (same_word word q) (Some place) (other_of old q) other ∙ h.crowded q (uncrowded q free))
+    (λ other. others q ∙ cond-false (same_word word q) (Some index) (other_of old q) other ∙ h.crowded q (uncrowded q free))
     (cases_Bool (same_word word q))
 
 -- all but the last name of a list, and the last

@@ -16,34 +16,34 @@ abbrev Names : Type 0
 Names = List (Bor (List ℕ))
 
 -- where a word is not at the last place, it is at none behind
-gone : (names : Names) (q : List ℕ) (p place : ℕ) → length names ≤ place + 1 → index_of names q place ≡ None → place ≤ p
+gone : (names : Names) (q : List ℕ) (p index : ℕ) → length names ≤ index + 1 → index_of names q index ≡ None → index ≤ p
     → index_of names q p ≡ None
-gone names q p place few none le = ⊎_elim
+gone names q p index few none le = ⊎_elim
     (λ same. subst (λ n. index_of names q n ≡ None) (sym same) none)
     (λ more. ap (option_and_then (λ (w : Bor (List ℕ)). cond (same_word q w.now) (Some p) None))
     (slice_get_past names p (omega (arith, few, le, more))))
-    (cases_eq p place)
+    (cases_eq p index)
 
 -- a seat that nobody took, or whose name is gone, says nothing
-free_says : (names : Names) (q : List ℕ) (m : Bool) (p place : ℕ) → length names ≤ place + 1 → index_of names q place ≡ None
-    → (m ≡ false) ⊎ (place ≤ p) → index_in names q m p ≡ None
-free_says names q m p place few none free = ⊎_elim
+free_says : (names : Names) (q : List ℕ) (m : Bool) (p index : ℕ) → length names ≤ index + 1 → index_of names q index ≡ None
+    → (m ≡ false) ⊎ (index ≤ p) → index_in names q m p ≡ None
+free_says names q m p index few none free = ⊎_elim
     (λ no'. cond-false m (index_of names q p) None no')
-    (λ le. ap (λ o. cond m o None) (gone names q p place few none le) ∙ cond_none m)
+    (λ le. ap (λ o. cond m o None) (gone names q p index few none le) ∙ cond_none m)
     free
 
 -- the seat of the last place says nothing of a word that is not there
-last_says : (names : Names) (q : List ℕ) (m : Bool) (seat place : ℕ) → seat ≡ place → index_of names q place ≡ None
+last_says : (names : Names) (q : List ℕ) (m : Bool) (seat index : ℕ) → seat ≡ index → index_of names q index ≡ None
     → index_in names q m seat ≡ None
-last_says names q m seat place is none =
+last_says names q m seat index is none =
     ap (λ o. cond m o None) (subst (λ n. index_of names q n ≡ None) (sym is) none) ∙ cond_none m
 
 -- so does a seat that goes to the last place from nobody, or from a name that is gone
-moved : (names : Names) (q : List ℕ) (m n : Bool) (seat p place : ℕ) → seat ≡ place → length names ≤ place + 1
-    → index_of names q place ≡ None → (n ≡ false) ⊎ (seat ≤ p) → index_in names q m seat ≡ index_in names q n p
-moved names q m n seat p place is few none free =
-    last_says names q m seat place is none
-    ∙ sym (free_says names q n p place few none (⊎_elim (λ no'. inl no') (λ le. inr (omega (arith, is, le))) free))
+moved : (names : Names) (q : List ℕ) (m n : Bool) (seat p index : ℕ) → seat ≡ index → length names ≤ index + 1
+    → index_of names q index ≡ None → (n ≡ false) ⊎ (seat ≤ p) → index_in names q m seat ≡ index_in names q n p
+moved names q m n seat p index is few none free =
+    last_says names q m seat index is none
+    ∙ sym (free_says names q n p index few none (⊎_elim (λ no'. inl no') (λ le. inr (omega (arith, is, le))) free))
 
 marked : (k n : ℕ) (e : Bool) (A : Type 0) → (n < suc k) ⊎ A → ((ltb k n && e) ≡ false) ⊎ A
 marked k n e A free = ⊎_elim (λ lt. inl (ap (λ b. b && e) (le-ltb k n (omega (arith, lt))))) (λ a. inr a) free
@@ -87,11 +87,11 @@ three a b c x y z e f g =
 
 -- where the first, the second or the third seat goes to the last place, a word that is not there is where it was
 
-pub kept_first : (names : Names) (q : List ℕ) (b : Bucket) (place seat mark taken : ℕ) → seat ≡ place → taken ≡ max b.taken 1
-    → length names ≤ place + 1 → index_of names q place ≡ None → (b.taken < 1) ⊎ (seat ≤ b.first)
+pub kept_first : (names : Names) (q : List ℕ) (b : Bucket) (index seat mark taken : ℕ) → seat ≡ index → taken ≡ max b.taken 1
+    → length names ≤ index + 1 → index_of names q index ≡ None → (b.taken < 1) ⊎ (seat ≤ b.first)
     → seated_by names q (record b { first = seat; first_mark = mark; taken = taken }) ≡ seated_by names q b
-kept_first names q b place seat mark taken is more few none free = three _ _ _ _ _ _
-    (moved names q (ltb 0 taken && nat_eq mark (mark_of q)) (ltb 0 b.taken && nat_eq b.first_mark (mark_of q)) seat b.first place
+kept_first names q b index seat mark taken is more few none free = three _ _ _ _ _ _
+    (moved names q (ltb 0 taken && nat_eq mark (mark_of q)) (ltb 0 b.taken && nat_eq b.first_mark (mark_of q)) seat b.first index
     is few none
     (marked 0 b.taken (nat_eq b.first_mark (mark_of q)) (seat ≤ b.first) free))
     (second_same names q b c 1 refl refl more (inl (omega arith)))
@@ -100,12 +100,12 @@ kept_first names q b place seat mark taken is more few none free = three _ _ _ _
     c : Bucket
     c = record b { first = seat; first_mark = mark; taken = taken }
 
-pub kept_second : (names : Names) (q : List ℕ) (b : Bucket) (place seat mark taken : ℕ) → seat ≡ place → taken ≡ max b.taken 2
-    → length names ≤ place + 1 → index_of names q place ≡ None → 1 ≤ b.taken → (b.taken < 2) ⊎ (seat ≤ b.second)
+pub kept_second : (names : Names) (q : List ℕ) (b : Bucket) (index seat mark taken : ℕ) → seat ≡ index → taken ≡ max b.taken 2
+    → length names ≤ index + 1 → index_of names q index ≡ None → 1 ≤ b.taken → (b.taken < 2) ⊎ (seat ≤ b.second)
     → seated_by names q (record b { second = seat; second_mark = mark; taken = taken }) ≡ seated_by names q b
-kept_second names q b place seat mark taken is more few none before free = three _ _ _ _ _ _
+kept_second names q b index seat mark taken is more few none before free = three _ _ _ _ _ _
     (first_same names q b c 2 refl refl more before)
-    (moved names q (ltb 1 taken && nat_eq mark (mark_of q)) (ltb 1 b.taken && nat_eq b.second_mark (mark_of q)) seat b.second place
+    (moved names q (ltb 1 taken && nat_eq mark (mark_of q)) (ltb 1 b.taken && nat_eq b.second_mark (mark_of q)) seat b.second index
     is few none
     (marked 1 b.taken (nat_eq b.second_mark (mark_of q)) (seat ≤ b.second) free))
     (third_same names q b c 2 refl more (omega arith))
@@ -113,33 +113,33 @@ kept_second names q b place seat mark taken is more few none before free = three
     c : Bucket
     c = record b { second = seat; second_mark = mark; taken = taken }
 
-pub kept_third : (names : Names) (q : List ℕ) (b : Bucket) (place seat taken : ℕ) → seat ≡ place → taken ≡ max b.taken 3
-    → length names ≤ place + 1 → index_of names q place ≡ None → 2 ≤ b.taken → (b.taken < 3) ⊎ (seat ≤ b.third)
+pub kept_third : (names : Names) (q : List ℕ) (b : Bucket) (index seat taken : ℕ) → seat ≡ index → taken ≡ max b.taken 3
+    → length names ≤ index + 1 → index_of names q index ≡ None → 2 ≤ b.taken → (b.taken < 3) ⊎ (seat ≤ b.third)
     → seated_by names q (record b { third = seat; taken = taken }) ≡ seated_by names q b
-kept_third names q b place seat taken is more few none before free = three _ _ _ _ _ _
+kept_third names q b index seat taken is more few none before free = three _ _ _ _ _ _
     (first_same names q b c 3 refl refl more (omega (arith, before)))
     (second_same names q b c 3 refl refl more (inr (omega (arith, before))))
-    (moved names q (ltb 2 taken) (ltb 2 b.taken) seat b.third place is few none
+    (moved names q (ltb 2 taken) (ltb 2 b.taken) seat b.third index is few none
     (⊎_elim (λ lt. inl (le-ltb 2 b.taken (omega (arith, lt)))) (λ le. inr le) free))
   where
     c : Bucket
     c = record b { third = seat; taken = taken }
 
-or_last : (a b c : Option ℕ) (place : ℕ) → NoneOr place (option_or a (option_or b c)) → option_or a (option_or b (Some place)) ≡ Some place
-or_last None None c place h = refl
-or_last None (Some x) c place h = ⊎_elim (λ none. cc) (λ some. some) h
-or_last (Some x) b c place h = ⊎_elim (λ none. cc) (λ some. some) h
+or_last : (a b c : Option ℕ) (index : ℕ) → NoneOr index (option_or a (option_or b c)) → option_or a (option_or b (Some index)) ≡ Some index
+or_last None None c index h = refl
+or_last None (Some x) c index h = ⊎_elim (λ none. cc) (λ some. some) h
+or_last (Some x) b c index h = ⊎_elim (λ none. cc) (λ some. some) h
 
 -- a name that takes the third seat is found there
-pub seated_third : (names : Names) (q : List ℕ) (b : Bucket) (place seat taken : ℕ) → seat ≡ place → taken ≡ max b.taken 3
-    → 2 ≤ b.taken → index_of names q place ≡ Some place → NoneOr place (seated_by names q b)
-    → seated_by names q (record b { third = seat; taken = taken }) ≡ Some place
-seated_third names q b place seat taken is more before there said = three _ _ _ _ _ _
+pub seated_third : (names : Names) (q : List ℕ) (b : Bucket) (index seat taken : ℕ) → seat ≡ index → taken ≡ max b.taken 3
+    → 2 ≤ b.taken → index_of names q index ≡ Some index → NoneOr index (seated_by names q b)
+    → seated_by names q (record b { third = seat; taken = taken }) ≡ Some index
+seated_third names q b index seat taken is more before there said = three _ _ _ _ _ _
     (first_same names q b c 3 refl refl more (omega (arith, before)))
     (second_same names q b c 3 refl refl more (inr (omega (arith, before))))
     (cond-true (ltb 2 taken) (index_of names q seat) None (lt-ltb 2 taken (omega (arith, more)))
-    ∙ subst (λ n. index_of names q n ≡ Some place) (sym is) there)
-    ∙ or_last (first_in names q b) (second_in names q b) (third_in names q b) place said
+    ∙ subst (λ n. index_of names q n ≡ Some index) (sym is) there)
+    ∙ or_last (first_in names q b) (second_in names q b) (third_in names q b) index said
   where
     c : Bucket
     c = record b { third = seat; taken = taken }

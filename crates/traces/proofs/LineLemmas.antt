@@ -74,25 +74,25 @@ drop-suc : {X : Type 0} (x : X) (xs : List X) (n : ℕ) → drop (suc n) (x ∷ 
 drop-suc x xs n = refl
 
 -- the next step of a path
-pub record NextStep (pairs : List Pair) (place : ℕ) (steps rest : List Pair) : Type 0 where
+pub record NextStep (pairs : List Pair) (index : ℕ) (steps rest : List Pair) : Type 0 where
   pub next : Pair
-  pub there : slice_get pairs place ≡ Some next
+  pub there : slice_get pairs index ≡ Some next
   pub are : steps ≡ next ∷ rest
 
-pub next_step : (pairs : List Pair) (places : List ℕ) (steps : List Pair) (n d : ℕ) → AllZip (λ place x. slice_get pairs place ≡ Some x) places steps → n < length places → NextStep pairs (get_or places n d) (drop n steps) (drop (suc n) steps)
+pub next_step : (pairs : List Pair) (places : List ℕ) (steps : List Pair) (n d : ℕ) → AllZip (λ index x. slice_get pairs index ≡ Some x) places steps → n < length places → NextStep pairs (get_or places n d) (drop n steps) (drop (suc n) steps)
 next_step pairs [] [] n d zip lt = absurd (omega (arith, lt))
 next_step pairs [] (x ∷ steps) n d zip lt = absurd zip
-next_step pairs (place ∷ places) [] n d zip lt = absurd zip
-next_step pairs (place ∷ places) (x ∷ steps) zero d zip lt = record { next = x; there = zip.0; are = refl }
-next_step pairs (place ∷ places) (x ∷ steps) (suc n) d zip lt =
+next_step pairs (index ∷ places) [] n d zip lt = absurd zip
+next_step pairs (index ∷ places) (x ∷ steps) zero d zip lt = record { next = x; there = zip.0; are = refl }
+next_step pairs (index ∷ places) (x ∷ steps) (suc n) d zip lt =
     let s = next_step pairs places steps n d zip.1 (omega (arith, lt)) in record { next = s.next; there = s.there; are = s.are }
 
-pub no_more_steps : (pairs : List Pair) (places : List ℕ) (steps : List Pair) (n : ℕ) → AllZip (λ place x. slice_get pairs place ≡ Some x) places steps → length places ≤ n → drop n steps ≡ []
+pub no_more_steps : (pairs : List Pair) (places : List ℕ) (steps : List Pair) (n : ℕ) → AllZip (λ index x. slice_get pairs index ≡ Some x) places steps → length places ≤ n → drop n steps ≡ []
 no_more_steps pairs [] [] n zip past = drop_all n [] (omega arith)
 no_more_steps pairs [] (x ∷ steps) n zip past = absurd zip
-no_more_steps pairs (place ∷ places) [] n zip past = absurd zip
-no_more_steps pairs (place ∷ places) (x ∷ steps) zero zip past = absurd (omega (arith, past))
-no_more_steps pairs (place ∷ places) (x ∷ steps) (suc n) zip past = drop-suc x steps n ∙ no_more_steps pairs places steps n zip.1 (omega (arith, past))
+no_more_steps pairs (index ∷ places) [] n zip past = absurd zip
+no_more_steps pairs (index ∷ places) (x ∷ steps) zero zip past = absurd (omega (arith, past))
+no_more_steps pairs (index ∷ places) (x ∷ steps) (suc n) zip past = drop-suc x steps n ∙ no_more_steps pairs places steps n zip.1 (omega (arith, past))
 
 pub one_pair : (a b : Pair) → Path (_) (Some a) (Some b) → a ≡ b
 one_pair a b e = cc
@@ -107,10 +107,10 @@ path_step p m watched a b c rest now old new whole is same added before =
     ∙ ap (λ xs. old ++ path_lines p m watched (a ∷ xs)) (sym is)
     ∙ before
 
-pub all_inside : (pairs : List Pair) (places : List ℕ) (steps : List Pair) → AllZip (λ place x. slice_get pairs place ≡ Some x) places steps → All (λ place. place < length pairs) places
-all_inside pairs [] steps zip = All-nil (λ place. place < length pairs)
-all_inside pairs (place ∷ places) [] zip = absurd zip
-all_inside pairs (place ∷ places) (x ∷ steps) zip = All-cons (λ place. place < length pairs) place places (slice_get_within pairs place x zip.0) (all_inside pairs places steps zip.1)
+pub all_inside : (pairs : List Pair) (places : List ℕ) (steps : List Pair) → AllZip (λ index x. slice_get pairs index ≡ Some x) places steps → All (λ index. index < length pairs) places
+all_inside pairs [] steps zip = All-nil (λ index. index < length pairs)
+all_inside pairs (index ∷ places) [] zip = absurd zip
+all_inside pairs (index ∷ places) (x ∷ steps) zip = All-cons (λ index. index < length pairs) index places (slice_get_within pairs index x zip.0) (all_inside pairs places steps zip.1)
 
 -- what a move changes
 pub changes_of_move : (p : ProgramModel) (m : MethodModel) (came : Place) (i : Instr) (watched : List ℕ) (before after : List Leaf) (target source : Mention) (next : ℕ) (kept : Bool) → i ≡ instr.Move target source next → list_all (keeps before after) watched ≡ kept

@@ -15,7 +15,7 @@ use Rattle.analyse.specs.Traces.{IsTrace}
 use Rattle.analyse.specs.Verdicts.{HasTooMany, place_of_method, too_many_pairs}
 use Rattle.analyse.specs.declared.analysing.TheConstants.{MOST_PAIRS}
 use Rattle.traces.specs.Lines.{LineModel, line, line_model, path_lines, start_lines}
-use Rattle.traces.specs.Watched.{watched}
+use Rattle.traces.specs.Watched.{variables_of_reason}
 use Rattle.traces.specs.declared.line.Explained.{Explained}
 use Rattle.traces.specs.declared.line.Line.{Line}
 
@@ -33,7 +33,7 @@ explained_model e = explained_as (finding_model e.finding) e.lines.items
 -- the lines of a path from the first pair to where a step of the method fails so
 abbrev pub trace_lines : ProgramModel → MethodModel → Breach → (first : Pair) → (steps : List Pair) → (at : Pair) → List LineModel
 trace_lines p m breach first steps at =
-    let about = watched breach.reason (slice_get (graph_of m).instructions at.0) in
+    let about = variables_of_reason breach.reason (slice_get (graph_of m).instructions at.0) in
     start_lines p m about first.1 ++ path_lines p m about (first ∷ steps)
 
 -- a shortest path leads to where a step fails with the finding, and its lines are told

@@ -38,13 +38,14 @@ pub record IsDirectionAt (parts : Parts) (place : Place) (direction : Direction)
   pub is : message.direction ≡ direction
 
 -- which sign a message takes
-abbrev pub taken : Direction → List ℕ
-taken In = codes "an in message takes ?"
-taken Out = codes "an out message takes !"
+abbrev pub taken_sign_text : Direction → List ℕ
+taken_sign_text In = codes "an in message takes ?"
+taken_sign_text Out = codes "an out message takes !"
 
 -- it is said which sign the message of the edge at the place takes
 abbrev pub HasDirection : Parts → Place → List LineModel → Type 0
-HasDirection parts place lines = (direction : Direction) × IsDirectionAt parts place direction × (lines ≡ line place (taken direction) ∷ [])
+HasDirection parts place lines =
+    (direction : Direction) × IsDirectionAt parts place direction × (lines ≡ line place (taken_sign_text direction) ∷ [])
 
 -- the edge at the place has the message of an earlier one of its state: that is shown
 pub record ShowsEarlier (parts : Parts) (place : Place) (shown : List Edge) : Type 0 where

@@ -13,18 +13,18 @@ endpoints_at (Some (Switch place cases)) = map (λ e. e.variable.0) (first_menti
 endpoints_at _ = []
 
 -- what the reason names, and for a switch with nothing to receive its endpoints
-abbrev pub watched : Reason → Option Instruction → List ℕ
-watched (NotOwned v) at = v.0 ∷ []
-watched (NotSent e message) at = e.0 ∷ []
-watched (WrongFor v e message) at = v.0 ∷ e.0 ∷ []
-watched (WrongForCall v) at = v.0 ∷ []
-watched (NotCovered e message) at = e.0 ∷ []
-watched NothingToReceive at = endpoints_at at
-watched (Overwritten v) at = v.0 ∷ []
-watched (StillOwned v) at = v.0 ∷ []
-watched (NotBack v) at = v.0 ∷ []
-watched (Lent v) at = v.0 ∷ []
-watched (Twice v) at = v.0 ∷ []
-watched (WrongForResult v) at = v.0 ∷ []
-watched NoResult at = []
-watched (WrongForField v) at = v.0 ∷ []
+abbrev pub variables_of_reason : Reason → Option Instruction → List ℕ
+variables_of_reason (NotOwned v) at = v.0 ∷ []
+variables_of_reason (NotSent e message) at = e.0 ∷ []
+variables_of_reason (WrongFor v e message) at = v.0 ∷ e.0 ∷ []
+variables_of_reason (WrongForCall v) at = v.0 ∷ []
+variables_of_reason (NotCovered e message) at = e.0 ∷ []
+variables_of_reason NothingToReceive at = endpoints_at at
+variables_of_reason (Overwritten v) at = v.0 ∷ []
+variables_of_reason (StillOwned v) at = v.0 ∷ []
+variables_of_reason (NotBack v) at = v.0 ∷ []
+variables_of_reason (Lent v) at = v.0 ∷ []
+variables_of_reason (Twice v) at = v.0 ∷ []
+variables_of_reason (WrongForResult v) at = v.0 ∷ []
+variables_of_reason NoResult at = []
+variables_of_reason (WrongForField v) at = v.0 ∷ []

@@ -18,7 +18,8 @@ pub(crate) fn watched_variables(
     reason: Reason,
     at: Option<&Instr>,
 ) -> Result<Vec<VarId>, Memory>
-    ensures { IfOk result (λ them. map (λ v. v.0) them.items ≡ about.watched reason (option_map (λ i. instruction_model i.now) at.entry)) }
+    ensures { IfOk result (λ them. map (λ v. v.0) them.items
+        ≡ about.variables_of_reason reason (option_map (λ i. instruction_model i.now) at.entry)) }
 {
     let mut variables = Vec::new(alloc);
     match reason {

@@ -5,7 +5,7 @@ use Rattle.lemmas.proofs.Lists.{some_of, none_of}
 use Rattle.tree.specs.Operators as levels
 use Rattle.tree.specs.Operators.{Operators, Add, Single, below}
 use Rattle.tree.specs.Expressions.{LevelTree, AtomTree, StepOf, Chain, Done, More}
-use Rattle.tree.specs.Factors.{FactorTree, before_sum, gathered, step_sequence}
+use Rattle.tree.specs.Factors.{FactorTree, before_sum, sum_of_factors, step_sequence}
 use Rattle.tree.specs.declared.expression.FactorOperator.{FactorOperator}
 use Rattle.tree.specs.declared.expression.FactorOperator.TheVariants as operators
 use Rattle.tree.specs.Alone.{lone_atom}
@@ -26,5 +26,5 @@ before_is_more u operators.Times (Chain _ (Chain _ first others) (More _ o x xs)
 before_is_more u (operators.Sum o) (Chain _ first others) = refl
 
 -- a sequence of factors is more than an atom
-pub sequence_is_more : (u : LevelTree Single) (f : FactorTree) (fs : List FactorTree) → None ≡ lone_atom (gathered u (f ∷ fs))
-sequence_is_more u f fs = before_is_more u f.0 (gathered f.1 fs)
+pub sequence_is_more : (u : LevelTree Single) (f : FactorTree) (fs : List FactorTree) → None ≡ lone_atom (sum_of_factors u (f ∷ fs))
+sequence_is_more u f fs = before_is_more u f.0 (sum_of_factors f.1 fs)

@@ -5,8 +5,8 @@ use Rattle.std.specs.Global.{Global}
 use Rattle.source.specs.declared.token.Span.{Span}
 use Rattle.tree.specs.Operators.{Or, And, Equal, Compare, Add, Single, Joined}
 use Rattle.tree.specs.Expressions.{LevelTree, AtomTree, TargetTree, StepOf, Chain, Unary}
-use Rattle.tree.specs.Factors.{FactorTree, gathered, step_sequence}
-use Rattle.tree.specs.ExpressionTrees.{disjunction_tree, conjunction_tree, equality_tree, equality_step_tree, relation_tree, relation_step_tree, sum_tree, factors_tree, factor_tree, unary_tree, prefixed_tree, atom_tree, unmarked}
+use Rattle.tree.specs.Factors.{FactorTree, sum_of_factors, step_sequence}
+use Rattle.tree.specs.ExpressionTrees.{disjunction_tree, conjunction_tree, equality_tree, equality_step_tree, relation_tree, relation_step_tree, sum_tree, factors_tree, factor_tree, unary_tree, prefixed_tree, atom_tree, without_sign}
 use Rattle.tree.specs.ExpressionTrees.{atom_of, expression_of, sum_of, target_of, unary_of, conjunction_of, disjunction_of, element_target_of, equality_of, equality_step_of, factor_of, factors_of, prefixed_of, relation_of, relation_step_of}
 use Rattle.tree.specs.declared.expression.Conjunction as conjunctions
 use Rattle.tree.specs.declared.expression.Disjunction as disjunctions
@@ -21,13 +21,13 @@ use Rattle.tree.specs.declared.expression.Sum as sums
 use Rattle.tree.specs.declared.expression.Sum.TheVariants as sum_variants
 use Rattle.tree.specs.declared.expression.Atom.TheOpen as layer
 
-pub disjunction_model : (x : disjunctions.Disjunction) → disjunction_tree x ≡ Chain Or (conjunction_tree (disjunctions.out-Disjunction x).first) (step_sequence Or (map (unmarked conjunction_tree) (disjunctions.out-Disjunction x).others.items))
+pub disjunction_model : (x : disjunctions.Disjunction) → disjunction_tree x ≡ Chain Or (conjunction_tree (disjunctions.out-Disjunction x).first) (step_sequence Or (map (without_sign conjunction_tree) (disjunctions.out-Disjunction x).others.items))
 disjunction_model x =
     disjunctions.fold_out-Disjunction AtomTree (LevelTree (Joined Or)) (LevelTree (Joined Add)) TargetTree (LevelTree Single) (LevelTree (Joined And)) (LevelTree (Joined Or)) (Span × LevelTree (Joined Or)) (LevelTree (Joined Equal)) (StepOf Equal) FactorTree (LevelTree (Joined Add)) (LevelTree Single) (LevelTree (Joined Compare)) (StepOf Compare)
     atom_of expression_of sum_of target_of unary_of conjunction_of disjunction_of element_target_of equality_of equality_step_of factor_of factors_of prefixed_of relation_of relation_step_of x
     ∙ ap (λ ps. Chain Or (conjunction_tree (disjunctions.out-Disjunction x).first) (step_sequence Or ps)) (map-map (λ y. (tt, y)) conjunction_tree (disjunctions.out-Disjunction x).others.items)
 
-pub conjunction_model : (x : conjunctions.Conjunction) → conjunction_tree x ≡ Chain And (equality_tree (conjunctions.out-Conjunction x).first) (step_sequence And (map (unmarked equality_tree) (conjunctions.out-Conjunction x).others.items))
+pub conjunction_model : (x : conjunctions.Conjunction) → conjunction_tree x ≡ Chain And (equality_tree (conjunctions.out-Conjunction x).first) (step_sequence And (map (without_sign equality_tree) (conjunctions.out-Conjunction x).others.items))
 conjunction_model x =
     conjunctions.fold_out-Conjunction AtomTree (LevelTree (Joined Or)) (LevelTree (Joined Add)) TargetTree (LevelTree Single) (LevelTree (Joined And)) (LevelTree (Joined Or)) (Span × LevelTree (Joined Or)) (LevelTree (Joined Equal)) (StepOf Equal) FactorTree (LevelTree (Joined Add)) (LevelTree Single) (LevelTree (Joined Compare)) (StepOf Compare)
     atom_of expression_of sum_of target_of unary_of conjunction_of disjunction_of element_target_of equality_of equality_step_of factor_of factors_of prefixed_of relation_of relation_step_of x
@@ -63,7 +63,7 @@ factor_model =
     factors.fold_out-Factor AtomTree (LevelTree (Joined Or)) (LevelTree (Joined Add)) TargetTree (LevelTree Single) (LevelTree (Joined And)) (LevelTree (Joined Or)) (Span × LevelTree (Joined Or)) (LevelTree (Joined Equal)) (StepOf Equal) FactorTree (LevelTree (Joined Add)) (LevelTree Single) (LevelTree (Joined Compare)) (StepOf Compare)
     atom_of expression_of sum_of target_of unary_of conjunction_of disjunction_of element_target_of equality_of equality_step_of factor_of factors_of prefixed_of relation_of relation_step_of
 
-pub factors_model : (x : factor_lists.Factors) → factors_tree x ≡ gathered (unary_tree (factor_lists.out-Factors x).first) (factor_tree (factor_lists.out-Factors x).second ∷ map factor_tree (factor_lists.out-Factors x).others.items)
+pub factors_model : (x : factor_lists.Factors) → factors_tree x ≡ sum_of_factors (unary_tree (factor_lists.out-Factors x).first) (factor_tree (factor_lists.out-Factors x).second ∷ map factor_tree (factor_lists.out-Factors x).others.items)
 factors_model =
     factor_lists.fold_out-Factors AtomTree (LevelTree (Joined Or)) (LevelTree (Joined Add)) TargetTree (LevelTree Single) (LevelTree (Joined And)) (LevelTree (Joined Or)) (Span × LevelTree (Joined Or)) (LevelTree (Joined Equal)) (StepOf Equal) FactorTree (LevelTree (Joined Add)) (LevelTree Single) (LevelTree (Joined Compare)) (StepOf Compare)
     atom_of expression_of sum_of target_of unary_of conjunction_of disjunction_of element_target_of equality_of equality_step_of factor_of factors_of prefixed_of relation_of relation_step_of

@@ -3,7 +3,7 @@ use Rattle.std.specs.Prelude.{List, [], ◌∷◌, map, Option}
 use Rattle.source.specs.declared.kind.Kind.TheVariants as kind
 use Rattle.source.specs.declared.token.Span.{Span}
 use Rattle.tree.specs.Symbols.{Symbol}
-use Rattle.tree.specs.Spelling.{word, placed, name, sequence, optional, listed, within, parens}
+use Rattle.tree.specs.Spelling.{word, token_at, name, sequence, optional, comma_list, within, parens}
 use Rattle.tree.specs.Grammar.{scalar_word}
 use Rattle.tree.specs.Expressions.{ExpressionTree, expression, dot_name}
 use Rattle.tree.specs.ExpressionTrees.{expression_tree}
@@ -56,7 +56,7 @@ value_tree (value.New n) = New (new_tree n.value)
 
 -- arguments = "(" [ expression { "," expression } ] ")" .
 abbrev pub arguments : Span × List ExpressionTree → List Symbol
-arguments = parens (listed expression)
+arguments = parens (comma_list expression)
 
 -- call = ID [ "." ID ] arguments .
 abbrev pub call : CallTree → List Symbol
@@ -78,7 +78,7 @@ made_spelling (Array element length) = made_array (element, length)
 -- new = "new" "[" "ExHeap" "]" made .
 abbrev pub new_spelling : NewTree → List Symbol
 new_spelling n =
-    sequence (placed kind.New n.word ∷ word kind.OpenBracket ∷ word kind.ExHeap ∷ word kind.CloseBracket ∷ made_spelling n.made ∷ [])
+    sequence (token_at kind.New n.word ∷ word kind.OpenBracket ∷ word kind.ExHeap ∷ word kind.CloseBracket ∷ made_spelling n.made ∷ [])
 
 -- value = expression | call | new .
 abbrev pub value_spelling : ValueTree → List Symbol

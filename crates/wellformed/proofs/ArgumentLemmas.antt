@@ -7,7 +7,7 @@ use Rattle.source.specs.declared.token.Span.{Span}
 use Rattle.tree.specs.Expressions.{ExpressionTree}
 use Rattle.tree.specs.declared.class.Parameter.{Parameter}
 use Rattle.tree.specs.declared.contract.MessageParameter.{MessageParameter}
-use Rattle.names.specs.Expressions.{type_of, place_of, held, whole_mistakes}
+use Rattle.names.specs.Expressions.{type_of, place_of, variable_type, whole_mistakes}
 use Rattle.declarations.specs.Types.{agree, alike, is_block, type_meant, type_unknown, unless}
 use Rattle.declarations.specs.Program.{ProgramText}
 use Rattle.names.specs.Shapes.{shape}
@@ -24,8 +24,8 @@ use Rattle.resolving.specs.Brought.{held_listed, params_held}
 use Rattle.resolving.specs.Types.{type_held, state_in}
 use Rattle.resolving.specs.Locals.{LocalFrame, mention, mention_of}
 use Rattle.resolving.specs.Methods.{role_of}
-use Rattle.resolving.specs.Plain.{arguments, argument_reads, given, lone, payloads}
-use Rattle.resolving.specs.Reads.{reads, listed}
+use Rattle.resolving.specs.Plain.{arguments, argument_reads, argument_of, lone, payloads}
+use Rattle.resolving.specs.Reads.{reads, mention_list}
 use Rattle.tree.specs.Alone.{lone_name}
 use Rattle.program.specs.Lists.{Each}
 use Rattle.program.specs.WellFormed.{Setting, IsMention, Holds, HoldAll, AreGiven, is_claimed, same_type}
@@ -134,16 +134,16 @@ claimed_role true = refl
 claimed_role false = refl
 
 given_with : (p : ProgramText) (class : ℕ) (s : Setting) (f : LocalFrame) (x : Parameter) (e : ExpressionTree) (o : Option HeapType) (m : Option Mention) (hs : List (HeapType × Role)) (gs : List Argument)
-    → type_held p x.ty ≡ o → lone p class f e ≡ m → GivenFor s (option_map_or (λ k. (k, role_of x) ∷ []) o [] ++ hs) (given x m ++ gs)
-    → GivenFor s (heading p x ++ hs) (given x (lone p class f e) ++ gs)
+    → type_held p x.ty ≡ o → lone p class f e ≡ m → GivenFor s (option_map_or (λ k. (k, role_of x) ∷ []) o [] ++ hs) (argument_of x m ++ gs)
+    → GivenFor s (heading p x ++ hs) (argument_of x (lone p class f e) ++ gs)
 given_with p class s f x e o m hs gs held lone_is h =
-    subst (λ y. GivenFor s (option_map_or (λ k. (k, role_of x) ∷ []) y [] ++ hs) (given x (lone p class f e) ++ gs)) (sym held)
-    (subst (λ y. GivenFor s (option_map_or (λ k. (k, role_of x) ∷ []) o [] ++ hs) (given x y ++ gs)) (sym lone_is) h)
+    subst (λ y. GivenFor s (option_map_or (λ k. (k, role_of x) ∷ []) y [] ++ hs) (argument_of x (lone p class f e) ++ gs)) (sym held)
+    (subst (λ y. GivenFor s (option_map_or (λ k. (k, role_of x) ∷ []) o [] ++ hs) (argument_of x y ++ gs)) (sym lone_is) h)
 
 -- what is given for one parameter, and then what is given for others
 one_given : (p : ProgramText) (class : ℕ) (s : Setting) (f : LocalFrame) (g : names.NameFrame) → AreStanding p s.variables f g → (x : Parameter) (e : ExpressionTree)
     → type_unknown p x.ty ≡ [] → IsAsked p g (type_meant p x.ty) e → (b : Bool) → is_block (type_meant p x.ty) ≡ b
-    → (hs : List (HeapType × Role)) (gs : List Argument) → GivenFor s hs gs → GivenFor s (heading p x ++ hs) (given x (lone p class f e) ++ gs)
+    → (hs : List (HeapType × Role)) (gs : List Argument) → GivenFor s hs gs → GivenFor s (heading p x ++ hs) (argument_of x (lone p class f e) ++ gs)
 one_given p class s f g standing x e known asked false scalar hs gs rest =
     given_with p class s f x e None None hs gs (scalar_holds p (type_meant p x.ty) (state_in x.ty) scalar) (asked_scalar p class s.variables f g standing (type_meant p x.ty) e asked scalar) rest
 one_given p class s f g standing x e known asked true block hs gs rest =
@@ -171,15 +171,15 @@ reads_mentioned p class s f g standing (e ∷ es) = each_append (IsMention s) (r
 
 -- what is given for one parameter of a message, and then what is given for others
 payload_with : (p : ProgramText) (class : ℕ) (s : Setting) (f : LocalFrame) (x : MessageParameter) (e : ExpressionTree) (o : Option HeapType) (m : Option Mention) (ks : List HeapType) (ms : List Mention)
-    → type_held p x.ty ≡ o → lone p class f e ≡ m → HoldAll s (held_listed o ++ ks) (map (λ y. y.variable) (listed m ++ ms))
-    → HoldAll s (held_listed (type_held p x.ty) ++ ks) (map (λ y. y.variable) (listed (lone p class f e) ++ ms))
+    → type_held p x.ty ≡ o → lone p class f e ≡ m → HoldAll s (held_listed o ++ ks) (map (λ y. y.variable) (mention_list m ++ ms))
+    → HoldAll s (held_listed (type_held p x.ty) ++ ks) (map (λ y. y.variable) (mention_list (lone p class f e) ++ ms))
 payload_with p class s f x e o m ks ms held lone_is h =
-    subst (λ y. HoldAll s (held_listed y ++ ks) (map (λ z. z.variable) (listed (lone p class f e) ++ ms))) (sym held)
-    (subst (λ y. HoldAll s (held_listed o ++ ks) (map (λ z. z.variable) (listed y ++ ms))) (sym lone_is) h)
+    subst (λ y. HoldAll s (held_listed y ++ ks) (map (λ z. z.variable) (mention_list (lone p class f e) ++ ms))) (sym held)
+    (subst (λ y. HoldAll s (held_listed o ++ ks) (map (λ z. z.variable) (mention_list y ++ ms))) (sym lone_is) h)
 
 one_payload : (p : ProgramText) (class : ℕ) (s : Setting) (f : LocalFrame) (g : names.NameFrame) → AreStanding p s.variables f g → (x : MessageParameter) (e : ExpressionTree)
     → type_unknown p x.ty ≡ [] → IsAsked p g (type_meant p x.ty) e → (b : Bool) → is_block (type_meant p x.ty) ≡ b
-    → (ks : List HeapType) (ms : List Mention) → HoldAll s ks (map (λ y. y.variable) ms) → HoldAll s (held_listed (type_held p x.ty) ++ ks) (map (λ y. y.variable) (listed (lone p class f e) ++ ms))
+    → (ks : List HeapType) (ms : List Mention) → HoldAll s ks (map (λ y. y.variable) ms) → HoldAll s (held_listed (type_held p x.ty) ++ ks) (map (λ y. y.variable) (mention_list (lone p class f e) ++ ms))
 one_payload p class s f g standing x e known asked false scalar ks ms rest =
     payload_with p class s f x e None None ks ms (scalar_holds p (type_meant p x.ty) (state_in x.ty) scalar) (asked_scalar p class s.variables f g standing (type_meant p x.ty) e asked scalar) rest
 one_payload p class s f g standing x e known asked true block ks ms rest =

@@ -22,7 +22,7 @@ use Rattle.program.specs.declared.method.Role.TheVariants.{Local}
 use Rattle.program.specs.declared.number.VarId.{VarId}
 use Rattle.resolving.specs.Binds.{bind_told, binds_told, bound_as, one_number}
 use Rattle.resolving.specs.Types.{heap_type, state_in, type_held}
-use Rattle.resolving.specs.Locals.{LocalFrame, declared, next_number}
+use Rattle.resolving.specs.Locals.{LocalFrame, with_declaration, next_number}
 use Rattle.program.specs.Lists.{Each}
 use Rattle.program.specs.Scopes.{LeadsOut, InTurn}
 use Rattle.wellformed.proofs.GrowthLemmas.{binds_grow, within_before}
@@ -51,15 +51,15 @@ next_bound p vs name ty (Some held) f after behind bound within rest =
     }
 
 bind_bound : (p : ProgramText) (vs : List VariableModel) (param : Option MessageParameter) (name : Span) (ty : Option type_nodes.Type.Type) (f after : LocalFrame) (behind : names.NameFrame) (bound : List VarId)
-    → Within vs (declared p.text (bound_as p param name ty) f) → Binding p vs (declared p.text (bound_as p param name ty) f) after behind bound
+    → Within vs (with_declaration p.text (bound_as p param name ty) f) → Binding p vs (with_declaration p.text (bound_as p param name ty) f) after behind bound
     → Binding p vs f after behind (one_number (next_number (bound_as p param name ty).held f) ++ bound)
 bind_bound p vs param name (Some t) f after behind bound within rest = next_bound p vs name (type_meant p t) (type_held p t) f after behind bound within rest
 bind_bound p vs param name None f after behind bound within rest = next_bound p vs name (brought_type p param) (heap_type p (brought_type p param) None) f after behind bound within rest
 
 -- A name that a case binds comes into scope. What the message brings for it counts where it is of the exchange heap.
 bind_stands : (p : ProgramText) (vs : List VariableModel) (x : MessageParameter) (name : Span) (ty : Option type_nodes.Type.Type) (f : LocalFrame) (g : names.NameFrame)
-    → type_unknown p x.ty ≡ [] → AreStanding p vs f g → Within vs (declared p.text (bound_as p (Some x) name ty) f) → (typed_turn p (Some x) name ty g).found ≡ []
-    → AreStanding p vs (declared p.text (bound_as p (Some x) name ty) f) (typed_turn p (Some x) name ty g).frame
+    → type_unknown p x.ty ≡ [] → AreStanding p vs f g → Within vs (with_declaration p.text (bound_as p (Some x) name ty) f) → (typed_turn p (Some x) name ty g).found ≡ []
+    → AreStanding p vs (with_declaration p.text (bound_as p (Some x) name ty) f) (typed_turn p (Some x) name ty g).frame
 bind_stands p vs x name (Some t) f g brought standing within none =
     let fits = unless (agree (type_meant p t) (brought_type p (Some x))) name.place (Given (demand.OfType (brought_type p (Some x))) (type_meant p t)) in
     let entered = declared_variable p.text name (type_meant p t) (is_heap t) g in

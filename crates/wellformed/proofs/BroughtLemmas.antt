@@ -22,9 +22,9 @@ use Rattle.program.specs.declared.types as held
 use Rattle.program.specs.declared.method.Role.TheVariants.{Local}
 use Rattle.program.specs.declared.number.VarId.{VarId}
 use Rattle.resolving.specs.Binds.{bind_told, binds_told, bound_as, one_number}
-use Rattle.resolving.specs.Brought.{brought, held_listed, messages_told, params_held}
+use Rattle.resolving.specs.Brought.{payload_types, held_listed, messages_told, params_held}
 use Rattle.resolving.specs.Types.{heap_type, state_in, type_held}
-use Rattle.resolving.specs.Locals.{LocalFrame, declared, next_number, number_of}
+use Rattle.resolving.specs.Locals.{LocalFrame, with_declaration, next_number, number_of}
 use Rattle.program.specs.Lists.{Each}
 use Rattle.program.specs.WellFormed.{HoldAll, Holds, IsType, Setting, same_type}
 use Rattle.wellformed.proofs.GrowthLemmas.{binds_grow, within_before}
@@ -62,7 +62,7 @@ one_holds p s name a k own asked f true block like sure known within ks vs rest 
 
 -- a name that a case binds for this parameter
 bound_holds : (p : ProgramText) (s : Setting) (x : MessageParameter) (name : Span) (ty : Option type_nodes.Type.Type) (f : LocalFrame) (g : names.NameFrame) → IsKnown p (type_meant p x.ty)
-    → Within s.variables (declared p.text (bound_as p (Some x) name ty) f) → (typed_turn p (Some x) name ty g).found ≡ [] → (ks : List held.HeapType.HeapType) (vs : List VarId) → HoldAll s ks vs
+    → Within s.variables (with_declaration p.text (bound_as p (Some x) name ty) f) → (typed_turn p (Some x) name ty g).found ≡ [] → (ks : List held.HeapType.HeapType) (vs : List VarId) → HoldAll s ks vs
     → HoldAll s (held_listed (type_held p x.ty) ++ ks) (one_number (next_number (bound_as p (Some x) name ty).held f) ++ vs)
 bound_holds p s x name (Some t) f g known within none ks vs rest =
     let k = type_meant p x.ty in
@@ -101,7 +101,7 @@ params_types : (p : ProgramText) (params : List MessageParameter) → Each (IsTy
 params_types p [] = tt
 params_types p (x ∷ params) = each_append (IsType (resolved_contracts p.text (contracts_of p.items))) (held_listed (type_held p x.ty)) (params_held p params) (types_meant p x.ty (type_held p x.ty) refl) (params_types p params)
 
-messages_types : (p : ProgramText) (messages : List MessageTree) → Each (Each (IsType (resolved_contracts p.text (contracts_of p.items)))) (map (brought p) messages)
+messages_types : (p : ProgramText) (messages : List MessageTree) → Each (Each (IsType (resolved_contracts p.text (contracts_of p.items)))) (map (payload_types p) messages)
 messages_types p [] = tt
 messages_types p (m ∷ messages) = (params_types p m.params, messages_types p messages)
 

@@ -8,7 +8,7 @@ use Rattle.tree.specs.Expressions.{ExpressionTree}
 use Rattle.tree.specs.Trees.{ClassTree, MethodTree}
 use Rattle.tree.specs.Values.{CallTree}
 use Rattle.tree.specs.declared.types as tree
-use Rattle.names.specs.Expressions.{held, variable_mistakes}
+use Rattle.names.specs.Expressions.{variable_type, variable_mistakes}
 use Rattle.declarations.specs.declared.mistake.Mistake.TheVariants.{Unknown}
 use Rattle.declarations.specs.declared.mistake.NameSort.TheVariants as sort
 use Rattle.declarations.specs.declared.mistake.Mismatch.TheVariants.{Given}
@@ -25,7 +25,7 @@ use Rattle.resolving.specs.Types.{result_held}
 use Rattle.resolving.specs.Locals.{Local, LocalFrame, local_named}
 use Rattle.resolving.specs.Messages.{contract_of, end_contract, message_sent}
 use Rattle.resolving.specs.Methods.{method_told}
-use Rattle.resolving.specs.Plain.{call_of, send_told, sent, sent_by}
+use Rattle.resolving.specs.Plain.{call_of, send_told, send_for, sent_by}
 use Rattle.program.specs.Lists.{Each}
 use Rattle.program.specs.WellFormed.{Setting, IsCallOf, IsMention, IsTarget, parameters}
 use Rattle.wellformed.proofs.ArgumentLemmas.{arguments_given, given_parameters, reads_mentioned}
@@ -111,7 +111,7 @@ class_call p class f g role c word Is fits member free n t there (Some m) found 
       many = x.many;
       given = x.given;
       fits = x.fits;
-      no_send = ap (option_and_then (sent_by p class f c)) member ∙ ap (λ o. option_and_then (sent p class f c word) (option_and_then (λ k. message_sent p k word) o)) (no_end p f.locals c.name free);
+      no_send = ap (option_and_then (sent_by p class f c)) member ∙ ap (λ o. option_and_then (send_for p class f c word) (option_and_then (λ k. message_sent p k word) o)) (no_end p f.locals c.name free);
     }
 
 named_call : (p : ProgramText) (class : ℕ) (f : LocalFrame) (g : names.NameFrame) (role : _) (c : CallTree) (word : Span) (Is : MethodTree → Type 0)
@@ -133,7 +133,7 @@ member_means p t class result s f g role c word Is fits around standing member N
 member_means p t class result s f g role c word Is fits around standing member (Some l) local none =
     let meant_is = ap (λ vs. variable_named p.text vs c.name) (sym standing.same) ∙ same_named p.text f.locals c.name ∙ ap (option_map named) local in
     let found : variable_mistakes (scope_of p g) c.name ≡ [] = ap (λ o. if is_some o then [] else Unknown c.name (sort.Variable (length g.variables)) ∷ []) meant_is in
-    let known = subst (IsKnown p) (ap held meant_is) (held_known p s.variables f g c.name standing found) in
+    let known = subst (IsKnown p) (ap variable_type meant_is) (held_known p s.variables f g c.name standing found) in
     inr (local_call p t class result s f g role c word around standing member l local meant_is known l.ty refl none)
 
 front_means : (p : ProgramText) (t : ClassTree) (class : ℕ) (result : Option tree.Type.Type) (s : Setting) (f : LocalFrame) (g : names.NameFrame) (role : _) (c : CallTree) (Is : MethodTree → Type 0)

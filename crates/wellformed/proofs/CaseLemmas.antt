@@ -11,7 +11,7 @@ use Rattle.tree.specs.declared.statement.Awaited.{Awaited}
 use Rattle.tree.specs.declared.statement.Awaited.TheVariants.{Closed, Message}
 use Rattle.names.specs.Bodies.{Surroundings, case_turn, cases_turn, head_of, heads_of, scope_in}
 use Rattle.names.specs.Cases.{Head, awaits_closed, endpoint_head_mistakes, head_mistakes, is_closed, type_head_mistakes, lack_mistakes, names_endpoint, other_awaited_mistakes, same_name}
-use Rattle.names.specs.Expressions.{InScope, held, meant, variable_mistakes}
+use Rattle.names.specs.Expressions.{InScope, variable_type, variable_of, variable_mistakes}
 use Rattle.tables.specs.Firsts.{first_of}
 use Rattle.declarations.specs.declared.mistake.Mistake.{Mistake}
 use Rattle.declarations.specs.declared.mistake.Mistake.TheVariants.{LacksClosed}
@@ -93,8 +93,8 @@ heads_close : (p : ProgramText) (vs : List VariableModel) (f : LocalFrame) (g : 
     → HeadsClean p g all before heads → Each (HasClose p.text all) heads
 heads_close p vs f g all before [] standing close clean = tt
 heads_close p vs f g all before (h ∷ heads) standing close clean =
-    let parts = both_none (variable_mistakes (scope_of p g) h.endpoint) (type_head_mistakes (scope_of p g) all before (held (meant (scope_of p g) h.endpoint)) h) clean.0 in
-    let lack = no_lack p (scope_of p g) all before h (held (meant (scope_of p g) h.endpoint)) (held_known p vs f g h.endpoint standing parts.0) parts.1 in
+    let parts = both_none (variable_mistakes (scope_of p g) h.endpoint) (type_head_mistakes (scope_of p g) all before (variable_type (variable_of (scope_of p g) h.endpoint)) h) clean.0 in
+    let lack = no_lack p (scope_of p g) all before h (variable_type (variable_of (scope_of p g) h.endpoint)) (held_known p vs f g h.endpoint standing parts.0) parts.1 in
     let told = nothing_lacks (names_endpoint p.text h.endpoint before || awaits_closed p.text h.endpoint all) (LacksClosed h.endpoint) lack in
     let here : HasClose p.text all h = ⊎_elim
     (λ named. named_closes p.text all before h.endpoint close named)

@@ -9,7 +9,7 @@ use Rattle.tree.specs.declared.statement as made
 use Rattle.tree.specs.declared.types as type_nodes
 use Rattle.program.specs.declared.types.Side.{Side}
 use Rattle.names.specs.Bodies.{channel_mistakes, ends_mistakes, is_end_of, new_ends_mistakes, same_end}
-use Rattle.names.specs.Expressions.{held, meant, variable_mistakes}
+use Rattle.names.specs.Expressions.{variable_type, variable_of, variable_mistakes}
 use Rattle.declarations.specs.Types.{is_block, is_silent, unless}
 use Rattle.program.specs.Types.{same_side}
 use Rattle.declarations.specs.Program.{Numbered, ProgramText}
@@ -22,7 +22,7 @@ use Rattle.program.specs.declared.types.HeapType.TheVariants.{Endpoint}
 use Rattle.program.specs.declared.statement.Action.TheVariants as does
 use Rattle.resolving.specs.Types.{contract_named, contract_number, number_at}
 use Rattle.resolving.specs.Locals.{number_of, LocalFrame, mention, mention_of}
-use Rattle.resolving.specs.Plain.{channel, channel_of, ends_of}
+use Rattle.resolving.specs.Plain.{channel_or_nothing, channel_action, ends_of}
 use Rattle.program.specs.Scopes.{IsInScope}
 use Rattle.program.specs.WellFormed.{IsAction, Setting, are_ends}
 use Rattle.wellformed.proofs.ContractLemmas.{contract_is_at}
@@ -77,10 +77,10 @@ channel_contract p contract c side named known =
 
 found_fits : (p : ProgramText) (class : ℕ) (s : Setting) (f : LocalFrame) (g : names.NameFrame) (n : made.NewChannel.NewChannel) (c : Numbered ContractTree) → items.contract_named p n.contract ≡ Some c
     → s.scope ≡ last_of f → AreStanding p s.variables f g → variable_mistakes (scope_of p g) n.first ≡ [] → variable_mistakes (scope_of p g) n.second ≡ []
-    → ends_mistakes c.0 (held (meant (scope_of p g) n.first)) (held (meant (scope_of p g) n.second)) n.first n.second ≡ [] → IsAction s (channel p class f n)
+    → ends_mistakes c.0 (variable_type (variable_of (scope_of p g) n.first)) (variable_type (variable_of (scope_of p g) n.second)) n.first n.second ≡ [] → IsAction s (channel_or_nothing p class f n)
 found_fits p class s f g n c named here standing first second none =
-    let a = held (meant (scope_of p g) n.first) in
-    let b = held (meant (scope_of p g) n.second) in
+    let a = variable_type (variable_of (scope_of p g) n.first) in
+    let b = variable_type (variable_of (scope_of p g) n.second) in
     let known_a = held_known p s.variables f g n.first standing first in
     let known_b = held_known p s.variables f g n.second standing second in
     let other = not (is_end_of c.0 a && same_end a b) in
@@ -97,10 +97,10 @@ found_fits p class s f g n c named here standing first second none =
     let apart = subst (λ k. not (is_end_of c.0 k && same_end k (ty.Endpoint end_b.side c.0)) ≡ true) end_a.is (subst (λ k. not (is_end_of c.0 a && same_end a k) ≡ true) end_b.is differ) in
     let ends = ends_fit p c.0 end_a.side end_b.side v.variable.ty w.variable.ty holds_v holds_w apart in
     let contract = channel_contract p n.contract c end_a.side named (subst (IsKnown p) end_a.is known_a) in
-    let mentions : channel_of p class f n (contract_number p c.0) ≡ Some (ends_of p class f n.word.place (contract_number p c.0) (mention_of n.first v.number) (mention_of n.second w.number)) =
+    let mentions : channel_action p class f n (contract_number p c.0) ≡ Some (ends_of p class f n.word.place (contract_number p c.0) (mention_of n.first v.number) (mention_of n.second w.number)) =
     ap (option_and_then (λ m. option_map (ends_of p class f n.word.place (contract_number p c.0) m) (mention p.text f.locals n.second))) v.is
     ∙ ap (option_map (ends_of p class f n.word.place (contract_number p c.0) (mention_of n.first v.number))) w.is in
-    let found = ap (option_and_then (channel_of p class f n)) contract ∙ mentions in
+    let found = ap (option_and_then (channel_action p class f n)) contract ∙ mentions in
     subst (λ o. IsAction s (option_map_or (λ x. x) o does.Nothing)) (sym found) (
       (subst (λ o. IsInScope s.variables o (number_of v.number)) (sym here) v.inside, subst (λ o. IsInScope s.variables o (number_of w.number)) (sym here) w.inside),
       subst (λ o. IsSomeAnd o (λ x. IsSomeAnd (slice_get s.variables w.number) (λ y. are_ends (contract_number p c.0).0 x.ty y.ty ≡ true))) (sym v.there)
@@ -109,13 +109,13 @@ found_fits p class s f g n c named here standing first second none =
 
 named_fits : (p : ProgramText) (class : ℕ) (s : Setting) (f : LocalFrame) (g : names.NameFrame) (n : made.NewChannel.NewChannel) (o : Option (Numbered ContractTree)) → items.contract_named p n.contract ≡ o
     → s.scope ≡ last_of f → AreStanding p s.variables f g → variable_mistakes (scope_of p g) n.first ≡ [] → variable_mistakes (scope_of p g) n.second ≡ []
-    → new_ends_mistakes (scope_of p g) o n.contract n.first n.second ≡ [] → IsAction s (channel p class f n)
+    → new_ends_mistakes (scope_of p g) o n.contract n.first n.second ≡ [] → IsAction s (channel_or_nothing p class f n)
 named_fits p class s f g n None named here standing first second none = cc
 named_fits p class s f g n (Some c) named here standing first second none = found_fits p class s f g n c named here standing first second none
 
 -- a new channel
 pub channel_fits : (p : ProgramText) (t : ClassTree) (class : ℕ) (result : Option type_nodes.Type.Type) (s : Setting) (f : LocalFrame) (g : names.NameFrame) (n : made.NewChannel.NewChannel)
-    → Around p t class result s → s.scope ≡ last_of f → AreStanding p s.variables f g → channel_mistakes (scope_of p g) n.contract n.first n.second ≡ [] → IsAction s (channel p class f n)
+    → Around p t class result s → s.scope ≡ last_of f → AreStanding p s.variables f g → channel_mistakes (scope_of p g) n.contract n.first n.second ≡ [] → IsAction s (channel_or_nothing p class f n)
 channel_fits p t class result s f g n around here standing none =
     let named = items.contract_named p n.contract in
     let ends = new_ends_mistakes (scope_of p g) named n.contract n.first n.second in

@@ -16,7 +16,7 @@ use Rattle.declarations.specs.Resolution.{each_behind, message_count, messages_f
 use Rattle.declarations.specs.Named.{message_written, sent_message}
 use Rattle.tables.specs.Words.{same_word, word_at, words_at}
 use Rattle.program.specs.declared.number.MessageId.{MessageId}
-use Rattle.resolving.specs.Brought.{brought, messages_told}
+use Rattle.resolving.specs.Brought.{payload_types, messages_told}
 use Rattle.resolving.specs.Counts.{contracts_before}
 use Rattle.resolving.specs.Types.{contract_at, state_of}
 use Rattle.resolving.specs.Messages.{Meant, message_named, message_number, message_sent, message_there}
@@ -91,7 +91,7 @@ state_at r index (Some s) is first = record { index = index; state = s; there = 
 
 state_placed : (r : ContractModel) (o : Option ℕ) → IsStateOf r r.parts.first → IsStateOf r (option_map_or (λ s. s) (option_map (λ s. s.id) (option_and_then (slice_get r.parts.states) o)) r.parts.first)
 state_placed r None first = first
-state_placed r (Some place) first = state_at r place (slice_get r.parts.states place) refl first
+state_placed r (Some index) first = state_at r index (slice_get r.parts.states index) refl first
 
 state_meant : (p : ProgramText) (n : ℕ) (r : ContractModel) (state : Option Span) → IsStateOf r r.parts.first → IsStateOf r (state_of p n r state)
 state_meant p n r None first = first
@@ -109,16 +109,16 @@ pub record AnswersMessage (p : ProgramText) (n : ℕ) (o : Option Meant) (m : Me
   pub is : o ≡ Some meant
   pub message : meant.message ≡ m
   pub of : (r : ContractModel) → contract_at p n ≡ Some r → IsMessageOf r meant.id
-  pub brings : slice_get (messages_told p) meant.id.0 ≡ Some (brought p m)
+  pub brings : slice_get (messages_told p) meant.id.0 ≡ Some (payload_types p m)
 
 -- what it brings stands at its number
 brought_there : (p : ProgramText) (n k : ℕ) (c : ContractTree) (m : MessageTree) → (at : IsContractAt p n c) → slice_get (messages_of c) k ≡ Some m
-    → slice_get (messages_told p) (message_count at.before + k) ≡ Some (brought p m)
+    → slice_get (messages_told p) (message_count at.before + k) ≡ Some (payload_types p m)
 brought_there p n k c m at there =
     let rest = flat_map messages_of at.rest in
     let all = ap (flat_map messages_of) at.split ∙ flat_map-append messages_of at.before (c ∷ at.rest) in
     let found = ap (λ ms. slice_get ms (message_count at.before + k)) all ∙ slice_behind (flat_map messages_of at.before) (messages_of c ++ rest) k ∙ slice_front (messages_of c) rest k m there in
-    slice_get-map (brought p) (flat_map messages_of (contracts_of p.items)) (message_count at.before + k) ∙ ap (option_map (brought p)) found
+    slice_get-map (payload_types p) (flat_map messages_of (contracts_of p.items)) (message_count at.before + k) ∙ ap (option_map (payload_types p)) found
 
 -- a message at its place among those of its contract
 record IsNumbered (text : List ℕ) (first : ℕ) (messages : List MessageTree) (k : ℕ) (m : MessageTree) : Type 0 where

@@ -9,7 +9,7 @@ use Rattle.tree.specs.declared.statement as made
 use Rattle.tree.specs.declared.types as type_nodes
 use Rattle.names.specs.Bodies.{exchange_mistakes, exchanged_type, holder_mistakes}
 use Rattle.declarations.specs.Declarations.{first_among}
-use Rattle.names.specs.Expressions.{field_mistakes, field_type, held, meant, struct_field_type, variable_mistakes}
+use Rattle.names.specs.Expressions.{field_mistakes, field_type, variable_type, variable_of, struct_field_type, variable_mistakes}
 use Rattle.declarations.specs.declared.mistake.Mistake.TheVariants.{Unknown}
 use Rattle.declarations.specs.declared.mistake.NameSort.TheVariants as sort
 use Rattle.declarations.specs.declared.mistake.Demand.TheVariants as demand
@@ -30,7 +30,7 @@ use Rattle.resolving.specs.Counts.{structs_before}
 use Rattle.resolving.specs.Fields.{field_number, fields_held, owning_before, structs_told}
 use Rattle.resolving.specs.Types.{state_in}
 use Rattle.resolving.specs.Locals.{LocalFrame, Local, local_named, mention, mention_of, number_of}
-use Rattle.resolving.specs.Plain.{exchange_by, exchange_found, exchange_of, exchanged}
+use Rattle.resolving.specs.Plain.{exchange_by, exchange_found, exchange_of, exchange_or_nothing}
 use Rattle.wellformed.proofs.FieldLemmas.{field_at, fields_clean, types_of_struct}
 use Rattle.wellformed.proofs.FindingLemmas.{none_said, unless_none}
 use Rattle.wellformed.proofs.HeapTypeLemmas.{HasStruct, Holding, agree_alike, alike_block, alike_held, block_holds, known_loud, loud_left, pointer_held, scalar_holds, struct_known, struct_of, type_known}
@@ -41,23 +41,23 @@ use Rattle.wellformed.proofs.Standing.{Around, AreStanding, IsHeld, IsKnown, las
 
 -- a field that owns: where it stands in its struct, and what it holds
 record IsField (p : ProgramText) (s : StructTree) (field : Span) : Type 0 where
-  place : ℕ
+  index : ℕ
   tree : Field
-  first : first_among p.text (map (λ (f : Field). f.name) s.fields) field ≡ Some place
-  at : slice_get s.fields place ≡ Some tree
+  first : first_among p.text (map (λ (f : Field). f.name) s.fields) field ≡ Some index
+  at : slice_get s.fields index ≡ Some tree
   holding : Holding p (type_meant p tree.ty) (state_in tree.ty)
   known : IsKnown p (type_meant p tree.ty)
 
 -- the field of a name
-named_field : (p : ProgramText) (g : names.NameFrame) (s : StructTree) (field : Span) (place : Option ℕ) (f : Option Field) → Each (λ x. type_unknown p x.ty ≡ []) s.fields
-    → first_among p.text (map (λ (x : Field). x.name) s.fields) field ≡ place → option_and_then (slice_get s.fields) place ≡ f → is_some f ≡ true
+named_field : (p : ProgramText) (g : names.NameFrame) (s : StructTree) (field : Span) (index : Option ℕ) (f : Option Field) → Each (λ x. type_unknown p x.ty ≡ []) s.fields
+    → first_among p.text (map (λ (x : Field). x.name) s.fields) field ≡ index → option_and_then (slice_get s.fields) index ≡ f → is_some f ≡ true
     → (is_silent (struct_field_type (scope_of p g) f) || is_block (struct_field_type (scope_of p g) f)) ≡ true → IsField p s field
 named_field p g s field None f known first at there fits = cc
 named_field p g s field (Some k) None known first at there fits = cc
 named_field p g s field (Some k) (Some f) known first at there fits =
     let sure = type_known p f.ty (each_there (λ x. type_unknown p x.ty ≡ []) s.fields k f known at) in
     let block = loud_left (is_silent (type_meant p f.ty)) (is_block (type_meant p f.ty)) (known_loud p (type_meant p f.ty) sure) fits in
-    record { place = k; tree = f; first = first; at = at; holding = block_holds p (type_meant p f.ty) (state_in f.ty) sure block; known = sure }
+    record { index = k; tree = f; first = first; at = at; holding = block_holds p (type_meant p f.ty) (state_in f.ty) sure block; known = sure }
 
 -- so where nothing is wrong with what is exchanged, the variable before the dot has a pointer, and the field owns
 record IsHolder (p : ProgramText) (g : names.NameFrame) (k : declared.ValueType.ValueType) (field : Span) : Type 0 where
@@ -77,12 +77,12 @@ pointer_holder : (p : ProgramText) (g : names.NameFrame) (n : ℕ) (name field :
 pointer_holder p g n name field clean known none fits =
     let has : HasStruct p n = struct_known p n known in
     let s = has.tree in
-    let place = first_among p.text (map (λ (x : Field). x.name) s.fields) field in
-    let named = option_and_then (slice_get s.fields) place in
+    let index = first_among p.text (map (λ (x : Field). x.name) s.fields) field in
+    let named = option_and_then (slice_get s.fields) index in
     let none_there = sym (ap (λ o. option_map_or (λ (x : ℕ × StructTree). if is_some (option_and_then (slice_get x.1.fields) (first_among p.text (map (λ (y : Field). y.name) x.1.fields) field)) then [] else Unknown field (sort.Field n) ∷ []) o []) has.is) ∙ none in
     let type_is = ap (λ o. option_map_or (λ (x : ℕ × StructTree). struct_field_type (scope_of p g) (option_and_then (slice_get x.1.fields) (first_among p.text (map (λ (y : Field). y.name) x.1.fields) field))) o ty.Unknown) has.is in
     let block = subst (λ k. (is_silent k || is_block k) ≡ true) type_is fits in
-    let f = named_field p g s field place named (clean s has.is) refl refl (none_said (is_some named) (Unknown field (sort.Field n)) none_there) block in
+    let f = named_field p g s field index named (clean s has.is) refl refl (none_said (is_some named) (Unknown field (sort.Field n)) none_there) block in
     record {
       number = n;
       tree = s;
@@ -106,15 +106,15 @@ holder_is p g ty.Unknown name field clean known none = absurd known
 
 -- the number of the field, and what its struct has there
 field_numbered : (p : ProgramText) (n : ℕ) (s : StructTree) (field : Span) (f : IsField p s field) → item_at as_struct p n ≡ Some (n, s)
-    → field_number p (ty.Pointer n) field ≡ Some (length (fields_held p (take f.place s.fields)))
+    → field_number p (ty.Pointer n) field ≡ Some (length (fields_held p (take f.index s.fields)))
 field_numbered p n s field f there =
     ap (option_and_then (owning_before p field)) there ∙ ap (option_map (λ k. length (fields_held p (take k s.fields)))) f.first
 
 held_there : (p : ProgramText) (n : ℕ) (s : StructTree) (field : Span) (f : IsField p s field) → item_at as_struct p n ≡ Some (n, s)
-    → slice_get (field_types (structs_told p) (struct_of (structs_before p.items n))) (length (fields_held p (take f.place s.fields))) ≡ Some f.holding.held
+    → slice_get (field_types (structs_told p) (struct_of (structs_before p.items n))) (length (fields_held p (take f.index s.fields))) ≡ Some f.holding.held
 held_there p n s field f there =
-    ap (λ ks. slice_get ks (length (fields_held p (take f.place s.fields)))) (types_of_struct p n s there)
-    ∙ field_at p s.fields f.place f.tree f.holding.held f.at f.holding.is
+    ap (λ ks. slice_get ks (length (fields_held p (take f.index s.fields)))) (types_of_struct p n s there)
+    ∙ field_at p s.fields f.index f.tree f.holding.held f.at f.holding.is
 
 -- what holds something is of the exchange heap
 held_block : (p : ProgramText) (t : type_nodes.Type.Type) → Holding p (type_meant p t) (state_in t) → is_block (type_meant p t) ≡ true
@@ -129,12 +129,12 @@ held_block p t h = by (is_block (type_meant p t)) refl
 
 -- what an exchange comes to
 exchange_is : (p : ProgramText) (class : ℕ) (f : LocalFrame) (g : names.NameFrame) (vs : List VariableModel) (e : made.Exchange.Exchange) → AreStanding p vs f g → variable_mistakes (scope_of p g) e.holder ≡ [] → (n number : ℕ)
-    → held (meant (scope_of p g) e.holder) ≡ ty.Pointer n → field_number p (ty.Pointer n) e.field ≡ Some number → (v w : Mention) → mention p.text f.locals e.holder ≡ Some v → mention p.text f.locals e.given ≡ Some w
+    → variable_type (variable_of (scope_of p g) e.holder) ≡ ty.Pointer n → field_number p (ty.Pointer n) e.field ≡ Some number → (v w : Mention) → mention p.text f.locals e.holder ≡ Some v → mention p.text f.locals e.given ≡ Some w
     → exchange_found p class f e ≡ Some (exchange_of p class f e number v w)
 exchange_is p class f g vs e standing none n number is numbered v w holder given =
     let m : IsMeant p vs f g e.holder = meant_stands p vs f g e.holder standing none in
     let l = m.local in
-    let same : l.ty ≡ ty.Pointer n = sym (ap held m.meant_is) ∙ is in
+    let same : l.ty ≡ ty.Pointer n = sym (ap variable_type m.meant_is) ∙ is in
     let field : option_and_then (λ (x : Local). field_number p x.ty e.field) (local_named p.text f.locals e.holder) ≡ Some number =
     ap (option_and_then (λ (x : Local). field_number p x.ty e.field)) m.is ∙ ap (λ k. field_number p k e.field) same ∙ numbered in
     ap (option_and_then (exchange_by p class f e)) field
@@ -144,7 +144,7 @@ exchange_is p class f g vs e standing none n number is numbered v w holder given
 -- an exchange of a variable and of what a field holds, which are of one type
 action_fits : (p : ProgramText) (class : ℕ) (s : Setting) (f : LocalFrame) (e : made.Exchange.Exchange) (number : ℕ) (inside : HeapType) (v w : ℕ) (x y : VariableModel)
     → exchange_found p class f e ≡ Some (exchange_of p class f e number (mention_of e.holder v) (mention_of e.given w)) → slice_get s.variables v ≡ Some x → slice_get s.variables w ≡ Some y
-    → IsInScope s.variables s.scope (number_of w) → slice_get (field_types s.structs x.ty) number ≡ Some inside → same_type y.ty inside ≡ true → IsAction s (exchanged p class f e)
+    → IsInScope s.variables s.scope (number_of w) → slice_get (field_types s.structs x.ty) number ≡ Some inside → same_type y.ty inside ≡ true → IsAction s (exchange_or_nothing p class f e)
 action_fits p class s f e number inside v w x y found holder given scope types same =
     subst (λ o. IsAction s (option_map_or (λ a. a) o does.Nothing)) (sym found) (
       scope,
@@ -154,10 +154,10 @@ action_fits p class s f e number inside v w x y found holder given scope types s
 
 -- an exchange
 pub exchange_fits : (p : ProgramText) (t : ClassTree) (class : ℕ) (result : Option type_nodes.Type.Type) (s : Setting) (f : LocalFrame) (g : names.NameFrame) (e : made.Exchange.Exchange)
-    → Around p t class result s → s.scope ≡ last_of f → AreStanding p s.variables f g → exchange_mistakes (scope_of p g) e ≡ [] → IsAction s (exchanged p class f e)
+    → Around p t class result s → s.scope ≡ last_of f → AreStanding p s.variables f g → exchange_mistakes (scope_of p g) e ≡ [] → IsAction s (exchange_or_nothing p class f e)
 exchange_fits p t class result s f g e around here standing none =
-    let k = held (meant (scope_of p g) e.holder) in
-    let a = held (meant (scope_of p g) e.given) in
+    let k = variable_type (variable_of (scope_of p g) e.holder) in
+    let a = variable_type (variable_of (scope_of p g) e.given) in
     let asked = exchanged_type (scope_of p g) k e.field in
     let fits = unless (agree a asked) e.given.place (Given (demand.OfType asked) a) in
     let first = both_none (variable_mistakes (scope_of p g) e.holder) (holder_mistakes (scope_of p g) k e.holder e.field ++ (variable_mistakes (scope_of p g) e.given ++ fits)) none in
@@ -172,7 +172,7 @@ exchange_fits p t class result s f g e around here standing none =
     let block = alike_block a field_type_is like in
     let w = block_mentioned p s.variables f g e.given standing third.0 (block ∙ held_block p part.tree.ty part.holding) in
     let same = alike_held p a field_type_is w.variable.ty part.holding.held like w.holds (record { state = state_in part.tree.ty; is = part.holding.is }) in
-    let number = length (fields_held p (take part.place holder.tree.fields)) in
+    let number = length (fields_held p (take part.index holder.tree.fields)) in
     let struct_is = pointer_held p holder.number v.variable.ty (subst (λ x. IsHeld p x v.variable.ty) holder.is v.holds) in
     let types = ap (λ l. slice_get (field_types l v.variable.ty) number) around.structs_are
     ∙ ap (λ x. slice_get (field_types (structs_told p) x) number) struct_is ∙ held_there p holder.number holder.tree e.field part holder.there in

@@ -12,7 +12,7 @@ use Rattle.tree.specs.declared.class as made
 use Rattle.tree.specs.declared.types as type_nodes
 use Rattle.tree.specs.declared.types.Type.TheVariants as type
 use Rattle.program.specs.declared.types.Scalar.TheVariants as scalar
-use Rattle.names.specs.Expressions.{type_of, place_of, held, meant, expression_mistakes, whole_mistakes, field_type, field_mistakes, struct_field_type, is_length, is_owning, owns, element_type, element_mistakes, variable_mistakes, mention_mistakes, asked_number, sign_asked, left_asked, right_asked, signed_type, joined_type}
+use Rattle.names.specs.Expressions.{type_of, place_of, variable_type, variable_of, expression_mistakes, whole_mistakes, field_type, field_mistakes, struct_field_type, is_length, is_owning, owns, element_type, element_mistakes, variable_mistakes, mention_mistakes, asked_number, sign_asked, left_asked, right_asked, signed_type, joined_type}
 use Rattle.declarations.specs.Named.{field_named}
 use Rattle.declarations.specs.declared.mistake.Mistake.TheVariants.{Unknown}
 use Rattle.declarations.specs.declared.mistake.NameSort.TheVariants as sort
@@ -26,7 +26,7 @@ use Rattle.declarations.specs.declared.value_type.ValueType.TheVariants as ty
 use Rattle.program.specs.Methods.{VariableModel}
 use Rattle.program.specs.declared.statement.Mention.{Mention}
 use Rattle.resolving.specs.Locals.{LocalFrame, mention}
-use Rattle.resolving.specs.Reads.{reads, step_reads, atom_reads, target_reads, listed}
+use Rattle.resolving.specs.Reads.{reads, step_reads, atom_reads, target_reads, mention_list}
 use Rattle.tree.specs.Alone.{lone_name}
 use Rattle.program.specs.Lists.{Each}
 use Rattle.names.proofs.WholeNames.{not_lone}
@@ -38,7 +38,7 @@ use Rattle.wellformed.proofs.Standing.{IsKnown, AreStanding, scope_of}
 
 -- Each block that an expression reads is a variable of the method.
 listed_within : (p : ProgramText) (vs : List VariableModel) (f : LocalFrame) (g : names.NameFrame) → AreStanding p vs f g → (name : Span) (o : Option Mention) → mention p.text f.locals name ≡ o
-    → Each (λ m. m.variable.0 < length vs) (listed o)
+    → Each (λ m. m.variable.0 < length vs) (mention_list o)
 listed_within p vs f g standing name None is = tt
 listed_within p vs f g standing name (Some m) is = (mention_within p vs f g name m standing is, tt)
 
@@ -64,7 +64,7 @@ mutual
   target_within p vs f g standing (trees.Variable name) = tt
   target_within p vs f g standing (trees.Field name field) = listed_within p vs f g standing name (mention p.text f.locals name) refl
   target_within p vs f g standing (trees.Element name index) =
-      each_append (λ m. m.variable.0 < length vs) (listed (mention p.text f.locals name)) (reads p.text f.locals index) (listed_within p vs f g standing name (mention p.text f.locals name) refl) (level_within p vs f g standing index)
+      each_append (λ m. m.variable.0 < length vs) (mention_list (mention p.text f.locals name)) (reads p.text f.locals index) (listed_within p vs f g standing name (mention p.text f.locals name) refl) (level_within p vs f g standing index)
 
 pub reads_within : (p : ProgramText) (vs : List VariableModel) (f : LocalFrame) (g : names.NameFrame) → AreStanding p vs f g
     → {l : Level} → (e : LevelTree l) → Each (λ m. m.variable.0 < length vs) (reads p.text f.locals e)
@@ -137,10 +137,10 @@ joined_counted : (joint : _) → (is_number (joined_type joint) || is_truth (joi
 joined_counted joint = grind arith
 
 mention_scalar : (p : ProgramText) (vs : List VariableModel) (f : LocalFrame) (g : names.NameFrame) → AreStanding p vs f g → (name : Span) → mention_mistakes (scope_of p g) name ≡ []
-    → IsKnown p (held (meant (scope_of p g) name)) × (is_block (held (meant (scope_of p g) name)) ≡ false)
+    → IsKnown p (variable_type (variable_of (scope_of p g) name)) × (is_block (variable_type (variable_of (scope_of p g) name)) ≡ false)
 mention_scalar p vs f g standing name none =
-    let both = both_none (variable_mistakes (scope_of p g) name) (unless (not (is_block (held (meant (scope_of p g) name)))) name.place _) none in
-    (held_known p vs f g name standing both.0, not-true (is_block (held (meant (scope_of p g) name))) (unless_none _ (not (is_block (held (meant (scope_of p g) name)))) name.place both.1))
+    let both = both_none (variable_mistakes (scope_of p g) name) (unless (not (is_block (variable_type (variable_of (scope_of p g) name)))) name.place _) none in
+    (held_known p vs f g name standing both.0, not-true (is_block (variable_type (variable_of (scope_of p g) name))) (unless_none _ (not (is_block (variable_type (variable_of (scope_of p g) name)))) name.place both.1))
 
 -- so is an expression with operators, numbers, fields and the like
 pub expression_scalar : (p : ProgramText) (vs : List VariableModel) (f : LocalFrame) (g : names.NameFrame) → AreStanding p vs f g
@@ -150,14 +150,14 @@ expression_scalar p vs f g standing (shapes.Truth place) none = (tt, refl)
 expression_scalar p vs f g standing (shapes.Mention name) none = mention_scalar p vs f g standing name none
 expression_scalar p vs f g standing (shapes.Field name field) none =
     let s = scope_of p g in
-    let k = held (meant s name) in
+    let k = variable_type (variable_of s name) in
     let both = both_none (variable_mistakes s name) (field_mistakes s k name field ++ unless (not (owns s k field)) name.place _) none in
     let inner = both_none (field_mistakes s k name field) (unless (not (owns s k field)) name.place _) both.1 in
     let own = not-true (owns s k field) (unless_none _ (not (owns s k field)) name.place inner.1) in
     field_scalar p g k name field (held_known p vs f g name standing both.0) inner.0 own
 expression_scalar p vs f g standing (shapes.Element name index) none =
     let s = scope_of p g in
-    let k = held (meant s name) in
+    let k = variable_type (variable_of s name) in
     let first = both_none (expression_mistakes s index) (asked_number (type_of s index) (place_of index) ++ (variable_mistakes s name ++ element_mistakes k name)) none in
     let second = both_none (asked_number (type_of s index) (place_of index)) (variable_mistakes s name ++ element_mistakes k name) first.1 in
     let third = both_none (variable_mistakes s name) (element_mistakes k name) second.1 in
@@ -184,7 +184,7 @@ whole_known p vs f g standing e none = (expression_scalar p vs f g standing e no
 pub record IsLone (p : ProgramText) (vs : List VariableModel) (f : LocalFrame) (g : names.NameFrame) (e : ExpressionTree) : Type 0 where
   pub name : Span
   pub is : lone_name e ≡ Some name
-  pub ty : type_of (scope_of p g) (shape e) ≡ held (meant (scope_of p g) name)
+  pub ty : type_of (scope_of p g) (shape e) ≡ variable_type (variable_of (scope_of p g) name)
   pub mentioned : IsMentioned p vs f g name
 
 lone_by : (p : ProgramText) (vs : List VariableModel) (f : LocalFrame) (g : names.NameFrame) → AreStanding p vs f g → (e : ExpressionTree) (x : Shape) → shape e ≡ x

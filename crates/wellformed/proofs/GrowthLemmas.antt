@@ -18,7 +18,7 @@ use Rattle.program.specs.declared.method.Role.{Role}
 use Rattle.program.specs.declared.method.Role.TheVariants.{Local}
 use Rattle.resolving.specs.Binds.{bind_told, binds_told, bound_as}
 use Rattle.resolving.specs.Types.{heap_type, state_in, type_held}
-use Rattle.resolving.specs.Locals.{LocalFrame, closed, declared, number_of}
+use Rattle.resolving.specs.Locals.{LocalFrame, after_block, with_declaration, number_of}
 use Rattle.resolving.specs.Told.{Staying, stays_here, in_switch, behind_case, awaited_message, awaited_params, statement_told, statements_told, block_told, test_told, others_told, case_told, cases_told}
 use Rattle.program.specs.Scopes.{AreNested}
 use Rattle.wellformed.proofs.ListLemmas.{each_append}
@@ -79,7 +79,7 @@ held_grows : (p : ProgramText) (name : Span) (ty : ValueType) (state : Option Sp
 held_grows p name ty state None is f = same_grows p f _ refl
 held_grows p name ty state (Some held) is f = record { more = _ ∷ []; is = refl; local = (record { is = refl; ty = ty; held = record { state = state; is = is } }, tt) }
 
-bind_grows : (p : ProgramText) (param : Option contract_nodes.MessageParameter.MessageParameter) (name : Span) (ty : Option type_nodes.Type.Type) (f : LocalFrame) → Grows p f (declared p.text (bound_as p param name ty) f)
+bind_grows : (p : ProgramText) (param : Option contract_nodes.MessageParameter.MessageParameter) (name : Span) (ty : Option type_nodes.Type.Type) (f : LocalFrame) → Grows p f (with_declaration p.text (bound_as p param name ty) f)
 bind_grows p param name (Some t) f = held_grows p name (type_meant p t) (state_in t) (type_held p t) refl f
 bind_grows p param name None f = held_grows p name (brought_type p param) None (heap_type p (brought_type p param) None) refl f
 
@@ -88,7 +88,7 @@ binds_grow p params [] f = same_grows p f f refl
 binds_grow p [] (b ∷ binds) f = grows_then p f _ _ (bind_grows p None b.name b.ty f) (binds_grow p [] binds (bind_told p None b f).frame)
 binds_grow p (x ∷ params) (b ∷ binds) f = grows_then p f _ _ (bind_grows p (Some x) b.name b.ty f) (binds_grow p params binds (bind_told p (Some x) b f).frame)
 
-bind_nests : (p : ProgramText) (param : Option contract_nodes.MessageParameter.MessageParameter) (name : Span) (ty : Option type_nodes.Type.Type) (f : LocalFrame) → Nests f → Nests (declared p.text (bound_as p param name ty) f)
+bind_nests : (p : ProgramText) (param : Option contract_nodes.MessageParameter.MessageParameter) (name : Span) (ty : Option type_nodes.Type.Type) (f : LocalFrame) → Nests f → Nests (with_declaration p.text (bound_as p param name ty) f)
 bind_nests p param name (Some t) f n = declared_nests p.text name (type_meant p t) (type_held p t) Local f n
 bind_nests p param name None f n = declared_nests p.text name (brought_type p param) (heap_type p (brought_type p param) None) Local f n
 
@@ -98,7 +98,7 @@ binds_nest p [] (b ∷ binds) f n = binds_nest p [] binds (bind_told p None b f)
 binds_nest p (x ∷ params) (b ∷ binds) f n = binds_nest p params binds (bind_told p (Some x) b f).frame (bind_nests p (Some x) b.name b.ty f n)
 
 -- behind a block, the last one in scope is again the one before it
-closed_nests : (p : ProgramText) (f after : LocalFrame) → Nests f → Grows p f after → Nests after → Nests (closed f after)
+closed_nests : (p : ProgramText) (f after : LocalFrame) → Nests f → Grows p f after → Nests after → Nests (after_block f after)
 closed_nests p f after before grows inside = record { nested = inside.nested; last = still_below f.variables grows.more after.variables f.last grows.is before.last }
 
 module _ (p : ProgramText) (class : ℕ) where

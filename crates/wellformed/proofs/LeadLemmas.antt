@@ -8,7 +8,7 @@ use Rattle.program.specs.Scopes as scopes
 use Rattle.program.specs.Scopes.{AreNested, GoesBack, GrowsBy, LeadsOut, outer_of, outward}
 use Rattle.program.specs.declared.method.Role.TheVariants as roles
 use Rattle.program.specs.declared.number.VarId.{VarId}
-use Rattle.resolving.specs.Locals.{forget, forgotten, number_of, same_last}
+use Rattle.resolving.specs.Locals.{forget, forget_of, number_of, same_last}
 
 pub leads_here : (vs : List VariableModel) (a : Option VarId) → LeadsOut vs a a
 leads_here vs a = record { steps = 0; is = refl }
@@ -60,7 +60,7 @@ last_apart last None apart same = cc
 last_apart last (Some n) apart same = let is : last ≡ n = ap (λ x. option_map_or (λ v. v.0) x 0) same in let equal = eq-eqb last n is in cc
 
 back_unless : (place : Place) (outer : Option ℕ) (last : ℕ) (same : Bool) → same_last last outer ≡ same
-    → GoesBack (Some (number_of last)) (option_map number_of outer) (if same then None else Some (forgotten place outer last))
+    → GoesBack (Some (number_of last)) (option_map number_of outer) (if same then None else Some (forget_of place outer last))
 back_unless place outer last true is = last_alike last outer is
 back_unless place outer last false is = (last_apart last outer is, (refl, refl))
 

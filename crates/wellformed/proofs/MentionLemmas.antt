@@ -4,7 +4,7 @@ use Rattle.std.proofs.lemmas.Option.{option_and_then_some, slice_get_within}
 use Rattle.std.specs.Prelude.{Option, None, Some, is_some, slice_get, option_map, option_and_then, IsSomeAnd}
 use Rattle.source.specs.declared.token.Span.{Span}
 use Rattle.declarations.specs.Declarations.{first_among}
-use Rattle.names.specs.Expressions.{held, meant, variable_mistakes}
+use Rattle.names.specs.Expressions.{variable_type, variable_of, variable_mistakes}
 use Rattle.declarations.specs.declared.mistake.Mistake.TheVariants.{Unknown}
 use Rattle.declarations.specs.declared.mistake.NameSort.TheVariants as sort
 use Rattle.declarations.specs.Types.{is_block}
@@ -26,7 +26,7 @@ use Rattle.wellformed.proofs.Standing.{IsKnown, IsHeld, IsInside, IsNumbered, Ar
 pub record IsMeant (p : ProgramText) (vs : List VariableModel) (f : LocalFrame) (g : names.NameFrame) (name : Span) : Type 0 where
   pub local : Local
   pub is : local_named p.text f.locals name ≡ Some local
-  pub meant_is : meant (scope_of p g) name ≡ Some (record { name = local.name; ty = local.ty })
+  pub meant_is : variable_of (scope_of p g) name ≡ Some (record { name = local.name; ty = local.ty })
   pub stands : Stands p vs (last_of f) local
 
 -- what holds of each variable in scope holds of one that a name means
@@ -37,11 +37,11 @@ local_stands p vs f g name l standing is =
 
 -- what a name means among the names and types in scope is what it means among the variables
 meant_as : (p : ProgramText) (vs : List VariableModel) (f : LocalFrame) (g : names.NameFrame) (name : Span) → AreStanding p vs f g
-    → meant (scope_of p g) name ≡ option_map named (local_named p.text f.locals name)
+    → variable_of (scope_of p g) name ≡ option_map named (local_named p.text f.locals name)
 meant_as p vs f g name standing = ap (λ variables. variable_named p.text variables name) (sym standing.same) ∙ same_named p.text f.locals name
 
 meant_by : (p : ProgramText) (vs : List VariableModel) (f : LocalFrame) (g : names.NameFrame) (name : Span) (o : Option Local) → AreStanding p vs f g
-    → local_named p.text f.locals name ≡ o → meant (scope_of p g) name ≡ option_map named o → variable_mistakes (scope_of p g) name ≡ [] → IsMeant p vs f g name
+    → local_named p.text f.locals name ≡ o → variable_of (scope_of p g) name ≡ option_map named o → variable_mistakes (scope_of p g) name ≡ [] → IsMeant p vs f g name
 meant_by p vs f g name None standing is means none =
     let wrong : Unknown name (sort.Variable (length g.variables)) ∷ [] ≡ [] = subst (λ (o : Option names.ScopeVariable). (if is_some o then [] else Unknown name (sort.Variable (length g.variables)) ∷ []) ≡ []) means none in
     absurd (cc)
@@ -53,10 +53,10 @@ meant_stands p vs f g name standing none = meant_by p vs f g name (local_named p
 
 -- so its type is known
 pub held_known : (p : ProgramText) (vs : List VariableModel) (f : LocalFrame) (g : names.NameFrame) (name : Span) → AreStanding p vs f g
-    → variable_mistakes (scope_of p g) name ≡ [] → IsKnown p (held (meant (scope_of p g) name))
+    → variable_mistakes (scope_of p g) name ≡ [] → IsKnown p (variable_type (variable_of (scope_of p g) name))
 held_known p vs f g name standing none =
     let m = meant_stands p vs f g name standing none in
-    subst (λ o. IsKnown p (held o)) (sym m.meant_is) m.stands.known
+    subst (λ o. IsKnown p (variable_type o)) (sym m.meant_is) m.stands.known
 
 -- a name of the exchange heap is a mention of a variable that holds what its type says
 pub record IsMentioned (p : ProgramText) (vs : List VariableModel) (f : LocalFrame) (g : names.NameFrame) (name : Span) : Type 0 where
@@ -64,7 +64,7 @@ pub record IsMentioned (p : ProgramText) (vs : List VariableModel) (f : LocalFra
   pub variable : VariableModel
   pub is : mention p.text f.locals name ≡ Some (mention_of name number)
   pub there : slice_get vs number ≡ Some variable
-  pub holds : IsHeld p (held (meant (scope_of p g) name)) variable.ty
+  pub holds : IsHeld p (variable_type (variable_of (scope_of p g) name)) variable.ty
   pub inside : IsInScope vs (last_of f) (number_of number)
 
 -- its number decides whether it is a mention
@@ -85,10 +85,10 @@ numbered_by : {last : Option VarId} → (p : ProgramText) (vs : List VariableMod
 numbered_by p vs l n number stands = numbered_there p vs l.ty n (slice_get vs n) refl (subst (IsNumbered p vs l.ty) number stands.numbered)
 
 mentioned_by : (p : ProgramText) (vs : List VariableModel) (f : LocalFrame) (g : names.NameFrame) (name : Span) (m : IsMeant p vs f g name) (o : Option ℕ) → m.local.number ≡ o
-    → is_block (held (meant (scope_of p g) name)) ≡ true → IsMentioned p vs f g name
+    → is_block (variable_type (variable_of (scope_of p g) name)) ≡ true → IsMentioned p vs f g name
 mentioned_by p vs f g name m None number block =
     let scalar : is_block m.local.ty ≡ false = subst (IsNumbered p vs m.local.ty) number m.stands.numbered in
-    let same : is_block (held (meant (scope_of p g) name)) ≡ is_block m.local.ty = ap (λ o. is_block (held o)) m.meant_is in
+    let same : is_block (variable_type (variable_of (scope_of p g) name)) ≡ is_block m.local.ty = ap (λ o. is_block (variable_type o)) m.meant_is in
     absurd (cc)
 mentioned_by p vs f g name m (Some n) number block =
     let v = numbered_by p vs m.local n number m.stands in
@@ -97,12 +97,12 @@ mentioned_by p vs f g name m (Some n) number block =
       variable = v.variable;
       is = mention_by p.text f name m.local (Some n) m.is number;
       there = v.there;
-      holds = subst (λ o. IsHeld p (held o) v.variable.ty) (sym m.meant_is) v.holds;
+      holds = subst (λ o. IsHeld p (variable_type o) v.variable.ty) (sym m.meant_is) v.holds;
       inside = subst (IsInside vs (last_of f)) number m.stands.inside;
     }
 
 pub block_mentioned : (p : ProgramText) (vs : List VariableModel) (f : LocalFrame) (g : names.NameFrame) (name : Span) → AreStanding p vs f g
-    → variable_mistakes (scope_of p g) name ≡ [] → is_block (held (meant (scope_of p g) name)) ≡ true → IsMentioned p vs f g name
+    → variable_mistakes (scope_of p g) name ≡ [] → is_block (variable_type (variable_of (scope_of p g) name)) ≡ true → IsMentioned p vs f g name
 block_mentioned p vs f g name standing none block =
     let m = meant_stands p vs f g name standing none in
     mentioned_by p vs f g name m m.local.number refl block
@@ -117,10 +117,10 @@ scalar_numbered p vs l (Some n) number stands scalar =
 
 -- a scalar is no mention
 pub scalar_not_mentioned : (p : ProgramText) (vs : List VariableModel) (f : LocalFrame) (g : names.NameFrame) (name : Span) → AreStanding p vs f g
-    → variable_mistakes (scope_of p g) name ≡ [] → is_block (held (meant (scope_of p g) name)) ≡ false → mention p.text f.locals name ≡ None
+    → variable_mistakes (scope_of p g) name ≡ [] → is_block (variable_type (variable_of (scope_of p g) name)) ≡ false → mention p.text f.locals name ≡ None
 scalar_not_mentioned p vs f g name standing none scalar =
     let m = meant_stands p vs f g name standing none in
-    mention_by p.text f name m.local None m.is (scalar_numbered p vs m.local m.local.number refl m.stands (ap (λ o. is_block (held o)) (sym m.meant_is) ∙ scalar))
+    mention_by p.text f name m.local None m.is (scalar_numbered p vs m.local m.local.number refl m.stands (ap (λ o. is_block (variable_type o)) (sym m.meant_is) ∙ scalar))
 
 -- whatever is mentioned is a variable of the method
 number_within : {last : Option VarId} → (p : ProgramText) (vs : List VariableModel) (l : Local) (n : ℕ) → l.number ≡ Some n → Stands p vs last l → n < length vs

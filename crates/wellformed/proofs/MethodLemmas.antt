@@ -22,7 +22,7 @@ use Rattle.program.specs.declared.method.Role.{Role}
 use Rattle.resolving.specs.Brought.{messages_told}
 use Rattle.resolving.specs.Fields.{structs_told}
 use Rattle.resolving.specs.Types.{heap_type, result_held, state_in, type_held}
-use Rattle.resolving.specs.Locals.{LocalFrame, declared, declared_as, number_of}
+use Rattle.resolving.specs.Locals.{LocalFrame, with_declaration, declared_as, number_of}
 use Rattle.resolving.specs.Methods.{body_told, method_told, methods_told, no_variables, parameter_declaration, parameters_frame, role_of, takes_some}
 use Rattle.resolving.specs.Told.{stays_here}
 use Rattle.program.specs.Lists.{Each}
@@ -46,11 +46,11 @@ use Rattle.wellformed.proofs.StatementLemmas.{statements_go}
 -- the parameters of a method come into scope
 params_within : (p : ProgramText) (params : List Parameter) (f : LocalFrame) (vs : List VariableModel) → Within vs (parameters_frame p params f) → Within vs f
 params_within p [] f vs within = within
-params_within p (x ∷ params) f vs within = declared_within p.text x.name (type_meant p x.ty) (type_held p x.ty) (role_of x) f vs (params_within p params (declared p.text (parameter_declaration p x) f) vs within)
+params_within p (x ∷ params) f vs within = declared_within p.text x.name (type_meant p x.ty) (type_held p x.ty) (role_of x) f vs (params_within p params (with_declaration p.text (parameter_declaration p x) f) vs within)
 
 params_nest : (p : ProgramText) (params : List Parameter) (f : LocalFrame) → Nests f → Nests (parameters_frame p params f)
 params_nest p [] f n = n
-params_nest p (x ∷ params) f n = params_nest p params (declared p.text (parameter_declaration p x) f) (declared_nests p.text x.name (type_meant p x.ty) (type_held p x.ty) (role_of x) f n)
+params_nest p (x ∷ params) f n = params_nest p params (with_declaration p.text (parameter_declaration p x) f) (declared_nests p.text x.name (type_meant p x.ty) (type_held p x.ty) (role_of x) f n)
 
 params_stand : (p : ProgramText) (params : List Parameter) (vs : List VariableModel) (f : LocalFrame) (g : names.NameFrame) → AreStanding p vs f g → Within vs (parameters_frame p params f)
     → (parameters_turn p params g).found ≡ [] → AreStanding p vs (parameters_frame p params f) (parameters_turn p params g).frame
@@ -61,8 +61,8 @@ params_stand p (x ∷ params) vs f g standing within none =
     let both = both_none next.found (parameters_turn p params next.frame).found none in
     let unknown = both_none (type_unknown p x.ty) (names.declared_variable p.text x.name (type_meant p x.ty) (is_heap x.ty) g).found both.0 in
     let known = type_known p x.ty unknown.0 in
-    let after = declared_stands p vs x.name (type_meant p x.ty) (type_held p x.ty) (role_of x) (is_heap x.ty) f g (heap_block p x.ty unknown.0) known (held_as p (type_meant p x.ty) (state_in x.ty) known) standing (params_within p params (declared p.text d f) vs within) unknown.1 in
-    params_stand p params vs (declared p.text d f) next.frame after within both.1
+    let after = declared_stands p vs x.name (type_meant p x.ty) (type_held p x.ty) (role_of x) (is_heap x.ty) f g (heap_block p x.ty unknown.0) known (held_as p (type_meant p x.ty) (state_in x.ty) known) standing (params_within p params (with_declaration p.text d f) vs within) unknown.1 in
+    params_stand p params vs (with_declaration p.text d f) next.frame after within both.1
 
 -- what a program's variables hold stands for something
 abbrev contracts : ProgramText → List ContractModel
@@ -80,7 +80,7 @@ params_types : (p : ProgramText) (params : List Parameter) (f : LocalFrame) → 
 params_types p [] f all = all
 params_types p (x ∷ params) f all =
     let d = parameter_declaration p x in
-    params_types p params (declared p.text d f) (declared_type p x.name (type_meant p x.ty) (role_of x) (state_in x.ty) (type_held p x.ty) f refl all)
+    params_types p params (with_declaration p.text d f) (declared_type p x.name (type_meant p x.ty) (role_of x) (state_in x.ty) (type_held p x.ty) f refl all)
 
 local_types : (p : ProgramText) (vs : List VariableModel) → Each (IsLocal p) vs → AreTypes p vs
 local_types p [] all = tt
@@ -135,8 +135,8 @@ params_in_scope : (p : ProgramText) (params : List Parameter) (vs : List Variabl
 params_in_scope p [] vs f within all = all
 params_in_scope p (x ∷ params) vs f within all =
     let d = parameter_declaration p x in
-    let next = declared_in_scope p vs x.name (type_meant p x.ty) (type_held p x.ty) (role_of x) f (params_within p params (declared p.text d f) vs within) all in
-    params_in_scope p params vs (declared p.text d f) within next
+    let next = declared_in_scope p vs x.name (type_meant p x.ty) (type_held p x.ty) (role_of x) f (params_within p params (with_declaration p.text d f) vs within) all in
+    params_in_scope p params vs (with_declaration p.text d f) within next
 
 -- what stands behind the parameters of a method is none
 no_parameter : (p : ProgramText) (more : List VariableModel) (n : ℕ) (v : VariableModel) → Each (IsLocal p) more → slice_get more n ≡ Some v → is_parameter v.role ≡ true → ⊥
@@ -160,7 +160,7 @@ no_parameters p class [] b n v true none there is =
     absurd (omega (arith, before))
 
 pub all_bare : (p : ProgramText) → Each IsBare (methods_told p)
-all_bare p = every_method IsBare p (λ class c m place there at. λ none n v is. no_parameters p class m.params m.body n v (is_parameter v.role) none is refl)
+all_bare p = every_method IsBare p (λ class c m index there at. λ none n v is. no_parameters p class m.params m.body n v (is_parameter v.role) none is refl)
 
 result_type : (p : ProgramText) (t : Option tree.Type.Type) (o : Option HeapType) → result_held p t ≡ o → IfSome o (IsType (contracts p))
 result_type p t None is = tt
@@ -168,9 +168,9 @@ result_type p None (Some held) is = cc
 result_type p (Some t) (Some held) is = held_type p (type_meant p t) held (record { state = state_in t; is = is })
 
 -- a method of a class
-method_fits : (p : ProgramText) (class : ℕ) (c : ClassTree) (m : MethodTree) (place : ℕ) → program_mistakes p ≡ [] → item_at as_class p class ≡ Some (class, c) → slice_get c.methods place ≡ Some m
+method_fits : (p : ProgramText) (class : ℕ) (c : ClassTree) (m : MethodTree) (index : ℕ) → program_mistakes p ≡ [] → item_at as_class p class ≡ Some (class, c) → slice_get c.methods index ≡ Some m
     → IsWellFormed (contracts p) (messages_told p) (structs_told p) (methods_told p) (method_told p class m)
-method_fits p class c m place clean there at =
+method_fits p class c m index clean there at =
     let seen = method_told p class m in
     let vs = seen.variables in
     let opened = parameters_frame p m.params no_variables in
@@ -178,7 +178,7 @@ method_fits p class c m place clean there at =
     let s = setting (contracts p) (messages_told p) (structs_told p) (methods_told p) seen begins in
     let after = (body_told p class m.body opened).frame in
     let start : names.NameFrame = record { variables = []; heap = 0 } in
-    let turns = method_clean p class c m place clean there at in
+    let turns = method_clean p class c m index clean there at in
     let next = parameters_turn p m.params start in
     let both = both_none (result_unknown p m.result) (next.found ++ (block_turn (surrounds p c m.result) m.body next.frame).found) turns in
     let halves = both_none next.found (block_turn (surrounds p c m.result) m.body next.frame).found both.1 in
@@ -211,5 +211,5 @@ pub well_formed : (p : ProgramText) → program_mistakes p ≡ [] → AreWellFor
 well_formed p clean = record {
   messages_are = brought_types p;
   structs_are = fields_types p clean;
-  methods_are = every_method (IsWellFormed (contracts p) (messages_told p) (structs_told p) (methods_told p)) p (λ class c m place there at. method_fits p class c m place clean there at);
+  methods_are = every_method (IsWellFormed (contracts p) (messages_told p) (structs_told p) (methods_told p)) p (λ class c m index there at. method_fits p class c m index clean there at);
 }

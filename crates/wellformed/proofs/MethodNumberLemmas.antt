@@ -11,7 +11,7 @@ use Rattle.declarations.specs.ItemMistakes.{methods_in}
 use Rattle.declarations.specs.Program.{ProgramText, Numbered, as_class, as_contract, as_struct, class_named, item_at, item_names}
 use Rattle.declarations.specs.Named.{method_named}
 use Rattle.program.specs.Methods.{MethodModel}
-use Rattle.resolving.specs.Callees.{NumberedMethod, all_methods, method_at, method_of, methods_before, numbered}
+use Rattle.resolving.specs.Callees.{NumberedMethod, all_methods, method_at, method_of, methods_before, numbered_method}
 use Rattle.resolving.specs.Methods.{item_told, methods_told, method_told}
 use Rattle.program.specs.Lists.{Each}
 use Rattle.wellformed.proofs.ListLemmas.{each_append}
@@ -88,57 +88,57 @@ abbrev told_from : ProgramText → ℕ → List ItemTree → List MethodModel
 told_from p n items = flat_map (item_told p) (enumerate_from n items)
 
 -- a method of an item, among those of all items
-told_at : (p : ProgramText) (n : ℕ) (items : List ItemTree) (class place : ℕ) (i : ItemTree) (m : MethodTree) → slice_get items class ≡ Some i → slice_get (methods_in i.definition) place ≡ Some m
-    → slice_get (told_from p n items) (methods_before items class + place) ≡ Some (method_told p (n + class) m)
-told_at p n [] class place i m there at = cc
-told_at p n (x ∷ items) zero place i m there at =
+told_at : (p : ProgramText) (n : ℕ) (items : List ItemTree) (class index : ℕ) (i : ItemTree) (m : MethodTree) → slice_get items class ≡ Some i → slice_get (methods_in i.definition) index ≡ Some m
+    → slice_get (told_from p n items) (methods_before items class + index) ≡ Some (method_told p (n + class) m)
+told_at p n [] class index i m there at = cc
+told_at p n (x ∷ items) zero index i m there at =
     let same : x ≡ i = cc in
     let own = methods_in x.definition in
-    let within : slice_get own place ≡ Some m = ap (λ y. slice_get (methods_in y.definition) place) same ∙ at in
-    let seen = slice_get-map (method_told p n) own place ∙ ap (option_map (method_told p n)) within in
-    let first : 0 + place ≡ place = omega arith in
+    let within : slice_get own index ≡ Some m = ap (λ y. slice_get (methods_in y.definition) index) same ∙ at in
+    let seen = slice_get-map (method_told p n) own index ∙ ap (option_map (method_told p n)) within in
+    let first : 0 + index ≡ index = omega arith in
     let here : n ≡ n + 0 = omega arith in
     ap (slice_get (told_from p n (x ∷ items))) first
-    ∙ slice_front (map (method_told p n) own) (told_from p (n + 1) items) place (method_told p n m) seen
+    ∙ slice_front (map (method_told p n) own) (told_from p (n + 1) items) index (method_told p n m) seen
     ∙ ap (λ k. Some (method_told p k m)) here
-told_at p n (x ∷ items) (suc class) place i m there at =
+told_at p n (x ∷ items) (suc class) index i m there at =
     let own = methods_in x.definition in
     let seen = map (method_told p n) own in
     let behind = told_from p (n + 1) items in
-    let many : methods_before (x ∷ items) (suc class) + place ≡ length seen + (methods_before items class + place) =
+    let many : methods_before (x ∷ items) (suc class) + index ≡ length seen + (methods_before items class + index) =
     omega (arith, length-append own (all_methods (take class items)), length-map own (method_told p n)) in
     let on : n + 1 + class ≡ n + suc class = omega arith in
-    ap (slice_get (seen ++ behind)) many ∙ slice_behind seen behind (methods_before items class + place) ∙ told_at p (n + 1) items class place i m there at ∙ ap (λ k. Some (method_told p k m)) on
+    ap (slice_get (seen ++ behind)) many ∙ slice_behind seen behind (methods_before items class + index) ∙ told_at p (n + 1) items class index i m there at ∙ ap (λ k. Some (method_told p k m)) on
 
 -- a method of a class, by its number
-method_is : (p : ProgramText) (class place : ℕ) (c : ClassTree) (m : MethodTree) → item_at as_class p class ≡ Some (class, c) → slice_get c.methods place ≡ Some m
-    → IsMethod p m (methods_before p.items class + place)
-method_is p class place c m there at =
+method_is : (p : ProgramText) (class nth : ℕ) (c : ClassTree) (m : MethodTree) → item_at as_class p class ≡ Some (class, c) → slice_get c.methods nth ≡ Some m
+    → IsMethod p m (methods_before p.items class + nth)
+method_is p class nth c m there at =
     let d = class_item p class c there in
-    let within : slice_get (methods_in d.item.definition) place ≡ Some m = ap (λ x. slice_get (methods_in x) place) d.is ∙ at in
+    let within : slice_get (methods_in d.item.definition) nth ≡ Some m = ap (λ x. slice_get (methods_in x) nth) d.is ∙ at in
     let on : 0 + class ≡ class = omega arith in
     record {
       class = class;
       tree = c;
       there = there;
-      index = place;
+      index = nth;
       at = at;
-      told = told_at p 0 p.items class place d.item m d.at within ∙ ap (λ k. Some (method_told p k m)) on;
+      told = told_at p 0 p.items class nth d.item m d.at within ∙ ap (λ k. Some (method_told p k m)) on;
     }
 
 answers_at : (p : ProgramText) (class : ℕ) (c : ClassTree) (m : MethodTree) (o : Option ℕ) → item_at as_class p class ≡ Some (class, c) → option_and_then (slice_get c.methods) o ≡ Some m
-    → Answers p (option_and_then (numbered (methods_before p.items class) c.methods) o) m
+    → Answers p (option_and_then (numbered_method (methods_before p.items class) c.methods) o) m
 answers_at p class c m None there named = cc
-answers_at p class c m (Some place) there named =
+answers_at p class c m (Some index) there named =
     let before = methods_before p.items class in
-    record { number = before + place; is = ap (option_map (λ x. record { number = before + place; method = x })) named; method = method_is p class place c m there named }
+    record { number = before + index; is = ap (option_map (λ x. record { number = before + index; method = x })) named; method = method_is p class index c m there named }
 
 -- the first method of this name in a class
 abbrev place_in : ProgramText → ClassTree → Span → Option ℕ
 place_in p c name = first_among p.text (map (λ m. m.name) c.methods) name
 
 abbrev callee_in : ProgramText → ℕ → Span → Option (Numbered ClassTree) → Option NumberedMethod
-callee_in p class name o = option_and_then (λ c. option_and_then (numbered (methods_before p.items class) c.1.methods) (place_in p c.1 name)) o
+callee_in p class name o = option_and_then (λ c. option_and_then (numbered_method (methods_before p.items class) c.1.methods) (place_in p c.1 name)) o
 
 pub method_answers : (p : ProgramText) (class : ℕ) (c : ClassTree) (name : Span) (m : MethodTree) → item_at as_class p class ≡ Some (class, c)
     → method_named p.text c name ≡ Some m → Answers p (method_at p class name) m
@@ -165,17 +165,17 @@ each_told P p n (x ∷ items) each =
 
 -- the methods of an item
 item_methods : (P : MethodModel → Type 0) (p : ProgramText) (class : ℕ) (i : ItemTree) (d : DefinitionTree)
-    → ((c : ClassTree) (m : MethodTree) (place : ℕ) → item_at as_class p class ≡ Some (class, c) → slice_get c.methods place ≡ Some m → P (method_told p class m))
+    → ((c : ClassTree) (m : MethodTree) (index : ℕ) → item_at as_class p class ≡ Some (class, c) → slice_get c.methods index ≡ Some m → P (method_told p class m))
     → slice_get p.items class ≡ Some i → i.definition ≡ d → Each P (map (method_told p class) (methods_in d))
 item_methods P p class i (Contract c) each at is = tt
 item_methods P p class i (Struct s) each at is = tt
 item_methods P p class i (Class c) each at is =
     let there : item_at as_class p class ≡ Some (class, c) = ap (looked_up as_class class) at ∙ ap (λ d. numbered_as class (as_class d)) is in
-    each_mapped P (method_told p class) c.methods (each_placed (λ m. P (method_told p class m)) c.methods (λ place m. each c m place there))
+    each_mapped P (method_told p class) c.methods (each_placed (λ m. P (method_told p class m)) c.methods (λ index m. each c m index there))
 
 -- each method of a program is a method of a class
 pub every_method : (P : MethodModel → Type 0) (p : ProgramText)
-    → ((class : ℕ) (c : ClassTree) (m : MethodTree) (place : ℕ) → item_at as_class p class ≡ Some (class, c) → slice_get c.methods place ≡ Some m → P (method_told p class m))
+    → ((class : ℕ) (c : ClassTree) (m : MethodTree) (index : ℕ) → item_at as_class p class ≡ Some (class, c) → slice_get c.methods index ≡ Some m → P (method_told p class m))
     → Each P (methods_told p)
 every_method P p each = each_told P p 0 p.items (λ class i at.
     let on : class ≡ 0 + class = omega arith in

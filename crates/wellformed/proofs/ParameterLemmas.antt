@@ -19,7 +19,7 @@ use Rattle.program.specs.declared.types.HeapType.{HeapType}
 use Rattle.program.specs.declared.method.Role.{Role}
 use Rattle.program.specs.declared.method.Role.TheVariants as role
 use Rattle.resolving.specs.Types.{type_held}
-use Rattle.resolving.specs.Locals.{LocalFrame, declared, declared_as}
+use Rattle.resolving.specs.Locals.{LocalFrame, with_declaration, declared_as}
 use Rattle.resolving.specs.Methods.{body_told, method_told, no_variables, parameter_declaration, parameters_frame, role_of}
 use Rattle.resolving.specs.Told.{stays_here}
 use Rattle.program.specs.Lists.{Each}
@@ -66,7 +66,7 @@ headed_declared p x f (Some held) = headed_append f.variables _ ∙ ap (λ l. he
 headed_all : (p : ProgramText) (params : List Parameter) (f : LocalFrame) → headed (parameters_frame p params f).variables ≡ headed f.variables ++ flat_map (heading p) params
 headed_all p [] f = sym (append-nil (headed f.variables))
 headed_all p (x ∷ params) f =
-    headed_all p params (declared p.text (parameter_declaration p x) f)
+    headed_all p params (with_declaration p.text (parameter_declaration p x) f)
     ∙ ap (λ l. l ++ flat_map (heading p) params) (headed_declared p x f (type_held p x.ty))
     ∙ append_assoc (headed f.variables) (heading p x) (flat_map (heading p) params)
 

@@ -11,7 +11,7 @@ use Rattle.tree.specs.Trees.{ClassTree}
 use Rattle.tree.specs.Values.{ValueTree}
 use Rattle.tree.specs.declared.types as tree
 use Rattle.names.specs.Bodies.{given_mistakes}
-use Rattle.names.specs.Expressions.{asked_number, expression_mistakes, held, meant, place_of, element_mistakes, element_type, field_mistakes, type_of, number_mistakes, owns, variable_mistakes}
+use Rattle.names.specs.Expressions.{asked_number, expression_mistakes, variable_type, variable_of, place_of, element_mistakes, element_type, field_mistakes, type_of, number_mistakes, owns, variable_mistakes}
 use Rattle.declarations.specs.declared.mistake.Mismatch.TheVariants.{FieldOwns}
 use Rattle.declarations.specs.Types.{is_block, type_meant, type_unknown, unless}
 use Rattle.declarations.specs.Program.{ProgramText}
@@ -27,8 +27,8 @@ use Rattle.program.specs.declared.method.Role.TheVariants as role
 use Rattle.program.specs.declared.statement.Mention.{Mention}
 use Rattle.resolving.specs.Types.{heap_type, state_in, type_held}
 use Rattle.resolving.specs.Locals.{LocalFrame, declared_as, mention, mention_of, next_number, number_of}
-use Rattle.resolving.specs.Plain.{assigned, deleted, first_value, frame_behind, written}
-use Rattle.resolving.specs.Reads.{listed, reads}
+use Rattle.resolving.specs.Plain.{assign_statement, delete_of, first_value, frame_behind, write_statement}
+use Rattle.resolving.specs.Reads.{mention_list, reads}
 use Rattle.program.specs.Lists.{Each}
 use Rattle.program.specs.Scopes.{IsInScope}
 use Rattle.program.specs.WellFormed.{IsAction, IsMention, IsStatement, Setting}
@@ -44,35 +44,35 @@ use Rattle.wellformed.proofs.Standing.{Around, AreStanding, IsHeldAs, IsKnown, W
 use Rattle.wellformed.proofs.ValueLemmas.{part_taken_fits, scalar_taken_fits, taken_fits}
 
 -- a name is a mention of a variable, or of none
-name_within : (p : ProgramText) (s : Setting) (f : LocalFrame) (g : names.NameFrame) → AreStanding p s.variables f g → (name : Span) (o : Option Mention) → mention p.text f.locals name ≡ o → Each (IsMention s) (listed o)
+name_within : (p : ProgramText) (s : Setting) (f : LocalFrame) (g : names.NameFrame) → AreStanding p s.variables f g → (name : Span) (o : Option Mention) → mention p.text f.locals name ≡ o → Each (IsMention s) (mention_list o)
 name_within p s f g standing name None is = tt
 name_within p s f g standing name (Some m) is = (mention_within p s.variables f g name m standing is, tt)
 
-pub name_mentioned : (p : ProgramText) (s : Setting) (f : LocalFrame) (g : names.NameFrame) → AreStanding p s.variables f g → (name : Span) → Each (IsMention s) (listed (mention p.text f.locals name))
+pub name_mentioned : (p : ProgramText) (s : Setting) (f : LocalFrame) (g : names.NameFrame) → AreStanding p s.variables f g → (name : Span) → Each (IsMention s) (mention_list (mention p.text f.locals name))
 name_mentioned p s f g standing name = name_within p s f g standing name (mention p.text f.locals name) refl
 
 -- a variable takes a value
 variable_fits : (p : ProgramText) (t : ClassTree) (class : ℕ) (result : Option tree.Type.Type) (s : Setting) (f : LocalFrame) (g : names.NameFrame) (name : Span) (value : ValueTree) (b : Bool)
-    → is_block (held (meant (scope_of p g) name)) ≡ b → Around p t class result s → s.scope ≡ last_of f → AreStanding p s.variables f g → variable_mistakes (scope_of p g) name ≡ []
-    → value_mistakes (record { scope = scope_of p g; class = t }) (held (meant (scope_of p g) name)) value ≡ [] → IsStatement s (assigned p class f (mention p.text f.locals name) value)
+    → is_block (variable_type (variable_of (scope_of p g) name)) ≡ b → Around p t class result s → s.scope ≡ last_of f → AreStanding p s.variables f g → variable_mistakes (scope_of p g) name ≡ []
+    → value_mistakes (record { scope = scope_of p g; class = t }) (variable_type (variable_of (scope_of p g) name)) value ≡ [] → IsStatement s (assign_statement p class f (mention p.text f.locals name) value)
 variable_fits p t class result s f g name value false scalar around here standing none given =
     let known = held_known p s.variables f g name standing none in
-    subst (λ o. IsStatement s (assigned p class f o value)) (sym (scalar_not_mentioned p s.variables f g name standing none scalar))
-    (scalar_taken_fits p t class result s f g (held (meant (scope_of p g) name)) value around standing known scalar given)
+    subst (λ o. IsStatement s (assign_statement p class f o value)) (sym (scalar_not_mentioned p s.variables f g name standing none scalar))
+    (scalar_taken_fits p t class result s f g (variable_type (variable_of (scope_of p g) name)) value around standing known scalar given)
 variable_fits p t class result s f g name value true block around here standing none given =
     let known = held_known p s.variables f g name standing none in
     let m = block_mentioned p s.variables f g name standing none block in
-    subst (λ o. IsStatement s (assigned p class f o value)) (sym m.is)
-    (taken_fits p t class result s f g (held (meant (scope_of p g) name)) (mention_of name m.number) m.variable value around standing known block m.there m.holds (subst (λ o. IsInScope s.variables o (number_of m.number)) (sym here) m.inside) given)
+    subst (λ o. IsStatement s (assign_statement p class f o value)) (sym m.is)
+    (taken_fits p t class result s f g (variable_type (variable_of (scope_of p g) name)) (mention_of name m.number) m.variable value around standing known block m.there m.holds (subst (λ o. IsInScope s.variables o (number_of m.number)) (sym here) m.inside) given)
 
 -- an assignment
 pub assign_fits : (p : ProgramText) (t : ClassTree) (class : ℕ) (result : Option tree.Type.Type) (s : Setting) (f : LocalFrame) (g : names.NameFrame) (target : TargetTree) (value : ValueTree)
     → Around p t class result s → s.scope ≡ last_of f → AreStanding p s.variables f g → target_mistakes (scope_of p g) target ≡ []
-    → value_mistakes (record { scope = scope_of p g; class = t }) (target_type (scope_of p g) target) value ≡ [] → IsStatement s (written p class f target value)
+    → value_mistakes (record { scope = scope_of p g; class = t }) (target_type (scope_of p g) target) value ≡ [] → IsStatement s (write_statement p class f target value)
 assign_fits p t class result s f g (trees.Variable name) value around here standing none given =
-    variable_fits p t class result s f g name value (is_block (held (meant (scope_of p g) name))) refl around here standing none given
+    variable_fits p t class result s f g name value (is_block (variable_type (variable_of (scope_of p g) name))) refl around here standing none given
 assign_fits p t class result s f g (trees.Field name field) value around here standing none given =
-    let k = held (meant (scope_of p g) name) in
+    let k = variable_type (variable_of (scope_of p g) name) in
     let own = owns (scope_of p g) k field in
     let length = length_mistakes (scope_of p g) k field in
     let both = both_none (variable_mistakes (scope_of p g) name) (field_mistakes (scope_of p g) k name field ++ (length ++ unless (not own) field.place FieldOwns)) none in
@@ -81,7 +81,7 @@ assign_fits p t class result s f g (trees.Field name field) value around here st
     let scalar = field_scalar p g k name field (held_known p s.variables f g name standing both.0) fields.0 owning in
     part_taken_fits p t class result s f g (target_type (scope_of p g) (trees.Field name field)) [] (mention p.text f.locals name) value around standing scalar.0 scalar.1 tt (name_mentioned p s f g standing name) given
 assign_fits p t class result s f g (trees.Element name index) value around here standing none given =
-    let k = held (meant (scope_of p g) name) in
+    let k = variable_type (variable_of (scope_of p g) name) in
     let i = type_of (scope_of p g) (shape index) in
     let both = both_none (number_mistakes (scope_of p g) (shape index)) (variable_mistakes (scope_of p g) name ++ element_mistakes k name) none in
     let whole = both_none (variable_mistakes (scope_of p g) name) (element_mistakes k name) both.1 in
@@ -95,7 +95,7 @@ assign_fits p t class result s f g (trees.Element name index) value around here 
 first_fits : (p : ProgramText) (t : ClassTree) (class : ℕ) (result : Option tree.Type.Type) (s : Setting) (f : LocalFrame) (g : names.NameFrame) (name : Span) (k : declared.ValueType.ValueType) (state : Option Span) (role : Role) (value : ValueTree)
     (o : Option HeapType) (rest : List VariableModel) → heap_type p k state ≡ o → s.variables ≡ (declared_as p.text (record { name = name; ty = k; held = o; role = role }) o f).variables ++ rest → IsHeldAs p k o
     → s.scope ≡ last_of (declared_as p.text (record { name = name; ty = k; held = o; role = role }) o f) → Around p t class result s → AreStanding p s.variables f g → IsKnown p k
-    → value_mistakes (record { scope = scope_of p g; class = t }) k value ≡ [] → IsStatement s (assigned p class f (option_map (mention_of name) (next_number o f)) value)
+    → value_mistakes (record { scope = scope_of p g; class = t }) k value ≡ [] → IsStatement s (assign_statement p class f (option_map (mention_of name) (next_number o f)) value)
 first_fits p t class result s f g name k state role value None rest is within holds here around standing known none = scalar_taken_fits p t class result s f g k value around standing known holds none
 first_fits p t class result s f g name k state role value (Some held) rest is within holds here around standing known none =
     let v : VariableModel = record { name = word_at p.text name; ty = held; role = role; outer = option_map number_of f.last } in
@@ -118,9 +118,9 @@ pub declare_fits : (p : ProgramText) (t : ClassTree) (class : ℕ) (result : Opt
     → IsStatement s (first_value p class f d.name (next_number (type_held p d.ty) f) d.value)
 declare_fits p t class result s f g d here around standing within known none = value_fits p t class result s f g d d.value here around standing within known none
 
-deleted_fits : (s : Setting) (o : Option Mention) → Each (IsMention s) (listed o) → IsAction s (deleted o)
+deleted_fits : (s : Setting) (o : Option Mention) → Each (IsMention s) (mention_list o) → IsAction s (delete_of o)
 deleted_fits s None within = tt
 deleted_fits s (Some m) within = within.0
 
-pub delete_fits : (p : ProgramText) (s : Setting) (f : LocalFrame) (g : names.NameFrame) → AreStanding p s.variables f g → (name : Span) → IsAction s (deleted (mention p.text f.locals name))
+pub delete_fits : (p : ProgramText) (s : Setting) (f : LocalFrame) (g : names.NameFrame) → AreStanding p s.variables f g → (name : Span) → IsAction s (delete_of (mention p.text f.locals name))
 delete_fits p s f g standing name = deleted_fits s (mention p.text f.locals name) (name_mentioned p s f g standing name)

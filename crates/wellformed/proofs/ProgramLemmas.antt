@@ -37,12 +37,12 @@ item_clean p n d clean there =
     sym (ap (definition_mistakes p) there.is) ∙ none_there (λ i. definition_mistakes p i.definition) p.items n there.item (items_clean p clean) there.at
 
 -- nothing is wrong with a method of a class
-pub method_clean : (p : ProgramText) (class : ℕ) (c : ClassTree) (m : MethodTree) (place : ℕ) → program_mistakes p ≡ [] → item_at as_class p class ≡ Some (class, c)
-    → slice_get c.methods place ≡ Some m → (method_turn p c m).found ≡ []
-method_clean p class c m place clean there at =
+pub method_clean : (p : ProgramText) (class : ℕ) (c : ClassTree) (m : MethodTree) (index : ℕ) → program_mistakes p ≡ [] → item_at as_class p class ≡ Some (class, c)
+    → slice_get c.methods index ≡ Some m → (method_turn p c m).found ≡ []
+method_clean p class c m index clean there at =
     let found = item_clean p class (Class c) clean (class_item p class c there) in
     let inner = (both_none (twice_among p.text (map (λ m. m.name) c.methods)) (flat_map (λ m. (method_turn p c m).found) c.methods) found).1 in
-    none_there (λ m. (method_turn p c m).found) c.methods place m inner at
+    none_there (λ m. (method_turn p c m).found) c.methods index m inner at
 
 -- so the types of its result and of its parameters are known
 pub result_clean : (p : ProgramText) (m : MethodTree) (number : ℕ) → program_mistakes p ≡ [] → IsMethod p m number → result_unknown p m.result ≡ []

@@ -23,7 +23,7 @@ use Rattle.program.specs.declared.statement.Action.TheVariants as does
 use Rattle.resolving.specs.Types.{result_held, state_in, type_held}
 use Rattle.resolving.specs.Locals.{LocalFrame}
 use Rattle.resolving.specs.Methods.{method_told}
-use Rattle.resolving.specs.Plain.{call_of, called, lone, returned, started, stated_call, told}
+use Rattle.resolving.specs.Plain.{call_of, call_statement, lone, return_statement, start_statement, stated_call, simple_of}
 use Rattle.program.specs.WellFormed.{IsStartOf, IsStatement, IsTaken, Setting}
 use Rattle.wellformed.proofs.ArgumentLemmas.{IsAsked, asked_block, asked_known, asked_scalar}
 use Rattle.wellformed.proofs.CallLemmas.{CallsMethod, call_means, call_of_fits, method_there}
@@ -40,8 +40,8 @@ use Rattle.wellformed.proofs.ValueLemmas.{alone_call, by_none, gives_none, no_se
 stated_by : (p : ProgramText) (t : ClassTree) (class : ℕ) (result : Option tree.Type.Type) (s : Setting) (f : LocalFrame) (g : names.NameFrame) (c : CallTree) (alone : Bool) → Around p t class result s → AreStanding p s.variables f g
     → CallsMethod p class f g (λ m. gives_none p m.result ≡ true) c ⊎ ((alone ≡ true) × SendsMessage p class s f c) → IsStatement s (stated_call p class f c)
 stated_by p t class result s f g c alone around standing (inl x) =
-    subst (λ o. IsStatement s (option_map_or seen.Send o (called p class f c None []))) (sym x.no_send) (alone_call p t class result s f g c around standing x)
-stated_by p t class result s f g c alone around standing (inr x) = subst (λ o. IsStatement s (option_map_or seen.Send o (called p class f c None []))) (sym x.1.is) x.1.fits
+    subst (λ o. IsStatement s (option_map_or seen.Send o (call_statement p class f c None []))) (sym x.no_send) (alone_call p t class result s f g c around standing x)
+stated_by p t class result s f g c alone around standing (inr x) = subst (λ o. IsStatement s (option_map_or seen.Send o (call_statement p class f c None []))) (sym x.1.is) x.1.fits
 
 pub call_stated_fits : (p : ProgramText) (t : ClassTree) (class : ℕ) (result : Option tree.Type.Type) (s : Setting) (f : LocalFrame) (g : names.NameFrame) (c : CallTree)
     → Around p t class result s → AreStanding p s.variables f g → (statement_turn (record { program = p; class = t; result = result; breaks = false; continues = false }) (stated.Call c) g).found ≡ [] → IsStatement s (stated_call p class f c)
@@ -60,13 +60,13 @@ void_gives p (Some t) void = cc
 
 -- a start
 pub start_fits : (p : ProgramText) (t : ClassTree) (class : ℕ) (result : Option tree.Type.Type) (s : Setting) (f : LocalFrame) (g : names.NameFrame) (c : CallTree)
-    → (word : Span) → Around p t class result s → AreStanding p s.variables f g → (statement_turn (record { program = p; class = t; result = result; breaks = false; continues = false }) (stated.Start word c) g).found ≡ [] → IsStatement s (started p class f c)
+    → (word : Span) → Around p t class result s → AreStanding p s.variables f g → (statement_turn (record { program = p; class = t; result = result; breaks = false; continues = false }) (stated.Start word c) g).found ≡ [] → IsStatement s (start_statement p class f c)
 start_fits p t class result s f g c word around standing none =
     let x = no_send p class s f g (λ m. can_start m ≡ true) c _ (call_means p t class result s f g _ c around standing none (λ m. can_start m ≡ true) (λ m name starts F same fits. none_said (can_start m) _ starts)) refl in
     let free = both_not (is_some x.method.result) (any_lent x.method.params) x.fits in
     let call = call_of_fits p t class result s f g c None [] (λ m. can_start m ≡ true) around standing x (subst (λ o. IsTaken s o None) (sym (void_gives p x.method.result free.0)) tt, tt) tt in
     let starts : IsStartOf s (call_of p class f c None [] (record { number = x.number; method = x.method })) (method_told p x.told.class x.method) = record { call = call; void = free.0; claimed = all_claimed p x.told.class x.method (parameters_clean p x.method x.number around.clean x.told) free.1 } in
-    subst (λ o. IsStatement s (option_map_or seen.Start (option_map (call_of p class f c None []) o) (told [] does.Nothing))) (sym x.is)
+    subst (λ o. IsStatement s (option_map_or seen.Start (option_map (call_of p class f c None []) o) (simple_of [] does.Nothing))) (sym x.is)
     (subst (λ o. IsSomeAnd o (IsStartOf s (call_of p class f c None [] (record { number = x.number; method = x.method })))) (sym (method_there p t class result s x.method x.number around x.told)) starts)
 
 -- a return of nothing
@@ -95,7 +95,7 @@ value_returned p class s f g (Some t) word e is known standing none =
 
 pub return_fits : (p : ProgramText) (t : ClassTree) (class : ℕ) (result : Option tree.Type.Type) (s : Setting) (f : LocalFrame) (g : names.NameFrame) (word : Span) (value : Option ExpressionTree)
     → Around p t class result s → AreStanding p s.variables f g → s.scope ≡ last_of f → return_mistakes (scope_of p g) result word value ≡ []
-    → IsStatement s (returned p class f word.place value)
+    → IsStatement s (return_statement p class f word.place value)
 return_fits p t class result s f g word None around standing here none =
     (tt, (empty_fits p s g result word around.result_is none, sym here))
 return_fits p t class result s f g word (Some e) around standing here none =

@@ -16,7 +16,7 @@ use Rattle.program.specs.Methods.{VariableModel}
 use Rattle.program.specs.declared.types as held
 use Rattle.program.specs.declared.method.Role.{Role}
 use Rattle.program.specs.declared.number.VarId.{VarId}
-use Rattle.resolving.specs.Locals.{Local, LocalFrame, local_named, number_of, closed}
+use Rattle.resolving.specs.Locals.{Local, LocalFrame, local_named, number_of, after_block}
 use Rattle.program.specs.Lists.{Each}
 use Rattle.program.specs.Scopes as scopes
 use Rattle.program.specs.Scopes.{LeadsOut, IsLocalBehind, outer_of}
@@ -32,7 +32,7 @@ names_same : (locals : List Local) → map (λ v. v.name) (map named locals) ≡
 names_same [] = refl
 names_same (l ∷ locals) = ap (λ ns. l.name ∷ ns) (names_same locals)
 
-at_same : (locals : List Local) (place : Option ℕ) → option_and_then (slice_get (map named locals)) place ≡ option_map named (option_and_then (slice_get locals) place)
+at_same : (locals : List Local) (index : Option ℕ) → option_and_then (slice_get (map named locals)) index ≡ option_map named (option_and_then (slice_get locals) index)
 at_same locals None = refl
 at_same locals (Some n) = slice_get-map named locals n
 
@@ -156,7 +156,7 @@ declared_stands p vs name ty (Some held) role heap f g block known holds standin
 
 -- what was declared since is in scope no more
 pub closed_stands : (p : ProgramText) (vs : List VariableModel) (f after : LocalFrame) (g behind : names.NameFrame)
-    → AreStanding p vs f g → Grows p f after → AreStanding p vs after behind → AreStanding p vs (closed f after) (record { variables = g.variables; heap = behind.heap })
+    → AreStanding p vs f g → Grows p f after → AreStanding p vs after behind → AreStanding p vs (after_block f after) (record { variables = g.variables; heap = behind.heap })
 closed_stands p vs f after g behind standing grows inner = record {
   same = standing.same;
   locals = standing.locals;

@@ -9,7 +9,7 @@ use Rattle.tree.specs.Trees.{ClassTree, ContractTree, MessageTree, contracts_of}
 use Rattle.tree.specs.Values.{CallTree}
 use Rattle.tree.specs.declared.types as type_nodes
 use Rattle.program.specs.declared.types.Side.{Side}
-use Rattle.names.specs.Expressions.{held, meant, variable_mistakes}
+use Rattle.names.specs.Expressions.{variable_type, variable_of, variable_mistakes}
 use Rattle.names.specs.Findings.{program_mistakes}
 use Rattle.declarations.specs.declared.mistake.Mistake.TheVariants.{Unknown}
 use Rattle.declarations.specs.declared.mistake.NameSort.TheVariants as sort
@@ -30,7 +30,7 @@ use Rattle.program.specs.declared.statement.Mention.{Mention}
 use Rattle.resolving.specs.Types.{contract_at}
 use Rattle.resolving.specs.Locals.{Local, LocalFrame, local_named, mention_of}
 use Rattle.resolving.specs.Messages.{contract_of, end_contract, message_sent}
-use Rattle.resolving.specs.Plain.{meant_by, payloads, send_of, send_told, sent, sent_by}
+use Rattle.resolving.specs.Plain.{meant_by, payloads, send_of, send_told, send_for, sent_by}
 use Rattle.program.specs.Lists.{Each}
 use Rattle.program.specs.WellFormed.{HoldAll, Setting, IsEnd, IsMessageOf, IsSend, contract_held}
 use Rattle.wellformed.proofs.ArgumentLemmas.{payloads_given, reads_mentioned}
@@ -96,18 +96,18 @@ end_of p locals name l n side local is = ap (option_and_then (λ v. contract_of 
 
 end_sends : (p : ProgramText) (t : ClassTree) (class : ℕ) (result : Option type_nodes.Type.Type) (s : Setting) (f : LocalFrame) (g : names.NameFrame) (role : _) (c : CallTree) (word : Span) → Around p t class result s
     → AreStanding p s.variables f g → c.member ≡ Some word → (l : Local) → local_named p.text f.locals c.name ≡ Some l → (n : ℕ) (side : Side) → l.ty ≡ ty.Endpoint side n → IsKnown p (ty.Endpoint side n)
-    → meant (scope_of p g) c.name ≡ Some (named l) → send_mistakes (scope_of p g) (ty.Endpoint side n) role c.name word (map shape c.arguments) ≡ [] → (is_alone role ≡ true) × SendsMessage p class s f c
+    → variable_of (scope_of p g) c.name ≡ Some (named l) → send_mistakes (scope_of p g) (ty.Endpoint side n) role c.name word (map shape c.arguments) ≡ [] → (is_alone role ≡ true) × SendsMessage p class s f c
 end_sends p t class result s f g role c word around standing member l local n side type_is known meant_is none =
     let has : HasContract p n = contract_known p n side known in
     let of_contract = ap (option_and_then (λ x. sent_message p.text x.1 (word_at p.text word))) has.is in
     let clean = subst (λ o. message_mistakes (scope_of p g) n o side role word (map shape c.arguments) ≡ []) of_contract none in
     let x = sending p g n side has.tree role word c.arguments around.clean has.is (sent_message p.text has.tree (word_at p.text word)) refl clean in
-    let held_is : held (meant (scope_of p g) c.name) ≡ ty.Endpoint side n = ap held meant_is ∙ type_is in
+    let held_is : variable_type (variable_of (scope_of p g) c.name) ≡ ty.Endpoint side n = ap variable_type meant_is ∙ type_is in
     let found : variable_mistakes (scope_of p g) c.name ≡ [] = ap (λ o. if is_some o then [] else Unknown c.name (sort.Variable (length g.variables)) ∷ []) meant_is in
     let m = block_mentioned p s.variables f g c.name standing found (ap is_block held_is) in
     let a = x.1.answer in
     let meant_by_is : meant_by p f c word ≡ Some a.meant = ap (option_and_then (λ k. message_sent p k word)) (end_of p f.locals c.name l n side local type_is) ∙ a.is in
-    let sent_is = ap (option_and_then (sent p class f c word)) meant_by_is ∙ ap (option_map (λ e. send_of p class f word c e a.meant)) m.is in
+    let sent_is = ap (option_and_then (send_for p class f c word)) meant_by_is ∙ ap (option_map (λ e. send_of p class f word c e a.meant)) m.is in
     let end = is_end p s n side has.tree (λ r. IsMessageOf r a.meant.id) (mention_of c.name m.number) m.variable around.contracts_are has.is m.there (subst (λ k. IsHeld p k m.variable.ty) held_is m.holds) a.of in
     let paid = payloads_given p class s f g standing x.1.message.params c.arguments x.1.known x.1.many x.1.given in
     let bring = ap (λ ms. slice_get ms a.meant.id.0) around.messages_are ∙ a.brings in (
@@ -121,7 +121,7 @@ end_sends p t class result s f g role c word around standing member l local n si
 
 -- a call by the name of a variable and one of a message
 pub local_call : (p : ProgramText) (t : ClassTree) (class : ℕ) (result : Option type_nodes.Type.Type) (s : Setting) (f : LocalFrame) (g : names.NameFrame) (role : _) (c : CallTree) (word : Span) → Around p t class result s
-    → AreStanding p s.variables f g → c.member ≡ Some word → (l : Local) → local_named p.text f.locals c.name ≡ Some l → meant (scope_of p g) c.name ≡ Some (named l) → IsKnown p l.ty → (k : declared.ValueType.ValueType) → l.ty ≡ k
+    → AreStanding p s.variables f g → c.member ≡ Some word → (l : Local) → local_named p.text f.locals c.name ≡ Some l → variable_of (scope_of p g) c.name ≡ Some (named l) → IsKnown p l.ty → (k : declared.ValueType.ValueType) → l.ty ≡ k
     → send_mistakes (scope_of p g) k role c.name word (map shape c.arguments) ≡ [] → (is_alone role ≡ true) × SendsMessage p class s f c
 local_call p t class result s f g role c word around standing member l local meant_is known (ty.Endpoint side n) is none =
     end_sends p t class result s f g role c word around standing member l local n side is (subst (IsKnown p) is known) meant_is none

@@ -126,7 +126,7 @@ pub record Around (p : ProgramText) (c : ClassTree) (class : ℕ) (result : Opti
 
 -- a variable of this name and type comes into scope
 abbrev pub declares : List ℕ → Span → declared.ValueType.ValueType → Option HeapType → Role → LocalFrame → LocalFrame
-declares text name ty held role f = locals.declared text (record { name = name; ty = ty; held = held; role = role }) f
+declares text name ty held role f = locals.with_declaration text (record { name = name; ty = ty; held = held; role = role }) f
 
 -- what a frame brings into scope
 abbrev pub scope_of : ProgramText → names.NameFrame → InScope

@@ -15,7 +15,7 @@ use Rattle.names.specs.Values.{target_mistakes, target_type, value_mistakes}
 use Rattle.names.specs.Variables as names
 use Rattle.resolving.specs.Binds.{binds_told}
 use Rattle.resolving.specs.Types.{state_in, type_held}
-use Rattle.resolving.specs.Locals.{LocalFrame, closed, declared, forget, next_number, number_of}
+use Rattle.resolving.specs.Locals.{LocalFrame, after_block, with_declaration, forget, next_number, number_of}
 use Rattle.resolving.specs.Plain.{declaration_of, first_value}
 use Rattle.resolving.specs.Told.{Staying, awaited_message, awaited_params, behind_case, block_told, case_told, cases_told, in_switch, others_told, statement_told, statements_told, stays_here, test_told}
 use Rattle.program.specs.Methods.{VariableModel}
@@ -25,7 +25,7 @@ use Rattle.program.specs.Scopes.{GoesBack, InTurn, LeadsOut}
 use Rattle.program.specs.Statements.{StatementModel}
 use Rattle.program.specs.declared.number.VarId.{VarId}
 use Rattle.program.specs.WellFormed as settings
-use Rattle.program.specs.WellFormed.{AreCases, AreOthers, AreStatements, IsBlock, IsCase, IsStatement, IsTest, Setting, in_loop, reached}
+use Rattle.program.specs.WellFormed.{AreCases, AreOthers, AreStatements, IsBlock, IsCase, IsStatement, IsTest, Setting, in_loop, with_last}
 use Rattle.wellformed.proofs.BindLemmas.{binds_stand}
 use Rattle.wellformed.proofs.BroughtLemmas.{binds_hold}
 use Rattle.wellformed.proofs.CaseLemmas.{all_close, heads_clean}
@@ -74,7 +74,7 @@ around_at m class s scope at_break at_continue a = record {
 }
 
 -- behind another statement
-around_behind : (m : Surroundings) (class : ℕ) (s : Setting) (scope : Option VarId) → InMethod m class s → InMethod m class (reached s scope)
+around_behind : (m : Surroundings) (class : ℕ) (s : Setting) (scope : Option VarId) → InMethod m class s → InMethod m class (with_last s scope)
 around_behind m class s scope a = around_at m class s scope s.at_break s.at_continue a
 
 -- what stays in scope lies outward still, where the scope is the same
@@ -88,7 +88,7 @@ staying_same s f after stays same staying = record {
 }
 
 -- and where it has grown
-staying_then : (s : Setting) (f after : LocalFrame) (stays : Staying) → LeadsOut s.variables (last_of after) (last_of f) → AreStaying s f stays → AreStaying (reached s (last_of after)) after stays
+staying_then : (s : Setting) (f after : LocalFrame) (stays : Staying) → LeadsOut s.variables (last_of after) (last_of f) → AreStaying s f stays → AreStaying (with_last s (last_of after)) after stays
 staying_then s f after stays inner staying = record {
   scope = refl;
   break_is = staying.break_is;
@@ -103,15 +103,15 @@ same_frame p s X f g fits standing = record { fits = fits; standing = standing; 
 
 -- a statement that leaves the scope as it is
 statement_passes : (p : ProgramText) (s : Setting) (x : StatementModel) (f after : LocalFrame) (behind : names.NameFrame) → s.scope ≡ last_of f → Passes p s.variables (IsStatement s x) f after behind
-    → Goes p s.variables (IsStatement (reached s (last_of after)) x) f after behind
+    → Goes p s.variables (IsStatement (with_last s (last_of after)) x) f after behind
 statement_passes p s x f after behind here r = record {
-  fits = subst (λ o. IsStatement (reached s o) x) (here ∙ sym r.same) r.fits;
+  fits = subst (λ o. IsStatement (with_last s o) x) (here ∙ sym r.same) r.fits;
   standing = r.standing;
   grows = grows_none s.variables (last_of f) (last_of after) (sym r.same);
 }
 
 stands_still : (p : ProgramText) (s : Setting) (x : StatementModel) (f : LocalFrame) (g : names.NameFrame) → s.scope ≡ last_of f → IsStatement s x → AreStanding p s.variables f g
-    → Goes p s.variables (IsStatement (reached s (last_of f)) x) f f g
+    → Goes p s.variables (IsStatement (with_last s (last_of f)) x) f f g
 stands_still p s x f g here fits standing = statement_passes p s x f f g here (same_frame p s (IsStatement s x) f g fits standing)
 
 -- one piece, and then another
@@ -120,11 +120,11 @@ both_pass p vs X Y f middle after g behind first second = record { fits = (first
 
 -- a declaration
 declaration_goes : (m : Surroundings) (class : ℕ) (s : Setting) → InMethod m class s → (d : DeclareTree) (f : LocalFrame) (g : names.NameFrame) → AreStanding m.program s.variables f g
-    → Within s.variables (declared m.program.text (declaration_of m.program d) f) → (bodies.declaration_turn m d g).found ≡ []
-    → Goes m.program s.variables (IsStatement (reached s (last_of (declared m.program.text (declaration_of m.program d) f))) (first_value m.program class f d.name (next_number (type_held m.program d.ty) f) d.value)) f (declared m.program.text (declaration_of m.program d) f) (bodies.declaration_turn m d g).frame
+    → Within s.variables (with_declaration m.program.text (declaration_of m.program d) f) → (bodies.declaration_turn m d g).found ≡ []
+    → Goes m.program s.variables (IsStatement (with_last s (last_of (with_declaration m.program.text (declaration_of m.program d) f))) (first_value m.program class f d.name (next_number (type_held m.program d.ty) f) d.value)) f (with_declaration m.program.text (declaration_of m.program d) f) (bodies.declaration_turn m d g).frame
 declaration_goes m class s around d f g standing within none =
     let p = m.program in
-    let after = declared m.program.text (declaration_of m.program d) f in
+    let after = with_declaration m.program.text (declaration_of m.program d) f in
     let unknown = type_unknown p d.ty in
     let given = bodies.given_mistakes (bodies.inside_of m g) (type_meant p d.ty) d.value in
     let enters = names.declared_variable p.text d.name (type_meant p d.ty) (is_heap d.ty) g in
@@ -132,7 +132,7 @@ declaration_goes m class s around d f g standing within none =
     let first = both_none unknown given parts.0 in
     let known = type_known p d.ty first.0 in
     record {
-      fits = declare_fits p m.class class m.result (reached s (last_of after)) f g d refl (around_behind m class s (last_of after) around) standing within first.0 first.1;
+      fits = declare_fits p m.class class m.result (with_last s (last_of after)) f g d refl (around_behind m class s (last_of after) around) standing within first.0 first.1;
       standing = declared_stands p s.variables d.name (type_meant p d.ty) (type_held p d.ty) role.Local (is_heap d.ty) f g (heap_block p d.ty first.0) known (held_as p (type_meant p d.ty) (state_in d.ty) known) standing within parts.1;
       grows = declared_grows p s.variables d.name (type_meant p d.ty) (type_held p d.ty) f within;
     }
@@ -154,7 +154,7 @@ back_here s f last place here leads = subst (λ o. GoesBack (last_of last) o (fo
 mutual
   pub statement_goes : (m : Surroundings) (class : ℕ) (s : Setting) → InMethod m class s → (stays : Staying) (x : StatementTree) (f : LocalFrame) (g : names.NameFrame)
       → AreStanding m.program s.variables f g → AreStaying s f stays → Within s.variables (statement_told m.program class stays x f).frame → (statement_turn m x g).found ≡ []
-      → Goes m.program s.variables (IsStatement (reached s (last_of (statement_told m.program class stays x f).frame)) (statement_told m.program class stays x f).what) f (statement_told m.program class stays x f).frame (statement_turn m x g).frame
+      → Goes m.program s.variables (IsStatement (with_last s (last_of (statement_told m.program class stays x f).frame)) (statement_told m.program class stays x f).what) f (statement_told m.program class stays x f).frame (statement_turn m x g).frame
   statement_goes m class s around stays (trees.Block b) f g standing staying within none =
       let r = block_goes m class s around stays b f g standing staying within none in
       statement_passes m.program s (statement_told m.program class stays (trees.Block b) f).what f (block_told m.program class stays b f).frame _ staying.scope (record { fits = r.fits; standing = r.standing; same = r.same })
@@ -221,7 +221,7 @@ mutual
       let both = both_none (statement_turn m x g).found (statements_turn m xs next).found none in
       let one = statement_goes m class s around stays x f g standing staying (within_before p middle after vs (statements_grow p class stays xs middle) within) both.0 in
       let further = staying_then s f middle stays (grown vs (last_of f) (last_of middle) one.grows) staying in
-      let two = statements_go m class (reached s (last_of middle)) (around_behind m class s (last_of middle) around) stays xs middle next one.standing further within both.1 in
+      let two = statements_go m class (with_last s (last_of middle)) (around_behind m class s (last_of middle) around) stays xs middle next one.standing further within both.1 in
       record {
         fits = (last_of middle, (grows_here s f (last_of middle) staying.scope one.grows, (one.fits, two.fits)));
         standing = two.standing;
@@ -284,14 +284,14 @@ mutual
       let opened = binds_stand p s.variables params binds f g standing (within_before p bound.frame last s.variables (statements_grow p class stays statements bound.frame) inside) fits.known fits.many halves.0 in
       let holds = binds_hold p s params binds f g (within_before p bound.frame last s.variables (statements_grow p class stays statements bound.frame) inside) fits.known fits.many halves.0 in
       let opens = staying_then s f bound.frame stays opened.inner staying in
-      let r = statements_go m class (reached s (last_of bound.frame)) (around_behind m class s (last_of bound.frame) around) stays statements bound.frame (binds_turn p params binds g).frame opened.standing opens inside halves.1 in
+      let r = statements_go m class (with_last s (last_of bound.frame)) (around_behind m class s (last_of bound.frame) around) stays statements bound.frame (binds_turn p params binds g).frame opened.standing opens inside halves.1 in
       let down = leads_then s.variables (last_of last) (last_of bound.frame) (last_of f) (grown s.variables (last_of bound.frame) (last_of last) r.grows) opened.inner in
       let grown_since = grows_then p f bound.frame last (binds_grow p params binds f) (statements_grow p class stays statements bound.frame) in
       let closes = closed_stands p s.variables f last g (statements_turn m statements (binds_turn p params binds g).frame).frame standing grown_since r.standing in
       let turn = subst (λ o. InTurn s.variables o bound.what (last_of bound.frame)) (sym staying.scope) opened.turn in
       record {
         fits = ((fits.end, fits.brings bound.what holds), (last_of bound.frame, last_of last, (turn, (r.fits, back_here s f last behind staying.scope down))));
-        standing = subst (λ x. AreStanding p s.variables (closed f last) (record { variables = g.variables; heap = (statements_turn m statements (binds_turn p x binds g).frame).frame.heap })) fits.params closes;
+        standing = subst (λ x. AreStanding p s.variables (after_block f last) (record { variables = g.variables; heap = (statements_turn m statements (binds_turn p x binds g).frame).frame.heap })) fits.params closes;
         same = refl;
       }
 

@@ -30,8 +30,8 @@ use Rattle.resolving.specs.Counts.{structs_before}
 use Rattle.resolving.specs.Fields.{fields_held, structs_told}
 use Rattle.resolving.specs.Types.{result_held, state_in}
 use Rattle.resolving.specs.Locals.{LocalFrame}
-use Rattle.resolving.specs.Plain.{call_of, called, lone, made_arguments, made_reads, moved, new_of, part_taken, payloads, scalar_taken, taken, told, used}
-use Rattle.resolving.specs.Reads.{listed, reads}
+use Rattle.resolving.specs.Plain.{call_of, call_statement, lone, made_arguments, made_reads, move_of, new_of, part_taken, payloads, scalar_taken, take_statement, simple_of, use_of}
+use Rattle.resolving.specs.Reads.{mention_list, reads}
 use Rattle.program.specs.Lists.{Each}
 use Rattle.program.specs.WellFormed.{HoldAll, Holds, IsAction, IsIn, IsMention, IsNew, IsStatement, IsTaken, Setting, field_types, is_end}
 use Rattle.wellformed.proofs.ArgumentLemmas.{asked_block, asked_known, holds_there, payloads_given}
@@ -96,18 +96,18 @@ alone_result p (Some t) fits = scalar_holds p (type_meant p t) (state_in t) (not
 
 -- a call of a method, told
 pub told_call : (p : ProgramText) (class : ℕ) (s : Setting) (f : LocalFrame) (g : names.NameFrame) (c : CallTree) (target : Option Mention) (behind : List Mention) (Is : MethodTree → Type 0) → (x : CallsMethod p class f g Is c)
-    → IsStatement s (Call (call_of p class f c target behind (record { number = x.number; method = x.method }))) → IsStatement s (called p class f c target behind)
-told_call p class s f g c target behind Is x fits = subst (λ o. IsStatement s (option_map_or Call (option_map (call_of p class f c target behind) o) (told [] does.Nothing))) (sym x.is) fits
+    → IsStatement s (Call (call_of p class f c target behind (record { number = x.number; method = x.method }))) → IsStatement s (call_statement p class f c target behind)
+told_call p class s f g c target behind Is x fits = subst (λ o. IsStatement s (option_map_or Call (option_map (call_of p class f c target behind) o) (simple_of [] does.Nothing))) (sym x.is) fits
 
 -- a call whose result no variable takes
 pub void_call : (p : ProgramText) (t : ClassTree) (class : ℕ) (result : Option tree.Type.Type) (s : Setting) (f : LocalFrame) (g : names.NameFrame) (c : CallTree) (behind : List Mention) (Is : MethodTree → Type 0)
-    → Around p t class result s → AreStanding p s.variables f g → (x : CallsMethod p class f g Is c) → result_held p x.method.result ≡ None → Each (IsMention s) behind → IsStatement s (called p class f c None behind)
+    → Around p t class result s → AreStanding p s.variables f g → (x : CallsMethod p class f g Is c) → result_held p x.method.result ≡ None → Each (IsMention s) behind → IsStatement s (call_statement p class f c None behind)
 void_call p t class result s f g c behind Is around standing x void mentioned =
     told_call p class s f g c None behind Is x (call_fits p t class result s f g c None behind Is around standing x (subst (λ o. IsTaken s o None) (sym void) tt, tt) mentioned)
 
 -- a call that stands alone
 pub alone_call : (p : ProgramText) (t : ClassTree) (class : ℕ) (result : Option tree.Type.Type) (s : Setting) (f : LocalFrame) (g : names.NameFrame) (c : CallTree)
-    → Around p t class result s → AreStanding p s.variables f g → (x : CallsMethod p class f g (λ m. gives_none p m.result ≡ true) c) → IsStatement s (called p class f c None [])
+    → Around p t class result s → AreStanding p s.variables f g → (x : CallsMethod p class f g (λ m. gives_none p m.result ≡ true) c) → IsStatement s (call_statement p class f c None [])
 alone_call p t class result s f g c around standing x =
     void_call p t class result s f g c [] (λ m. gives_none p m.result ≡ true) around standing x (alone_result p x.method.result x.fits) tt
 
@@ -125,9 +125,9 @@ made_within p class s f g standing (values.Struct name left given) = tt
 made_within p class s f g standing (values.Array element length) = reads_within p s.variables f g standing length
 
 move_fits : (s : Setting) (target : Mention) (v : VariableModel) (o : Option Mention) (source : Mention) → o ≡ Some source → slice_get s.variables target.variable.0 ≡ Some v → Holds s v.ty source.variable
-    → IsIn s target.variable → IsAction s (moved target o)
+    → IsIn s target.variable → IsAction s (move_of target o)
 move_fits s target v o source is there holds inside =
-    subst (λ x. IsAction s (moved target x)) (sym is) (inside, subst (λ x. IsSomeAnd x (λ w. Holds s w.ty source.variable)) (sym there) holds)
+    subst (λ x. IsAction s (move_of target x)) (sym is) (inside, subst (λ x. IsSomeAnd x (λ w. Holds s w.ty source.variable)) (sym there) holds)
 
 -- what takes a new block is no end of a channel, and what is given is of the types that the block has in its fields that own
 abbrev pub IsMade : Setting → HeapType → List Mention → Type 0
@@ -191,7 +191,7 @@ new_fits p t class result s f g k target v n around standing known there holds i
 -- a variable of the exchange heap takes a value
 pub taken_fits : (p : ProgramText) (t : ClassTree) (class : ℕ) (result : Option tree.Type.Type) (s : Setting) (f : LocalFrame) (g : names.NameFrame) (k : declared.ValueType.ValueType) (target : Mention) (v : VariableModel) (value : ValueTree)
     → Around p t class result s → AreStanding p s.variables f g → IsKnown p k → is_block k ≡ true → slice_get s.variables target.variable.0 ≡ Some v → IsHeld p k v.ty
-    → IsIn s target.variable → value_mistakes (record { scope = scope_of p g; class = t }) k value ≡ [] → IsStatement s (taken p class f target value)
+    → IsIn s target.variable → value_mistakes (record { scope = scope_of p g; class = t }) k value ≡ [] → IsStatement s (take_statement p class f target value)
 taken_fits p t class result s f g k target v (values.Expression e) around standing known block there holds inside none =
     let given = asked_block p class s f g standing k v.ty e (asked_known p s.variables f g standing k e known none) block holds in
     (tt, move_fits s target v (lone p class f e) given.mention given.is there given.holds inside)
@@ -211,19 +211,19 @@ scalar_taken_fits p t class result s f g k (values.Call c) around standing known
     void_call p t class result s f g c [] _ around standing x (scalar_result p k x.method.result (result_clean p x.method x.number around.clean x.told) known scalar x.fits) tt
 scalar_taken_fits p t class result s f g k (values.New n) around standing known scalar none = (made_within p class s f g standing n.made, tt)
 
-use_fits : (s : Setting) (o : Option Mention) → Each (IsMention s) (listed o) → IsAction s (used o)
+use_fits : (s : Setting) (o : Option Mention) → Each (IsMention s) (mention_list o) → IsAction s (use_of o)
 use_fits s None h = tt
 use_fits s (Some m) h = h.0
 
 -- a part of a block takes a value
 pub part_taken_fits : (p : ProgramText) (t : ClassTree) (class : ℕ) (result : Option tree.Type.Type) (s : Setting) (f : LocalFrame) (g : names.NameFrame) (k : declared.ValueType.ValueType) (index : List Mention) (whole : Option Mention) (value : ValueTree)
-    → Around p t class result s → AreStanding p s.variables f g → IsKnown p k → is_block k ≡ false → Each (IsMention s) index → Each (IsMention s) (listed whole)
+    → Around p t class result s → AreStanding p s.variables f g → IsKnown p k → is_block k ≡ false → Each (IsMention s) index → Each (IsMention s) (mention_list whole)
     → value_mistakes (record { scope = scope_of p g; class = t }) k value ≡ [] → IsStatement s (part_taken p class f index whole value)
 part_taken_fits p t class result s f g k index whole (values.Expression e) around standing known scalar indices wholes none =
     (each_append (IsMention s) index (reads p.text f.locals e) indices (reads_within p s.variables f g standing e), use_fits s whole wholes)
 part_taken_fits p t class result s f g k index whole (values.Call c) around standing known scalar indices wholes none =
     let x = asked_call p t class result s f g k c around standing none in
-    void_call p t class result s f g c (index ++ listed whole) _ around standing x (scalar_result p k x.method.result (result_clean p x.method x.number around.clean x.told) known scalar x.fits)
-    (each_append (IsMention s) index (listed whole) indices wholes)
+    void_call p t class result s f g c (index ++ mention_list whole) _ around standing x (scalar_result p k x.method.result (result_clean p x.method x.number around.clean x.told) known scalar x.fits)
+    (each_append (IsMention s) index (mention_list whole) indices wholes)
 part_taken_fits p t class result s f g k index whole (values.New n) around standing known scalar indices wholes none =
     (each_append (IsMention s) index (made_reads p class f n.made) indices (made_within p class s f g standing n.made), use_fits s whole wholes)

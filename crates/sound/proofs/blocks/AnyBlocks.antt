@@ -12,11 +12,11 @@ use Rattle.program.specs.declared.types.HeapType.{HeapType}
 use Rattle.program.specs.declared.types.Side.{Side}
 use Rattle.contracts.specs.Leaving.{end_on}
 use Rattle.rules.specs.Endpoints.{edges_out}
-use Rattle.machine.specs.Blocks.{is_own_still, exchanged_block, goes_with, handed, sent_block, freed_block}
+use Rattle.machine.specs.Blocks.{is_own_still, exchanged_block, goes_with, with_new_owner, sent_block, freed_block}
 use Rattle.machine.specs.Frames.{address, addresses}
-use Rattle.machine.specs.Outcomes.{Outcome, Moved, Faulty, QueueBounds, FaultTest, test, tested}
+use Rattle.machine.specs.Outcomes.{Outcome, Moved, Faulty, QueueBounds, FaultTest, test, after_tests}
 use Rattle.machine.specs.World.{no_type, MessageHeld, Block, Frame, World, block_at, read, owns}
-use Rattle.machine.specs.World.{is_inside, is_queue, is_freed, changed, no_block}
+use Rattle.machine.specs.World.{is_inside, is_queue, is_freed, change_each, no_block}
 use Rattle.machine.specs.declared.halts.Fault.TheVariants.{F1, F3, F6}
 use Rattle.machine.specs.declared.halts.Fault.{Fault}
 use Rattle.machine.specs.declared.worlds.Owner.TheVariants.{Process, Channel}
@@ -51,11 +51,11 @@ IsFine p _ = Unit {0}
 
 -- ---- tests
 pub one_test : (p : ProgramModel) (b : Bool) (fault : Fault) (tests : List FaultTest) (o : Outcome) → (b ≡ false → IsFine p (Faulty fault))
-    → (b ≡ true → IsFine p (tested tests o)) → IsFine p (tested (test b fault ∷ tests) o)
+    → (b ≡ true → IsFine p (after_tests tests o)) → IsFine p (after_tests (test b fault ∷ tests) o)
 one_test p true fault tests o f g = g refl
 one_test p false fault tests o f g = f refl
 
-pub tested_append : (xs ys : List FaultTest) (o : Outcome) → tested (xs ++ ys) o ≡ tested xs (tested ys o)
+pub tested_append : (xs ys : List FaultTest) (o : Outcome) → after_tests (xs ++ ys) o ≡ after_tests xs (after_tests ys o)
 tested_append [] ys o = refl
 tested_append (None ∷ xs) ys o = tested_append xs ys o
 tested_append (Some fault ∷ xs) ys o = refl
@@ -107,7 +107,7 @@ module _ (p : ProgramModel) (bound : QueueBounds) (w : World) (self : ℕ) (f : 
       × AreGiven (if a.claimed then address (read f.variables a.mention.variable.0) ∷ taken else taken) arguments
 
   pub given_fine : (taken : List ℕ) (arguments : List Argument) (o : Outcome) → (AreGiven taken arguments → IsFine p o)
-      → IsFine p (tested (argument_tests p bound w self f rest taken arguments) o)
+      → IsFine p (after_tests (argument_tests p bound w self f rest taken arguments) o)
   given_fine taken [] o go = go tt
   given_fine taken (a ∷ arguments) o go =
       one_test p (is_own_still w.blocks self taken (read f.variables a.mention.variable.0)) (if a.claimed then F3 else F1) _ o
@@ -159,7 +159,7 @@ module _ (p : ProgramModel) (bound : QueueBounds) (w : World) (self : ℕ) (f : 
       )
 
   -- ---- Delete
-  pub delete_fits : (a : ℕ) → owns w.blocks self a ≡ true → RunFits p (changed (freed_block (goes_with w.blocks a)) w.blocks)
+  pub delete_fits : (a : ℕ) → owns w.blocks self a ≡ true → RunFits p (change_each (freed_block (goes_with w.blocks a)) w.blocks)
   delete_fits a owned = record {
     fits = record {
       channels = deleting.channels p w self h.fits a owned;
@@ -175,7 +175,7 @@ module _ (p : ProgramModel) (bound : QueueBounds) (w : World) (self : ℕ) (f : 
   -- ---- Exchange
   pub exchange_fits : (at field given held : ℕ) → owns w.blocks self at ≡ true → owns w.blocks self given ≡ true → given ≢ at
       → slice_get (block_at w.blocks at).fields field ≡ Some held
-      → RunFits p (changed (exchanged_block self at field given held) w.blocks)
+      → RunFits p (change_each (exchanged_block self at field given held) w.blocks)
   exchange_fits at field given held own_at own_given apart found = record {
     fits = exchanging.fits_now p w self h.fits at field given held own_at own_given apart found;
     plain = λ j no_end.
@@ -186,24 +186,24 @@ module _ (p : ProgramModel) (bound : QueueBounds) (w : World) (self : ℕ) (f : 
   -- ---- blocks that are handed on
   pub handed_run : (bs' : List Block) (given : List ℕ) (to : Owner) → ((x : ℕ) → is_among given x ≡ true → owns w.blocks self x ≡ true)
       → is_freed to ≡ false → ((a : ℕ) → is_queue to a ≡ false) → ((a : ℕ) → is_inside to a ≡ false) → length bs' ≡ length w.blocks
-      → ((j : ℕ) → block_at bs' j ≡ handed to given j (block_at w.blocks j)) → RunFits p bs'
+      → ((j : ℕ) → block_at bs' j ≡ with_new_owner to given j (block_at w.blocks j)) → RunFits p bs'
   handed_run bs' given to mine lives no_queue no_block_more long at = record {
     fits = handed_fits p w.blocks bs' self given to h.fits mine lives no_queue long at no_block_more;
     plain = λ j no_end. ap (λ (b : Block). b.queue) (at j) ∙ h.plain j (sym (ap (λ (b : Block). is_end b.ty) (at j)) ∙ no_end);
   }
 
   pub start_fits : (given : List ℕ) → ((x : ℕ) → is_among given x ≡ true → owns w.blocks self x ≡ true)
-      → RunFits p (changed (handed (Process (length w.processes)) given) w.blocks)
+      → RunFits p (change_each (with_new_owner (Process (length w.processes)) given) w.blocks)
   start_fits given mine =
       let to = Process (length w.processes) in
-      handed_run (changed (handed to given) w.blocks) given to mine refl (λ a. refl) (λ a. refl) (changed_length (handed to given) w.blocks)
-      (λ j. changed_all (handed to given) w.blocks j (λ past.
+      handed_run (change_each (with_new_owner to given) w.blocks) given to mine refl (λ a. refl) (λ a. refl) (changed_length (with_new_owner to given) w.blocks)
+      (λ j. changed_all (with_new_owner to given) w.blocks j (λ past.
       ap (λ (b : Bool). record { ty = no_type; owner = if b then to else Channel; peer = 0; state = 0; queue = []; fields = [] })
       (⊎_elim (λ t. absurd (let k = owned_there w.blocks self j (mine j t) in omega arith)) (λ e. e) (cases_Bool (is_among given j)))))
 
   -- a message whose sender's peer is gone
   pub sent_lost : (a state' to : ℕ) (g : Bool) (m : MessageHeld) (j : ℕ) (b : Block) → g ≡ true → (j ≡ a → state' ≡ b.state)
-      → sent_block a state' to g m j b ≡ handed Channel m.payload j b
+      → sent_block a state' to g m j b ≡ with_new_owner Channel m.payload j b
   sent_lost a state' to g m j b gone same =
       ap (λ (x : Bool). sent_block a state' to x m j b) gone
       ∙ (ap (λ (q : List MessageHeld). record {
@@ -234,9 +234,9 @@ module _ (p : ProgramModel) (bound : QueueBounds) (w : World) (self : ℕ) (f : 
       state_same false e = refl
 
   pub lost_fits : (a state' to : ℕ) (g : Bool) (m : MessageHeld) → g ≡ true → state' ≡ (block_at w.blocks a).state → a < length w.blocks
-      → ((x : ℕ) → is_among m.payload x ≡ true → owns w.blocks self x ≡ true) → RunFits p (changed (sent_block a state' to g m) w.blocks)
+      → ((x : ℕ) → is_among m.payload x ≡ true → owns w.blocks self x ≡ true) → RunFits p (change_each (sent_block a state' to g m) w.blocks)
   lost_fits a state' to g m gone same within mine =
-      handed_run (changed (sent_block a state' to g m) w.blocks) m.payload Channel mine refl (λ a. refl) (λ a. refl)
+      handed_run (change_each (sent_block a state' to g m) w.blocks) m.payload Channel mine refl (λ a. refl) (λ a. refl)
       (changed_length (sent_block a state' to g m) w.blocks)
       (λ j. changed_all (sent_block a state' to g m) w.blocks j
       (λ past. sent_lost a state' to g m j no_block gone (λ e. absurd (omega arith))

@@ -16,7 +16,7 @@ use Rattle.contracts.specs.TwoEnds.{Ends}
 use Rattle.machine.specs.Blocks.{new_block}
 use Rattle.machine.specs.Frames.{method_at, type_at, variables_of}
 use Rattle.machine.specs.Heaps.{FieldsHold}
-use Rattle.machine.specs.World.{no_type, MessageHeld, Block, block_at, owns, freed, is_inside, is_process, is_queue, is_freed}
+use Rattle.machine.specs.World.{no_type, MessageHeld, Block, block_at, owns, is_freed_at, is_inside, is_process, is_queue, is_freed}
 use Rattle.machine.proofs.Holding.{held_same}
 use Rattle.machine.specs.World.{is_empty}
 use Rattle.machine.specs.declared.worlds.Owner.TheVariants.{Process}
@@ -150,7 +150,7 @@ others_append self [] more q a fresh n = fresh.theirs a q n
 others_append self (b ∷ bs) more q zero fresh n = refl
 others_append self (b ∷ bs) more q (suc a) fresh n = others_append self bs more q a fresh n
 
-pub freed_append : (bs more : List Block) (a : ℕ) → freed bs a ≡ true → freed (bs ++ more) a ≡ true
+pub freed_append : (bs more : List Block) (a : ℕ) → is_freed_at bs a ≡ true → is_freed_at (bs ++ more) a ≡ true
 freed_append [] more a h = absurd (cc)
 freed_append (b ∷ bs) more zero h = h
 freed_append (b ∷ bs) more (suc a) h = freed_append bs more a h
@@ -159,9 +159,9 @@ pub cut_append : (bs more : List Block) → StaysCutOff bs (bs ++ more)
 cut_append bs more = record {
   long = simp length-append (omega arith);
   each = λ a within cut.
-      let k = and_true (freed bs (block_at bs a).peer) (is_empty (block_at bs a).queue) cut in
-      subst (λ (b : Block). freed (bs ++ more) b.peer && is_empty b.queue ≡ true) (sym (block_append bs more a within))
-      (both_true (freed (bs ++ more) (block_at bs a).peer) (is_empty (block_at bs a).queue)
+      let k = and_true (is_freed_at bs (block_at bs a).peer) (is_empty (block_at bs a).queue) cut in
+      subst (λ (b : Block). is_freed_at (bs ++ more) b.peer && is_empty b.queue ≡ true) (sym (block_append bs more a within))
+      (both_true (is_freed_at (bs ++ more) (block_at bs a).peer) (is_empty (block_at bs a).queue)
       (freed_append bs more (block_at bs a).peer k.0) k.1);
 }
 

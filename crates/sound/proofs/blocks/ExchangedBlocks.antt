@@ -8,7 +8,7 @@ use Rattle.program.specs.WellFormed.{field_types, is_end}
 use Rattle.program.specs.declared.types.HeapType.{HeapType}
 use Rattle.machine.specs.Blocks.{exchanged_block}
 use Rattle.machine.specs.Heaps.{FieldsHold}
-use Rattle.machine.specs.World.{Block, MessageHeld, World, block_at, changed, freed, is_empty, is_freed, is_process, is_queue, owns, read}
+use Rattle.machine.specs.World.{Block, MessageHeld, World, block_at, change_each, is_freed_at, is_empty, is_freed, is_process, is_queue, owns, read}
 use Rattle.machine.specs.declared.worlds.Owner.{Owner}
 use Rattle.machine.specs.declared.worlds.Owner.TheVariants.{Process, Inside}
 use Rattle.machine.proofs.HeldExchange as held_exchange
@@ -47,7 +47,7 @@ module _ (p : ProgramModel) (w : World) (self : ℕ) (h : BlocksFit p w.blocks) 
     (owned_at : owns w.blocks self at ≡ true) (owned_given : owns w.blocks self given ≡ true) (apart : given ≢ at)
     (found : slice_get (block_at w.blocks at).fields field ≡ Some held) where
   abbrev pub bs' : List Block
-  bs' = changed (exchanged_block self at field given held) w.blocks
+  bs' = change_each (exchanged_block self at field given held) w.blocks
 
   pub is_at : (j : ℕ) → block_at bs' j ≡ exchanged_block self at field given held j (block_at w.blocks j)
   is_at = held_exchange.exchanged_at w.blocks self at field given held h.held owned_at owned_given apart found
@@ -74,12 +74,12 @@ module _ (p : ProgramModel) (w : World) (self : ℕ) (h : BlocksFit p w.blocks) 
   held_now = held_exchange.exchange_held w.blocks self at field given held h.held owned_at owned_given apart found
 
   -- nothing is freed, and nothing goes into a queue or out of one
-  freed_now : (j : ℕ) → freed bs' j ≡ freed w.blocks j
+  freed_now : (j : ℕ) → is_freed_at bs' j ≡ is_freed_at w.blocks j
   freed_now j = ⊎_elim
-      (λ g. ap is_freed (owner_given j g) ∙ sym (ap (λ (n : ℕ). freed w.blocks n) g
+      (λ g. ap is_freed (owner_given j g) ∙ sym (ap (λ (n : ℕ). is_freed_at w.blocks n) g
       ∙ process_not_freed (block_at w.blocks given).owner self owned_given))
       (λ g. ⊎_elim
-      (λ s. ap is_freed (owner_held j s) ∙ sym (ap (λ (n : ℕ). freed w.blocks n) s ∙ ap is_freed held_is))
+      (λ s. ap is_freed (owner_held j s) ∙ sym (ap (λ (n : ℕ). is_freed_at w.blocks n) s ∙ ap is_freed held_is))
       (λ s. ap is_freed (owner_other j g s)) (cases_eq j held)) (cases_eq j given)
 
   queue_now : (j a : ℕ) → is_queue (block_at bs' j).owner a ≡ is_queue (block_at w.blocks j).owner a
@@ -95,9 +95,9 @@ module _ (p : ProgramModel) (w : World) (self : ℕ) (h : BlocksFit p w.blocks) 
   cut_now = record {
     long = let e = long in omega arith;
     each = λ j short x.
-        let k = and_true (freed w.blocks (block_at w.blocks j).peer) (is_empty (block_at w.blocks j).queue) x in
-        both_true (freed bs' (block_at bs' j).peer) (is_empty (block_at bs' j).queue)
-        (ap (freed bs') (ap (λ (b : Block). b.peer) (is_at j)) ∙ (freed_now (block_at w.blocks j).peer ∙ k.0))
+        let k = and_true (is_freed_at w.blocks (block_at w.blocks j).peer) (is_empty (block_at w.blocks j).queue) x in
+        both_true (is_freed_at bs' (block_at bs' j).peer) (is_empty (block_at bs' j).queue)
+        (ap (is_freed_at bs') (ap (λ (b : Block). b.peer) (is_at j)) ∙ (freed_now (block_at w.blocks j).peer ∙ k.0))
         (ap (λ (b : Block). is_empty b.queue) (is_at j) ∙ k.1);
   }
 
@@ -131,7 +131,7 @@ module _ (p : ProgramModel) (w : World) (self : ℕ) (h : BlocksFit p w.blocks) 
   type_now : (j : ℕ) → (block_at bs' j).ty ≡ (block_at w.blocks j).ty
   type_now j = ap (λ (b : Block). b.ty) (is_at j)
 
-  old_declared : FieldsDeclared p w.blocks → (a : ℕ) → a < length w.blocks → freed bs' a ≡ false
+  old_declared : FieldsDeclared p w.blocks → (a : ℕ) → a < length w.blocks → is_freed_at bs' a ≡ false
       → AreDeclared bs' (field_types p.structs (block_at w.blocks a).ty) (block_at w.blocks a).fields
   old_declared were a short lives = declared_kept w.blocks bs' (field_types p.structs (block_at w.blocks a).ty)
       (block_at w.blocks a).fields cut_now (kept_now _) (were a short (sym (freed_now a) ∙ lives))

@@ -4,9 +4,9 @@ use Rattle.std.specs.Prelude.{if◌then◌else◌}
 use Rattle.program.specs.Lists.{is_among}
 use Rattle.program.specs.Programs.{ProgramModel}
 use Rattle.program.specs.WellFormed.{is_end}
-use Rattle.machine.specs.Blocks.{handed}
+use Rattle.machine.specs.Blocks.{with_new_owner}
 use Rattle.machine.specs.Heaps.{FieldsHold}
-use Rattle.machine.specs.World.{Block, MessageHeld, block_at, owns, freed, is_empty, is_inside, is_queue, is_freed}
+use Rattle.machine.specs.World.{Block, MessageHeld, block_at, owns, is_freed_at, is_empty, is_inside, is_queue, is_freed}
 use Rattle.machine.proofs.Holding.{held_same, process_no_queue, process_not_inside}
 use Rattle.sound.proofs.Kept.{AreKept, LiesInside, SameFields, brought_kept}
 use Rattle.sound.proofs.Lists.{and_true, both_true}
@@ -19,14 +19,14 @@ use Rattle.sound.proofs.blocks.SentBlocks.{process_not_freed}
 module _ (p : ProgramModel) (bs bs' : List Block) (self : ℕ) (given : List ℕ) (to : Owner) (h : BlocksFit p bs)
     (mine : (x : ℕ) → is_among given x ≡ true → owns bs self x ≡ true) (lives : is_freed to ≡ false)
     (no_queue : (a : ℕ) → is_queue to a ≡ false)
-    (long : length bs' ≡ length bs) (at : (j : ℕ) → block_at bs' j ≡ handed to given j (block_at bs j)) where
+    (long : length bs' ≡ length bs) (at : (j : ℕ) → block_at bs' j ≡ with_new_owner to given j (block_at bs j)) where
   owner_now : (j : ℕ) → (block_at bs' j).owner ≡ (if is_among given j then to else (block_at bs j).owner)
   owner_now j = ap (λ (b : Block). b.owner) (at j)
 
-  pub freed_handed : (j : ℕ) → freed bs' j ≡ freed bs j
+  pub freed_handed : (j : ℕ) → is_freed_at bs' j ≡ is_freed_at bs j
   freed_handed j = ap is_freed (owner_now j) ∙ by (is_among given j) refl
     where
-      by : (b : Bool) → is_among given j ≡ b → is_freed (if b then to else (block_at bs j).owner) ≡ freed bs j
+      by : (b : Bool) → is_among given j ≡ b → is_freed (if b then to else (block_at bs j).owner) ≡ is_freed_at bs j
       by true e = lives ∙ sym (process_not_freed (block_at bs j).owner self (mine j e))
       by false e = refl
 
@@ -34,9 +34,9 @@ module _ (p : ProgramModel) (bs bs' : List Block) (self : ℕ) (given : List ℕ
   cut_handed = record {
     long = omega arith;
     each = λ j short x.
-        let k = and_true (freed bs (block_at bs j).peer) (is_empty (block_at bs j).queue) x in
-        both_true (freed bs' (block_at bs' j).peer) (is_empty (block_at bs' j).queue)
-        (ap (freed bs') (ap (λ (b : Block). b.peer) (at j)) ∙ (freed_handed (block_at bs j).peer ∙ k.0))
+        let k = and_true (is_freed_at bs (block_at bs j).peer) (is_empty (block_at bs j).queue) x in
+        both_true (is_freed_at bs' (block_at bs' j).peer) (is_empty (block_at bs' j).queue)
+        (ap (is_freed_at bs') (ap (λ (b : Block). b.peer) (at j)) ∙ (freed_handed (block_at bs j).peer ∙ k.0))
         (ap (λ (b : Block). is_empty b.queue) (at j) ∙ k.1);
   }
 

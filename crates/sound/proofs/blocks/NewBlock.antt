@@ -8,7 +8,7 @@ use Rattle.program.specs.Lists.{is_among}
 use Rattle.program.specs.Programs.{ProgramModel}
 use Rattle.program.specs.WellFormed.{field_types, is_end}
 use Rattle.program.specs.declared.types.HeapType.{HeapType}
-use Rattle.machine.specs.Blocks.{handed}
+use Rattle.machine.specs.Blocks.{with_new_owner}
 use Rattle.machine.specs.Heaps.{FieldsHold}
 use Rattle.machine.specs.World.{Block, World, block_at, is_freed, is_process, owns}
 use Rattle.machine.specs.declared.worlds.Owner.TheVariants.{Inside}
@@ -38,7 +38,7 @@ module _ (p : ProgramModel) (w : World) (self : ℕ) (h : BlocksFit p w.blocks) 
   long : length put ≡ length w.blocks
   long = held_new.put_long w.blocks self given k h.held mine (λ x. occurs_standing given x ∙ once x)
 
-  at : (j : ℕ) → block_at put j ≡ handed (Inside n) given j (block_at w.blocks j)
+  at : (j : ℕ) → block_at put j ≡ with_new_owner (Inside n) given j (block_at w.blocks j)
   at = held_new.put_at w.blocks self given k h.held mine (λ x. occurs_standing given x ∙ once x)
 
   pub last : block_at grown n ≡ b
@@ -88,7 +88,7 @@ module _ (p : ProgramModel) (w : World) (self : ℕ) (h : BlocksFit p w.blocks) 
   brought_now were j = brought_append p self put (b ∷ []) j fresh
       (handing.handed_brought p w.blocks put self given (Inside n) h mine refl (λ a. refl) long at were j)
 
-  old : (j : ℕ) → j < n → block_at grown j ≡ handed (Inside n) given j (block_at w.blocks j)
+  old : (j : ℕ) → j < n → block_at grown j ≡ with_new_owner (Inside n) given j (block_at w.blocks j)
   old = held_new.grown_old w.blocks self given k h.held mine (λ x. occurs_standing given x ∙ once x)
 
   fields_now : SameFields p w.blocks grown

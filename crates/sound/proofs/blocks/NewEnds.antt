@@ -10,7 +10,7 @@ use Rattle.program.specs.Programs.{ProgramModel}
 use Rattle.program.specs.declared.types.HeapType.TheVariants.{Endpoint}
 use Rattle.program.specs.declared.types.Side.TheVariants.{Imp, Exp}
 use Rattle.program.specs.declared.statement.Channel as made
-use Rattle.contracts.specs.TwoEnds.{begun}
+use Rattle.contracts.specs.TwoEnds.{ends_at_start}
 use Rattle.rules.specs.Endpoints.{first_state}
 use Rattle.machine.specs.Blocks.{new_block, end_type}
 use Rattle.program.specs.WellFormed.{field_types}
@@ -142,11 +142,11 @@ module _ (p : ProgramModel) (bs : List Block) (self : ℕ) (c : made.Channel) (h
     contract = held;
     contract_there = held_there;
     n = 0;
-    ends = begun held.parts.first;
+    ends = ends_at_start held.parts.first;
     moves = refl;
-    mine = λ l. subst (λ (b : Block). IsEndOf (begun held.parts.first) Imp b) (sym at1)
+    mine = λ l. subst (λ (b : Block). IsEndOf (ends_at_start held.parts.first) Imp b) (sym at1)
         (record { state = ap (λ (z : ℕ). record { 0 = z }) (sym start_is); queue = refl });
-    theirs = λ l. subst (λ (b : Block). IsEndOf (begun held.parts.first) Exp b) (sym at2)
+    theirs = λ l. subst (λ (b : Block). IsEndOf (ends_at_start held.parts.first) Exp b) (sym at2)
         (record { state = ap (λ (z : ℕ). record { 0 = z }) (sym start_is); queue = refl });
   }
 

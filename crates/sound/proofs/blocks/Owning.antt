@@ -12,7 +12,7 @@ use Rattle.program.specs.declared.method.Role.TheVariants as role
 use Rattle.program.specs.declared.method.Role.{Role}
 use Rattle.flow.specs.Graphs.{Instruction, Call}
 use Rattle.flow.specs.Lowering.{graph_of}
-use Rattle.rules.specs.Arguments.{claimed, given_before, all_arguments, target_checks, given_leaf}
+use Rattle.rules.specs.Arguments.{after_claims, given_before, all_arguments, target_checks, given_leaf}
 use Rattle.rules.specs.Endpoints.{parameter_types, result_of}
 use Rattle.rules.specs.Mentions.{is_lent_role}
 use Rattle.rows.specs.Rows.{leaf_at}
@@ -159,7 +159,7 @@ waits_apart p bs g above w clean =
     sym (ap (λ (x : Option MethodModel). point_instruction x g.point) w.there) ∙ w.call in
     let same = outcome_at p g w.m i w.before w.there at in
     let types = parameter_types p above.method in
-    let left = claimed w.before w.arguments in
+    let left = after_claims w.before w.arguments in
     let all = all_arguments w.m w.before types w.arguments in
     let after = (w.next, given_leaf left (result_of p above.method) w.target) ∷ [] in
     let passed = all_pass (all ++ target_checks w.m left w.target) after

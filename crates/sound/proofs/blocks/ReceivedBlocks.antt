@@ -10,13 +10,13 @@ use Rattle.program.specs.declared.types.HeapType.TheVariants.{Endpoint}
 use Rattle.program.specs.declared.types.Side.{Side}
 use Rattle.contracts.specs.Bounds.{sign_to}
 use Rattle.contracts.specs.TwoEnds.{Leads}
-use Rattle.rules.specs.Endpoints.{brought}
+use Rattle.rules.specs.Endpoints.{payload_types}
 use Rattle.machine.specs.Blocks.{received_block}
 use Rattle.machine.specs.Heaps.{FieldsHold}
-use Rattle.machine.specs.World.{no_type, MessageHeld, Block, World, block_at, owns, freed, is_inside, is_process, is_queue, is_freed}
+use Rattle.machine.specs.World.{no_type, MessageHeld, Block, World, block_at, owns, is_freed_at, is_inside, is_process, is_queue, is_freed}
 use Rattle.machine.specs.World.{is_empty}
 use Rattle.machine.proofs.Holding.{held_same, process_no_queue, process_not_inside, queue_not_inside}
-use Rattle.machine.specs.World.{changed}
+use Rattle.machine.specs.World.{change_each}
 use Rattle.machine.specs.declared.worlds.Owner.TheVariants.{Process, Queue, Inside, Channel, Freed}
 use Rattle.machine.specs.declared.worlds.Owner.{Owner}
 use Rattle.sound.specs.Operands.{stateless}
@@ -59,7 +59,7 @@ module _ (p : ProgramModel) (w : World) (self : ℕ) (h : BlocksFit p w.blocks) 
     → Leads x.parts.edges record { 0 = (block_at w.blocks a).state } record { 0 = m.message } (sign_to side) record { 0 = state' })
   where
     abbrev pub got : List Block
-    got = changed (received_block self a state' m ms) w.blocks
+    got = change_each (received_block self a state' m ms) w.blocks
 
     abbrev to : ℕ
     to = (block_at w.blocks a).peer
@@ -119,10 +119,10 @@ module _ (p : ProgramModel) (w : World) (self : ℕ) (h : BlocksFit p w.blocks) 
     queue_mine : (block_at got a).queue ≡ ms
     queue_mine = ap (λ (b : Block). b.queue) (at a) ∙ ap (λ (b : Bool). if b then ms else (block_at w.blocks a).queue) (eqb_same a a refl)
 
-    freed_now : (j : ℕ) → freed got j ≡ freed w.blocks j
+    freed_now : (j : ℕ) → is_freed_at got j ≡ is_freed_at w.blocks j
     freed_now j = ap is_freed (owner_now j) ∙ by (is_among m.payload j) refl
       where
-        by : (b : Bool) → is_among m.payload j ≡ b → is_freed (if b then Process self else (block_at w.blocks j).owner) ≡ freed w.blocks j
+        by : (b : Bool) → is_among m.payload j ≡ b → is_freed (if b then Process self else (block_at w.blocks j).owner) ≡ is_freed_at w.blocks j
         by true e = sym (queue_not_freed (block_at w.blocks j).owner a (queued j e))
         by false e = refl
 
@@ -133,9 +133,9 @@ module _ (p : ProgramModel) (w : World) (self : ℕ) (h : BlocksFit p w.blocks) 
     cut_now = record {
       long = let e = long_now in omega arith;
       each = λ j short x.
-          let k = and_true (freed w.blocks (block_at w.blocks j).peer) (is_empty (block_at w.blocks j).queue) x in
-          both_true (freed got (block_at got j).peer) (is_empty (block_at got j).queue)
-          (ap (freed got) (ap (λ (b : Block). b.peer) (at j)) ∙ (freed_now (block_at w.blocks j).peer ∙ k.0))
+          let k = and_true (is_freed_at w.blocks (block_at w.blocks j).peer) (is_empty (block_at w.blocks j).queue) x in
+          both_true (is_freed_at got (block_at got j).peer) (is_empty (block_at got j).queue)
+          (ap (is_freed_at got) (ap (λ (b : Block). b.peer) (at j)) ∙ (freed_now (block_at w.blocks j).peer ∙ k.0))
           (⊎_elim (λ e. absurd (true≢false k.1 (ap (λ (n : ℕ). is_empty (block_at w.blocks n).queue) e ∙ ap is_empty was)))
           (λ n. ap is_empty (queue_other j n) ∙ k.1) (cases_eq j a));
     }
@@ -235,7 +235,7 @@ module _ (p : ProgramModel) (w : World) (self : ℕ) (h : BlocksFit p w.blocks) 
     both_parts : WereBrought → AreBrought p got (m ∷ ms)
     both_parts were = subst (λ (q : List MessageHeld). AreBrought p got q) was (old were a)
 
-    pub typed : WereBrought → AreDeclared got (brought p m.message) m.payload
+    pub typed : WereBrought → AreDeclared got (payload_types p m.message) m.payload
     typed were = (both_parts were).0
 
     pub brought_now : WereBrought → (j : ℕ) → AreBrought p got (block_at got j).queue

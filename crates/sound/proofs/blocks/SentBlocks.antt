@@ -11,13 +11,13 @@ use Rattle.program.specs.declared.types.Side.TheVariants.{Imp, Exp}
 use Rattle.program.specs.declared.types.Side.{Side}
 use Rattle.contracts.specs.Leaving.{sign_from}
 use Rattle.contracts.specs.TwoEnds.{Leads}
-use Rattle.rules.specs.Endpoints.{brought}
+use Rattle.rules.specs.Endpoints.{payload_types}
 use Rattle.machine.specs.Blocks.{sent_block}
 use Rattle.machine.specs.Heaps.{FieldsHold}
-use Rattle.machine.specs.World.{no_type, MessageHeld, Block, World, block_at, owns, freed, cut_off, is_inside, is_process, is_queue}
+use Rattle.machine.specs.World.{no_type, MessageHeld, Block, World, block_at, owns, is_freed_at, cut_off, is_inside, is_process, is_queue}
 use Rattle.machine.specs.World.{is_freed}
 use Rattle.machine.proofs.Holding.{held_same, process_no_queue, process_not_inside, owned_there}
-use Rattle.machine.specs.World.{is_empty, changed}
+use Rattle.machine.specs.World.{is_empty, change_each}
 use Rattle.machine.specs.declared.worlds.Owner.TheVariants.{Process, Queue, Inside, Channel, Freed}
 use Rattle.machine.specs.declared.worlds.Owner.{Owner}
 use Rattle.sound.specs.Operands.{stateless}
@@ -101,10 +101,10 @@ module _ (p : ProgramModel) (w : World) (self : ℕ) (h : BlocksFit p w.blocks) 
     to = (block_at w.blocks a).peer
 
     abbrev gone : Bool
-    gone = freed w.blocks to
+    gone = is_freed_at w.blocks to
 
     abbrev pub sent : List Block
-    sent = changed (sent_block a state' to gone m) w.blocks
+    sent = change_each (sent_block a state' to gone m) w.blocks
 
     pub peer : PeerIs w.blocks a c side
     peer = peer_is p w.blocks a c side h.channels within ty
@@ -175,11 +175,11 @@ module _ (p : ProgramModel) (w : World) (self : ℕ) (h : BlocksFit p w.blocks) 
         ∙ ap (λ (b : Bool). if b && true then (block_at w.blocks to).queue ++ m ∷ [] else (block_at w.blocks to).queue)
         (eqb_same to to refl))
 
-    freed_now : (j : ℕ) → freed sent j ≡ freed w.blocks j
+    freed_now : (j : ℕ) → is_freed_at sent j ≡ is_freed_at w.blocks j
     freed_now j = ap is_freed (owner_now j) ∙ (handed_freed (is_among m.payload j) gone to (block_at w.blocks j).owner
         ∙ by (is_among m.payload j) refl)
       where
-        by : (b : Bool) → is_among m.payload j ≡ b → not b && freed w.blocks j ≡ freed w.blocks j
+        by : (b : Bool) → is_among m.payload j ≡ b → not b && is_freed_at w.blocks j ≡ is_freed_at w.blocks j
         by true e = sym (process_not_freed (block_at w.blocks j).owner self (mine j e))
         by false e = refl
 
@@ -190,13 +190,13 @@ module _ (p : ProgramModel) (w : World) (self : ℕ) (h : BlocksFit p w.blocks) 
     cut_now = record {
       long = let e = long_now in omega arith;
       each = λ j short x.
-          let k = and_true (freed w.blocks (block_at w.blocks j).peer) (is_empty (block_at w.blocks j).queue) x in
+          let k = and_true (is_freed_at w.blocks (block_at w.blocks j).peer) (is_empty (block_at w.blocks j).queue) x in
           let pj : (block_at sent j).peer ≡ (block_at w.blocks j).peer = ap (λ (b : Block). b.peer) (at j) in
-          both_true (freed sent (block_at sent j).peer) (is_empty (block_at sent j).queue)
-          (ap (freed sent) pj ∙ (freed_now (block_at w.blocks j).peer ∙ k.0))
+          both_true (is_freed_at sent (block_at sent j).peer) (is_empty (block_at sent j).queue)
+          (ap (is_freed_at sent) pj ∙ (freed_now (block_at w.blocks j).peer ∙ k.0))
           (⊎_elim
-          (λ e. absurd (true≢false k.0 (ap (λ (n : ℕ). freed w.blocks (block_at w.blocks n).peer) e
-          ∙ (ap (freed w.blocks) peer.back ∙ process_not_freed (block_at w.blocks a).owner self owned))))
+          (λ e. absurd (true≢false k.0 (ap (λ (n : ℕ). is_freed_at w.blocks (block_at w.blocks n).peer) e
+          ∙ (ap (is_freed_at w.blocks) peer.back ∙ process_not_freed (block_at w.blocks a).owner self owned))))
           (λ n. ap is_empty (queue_other j n) ∙ k.1) (cases_eq j to));
     }
 
@@ -209,7 +209,7 @@ module _ (p : ProgramModel) (w : World) (self : ℕ) (h : BlocksFit p w.blocks) 
               (state_other j (apart j some));
         }
 
-    alive : freed w.blocks a ≡ false
+    alive : is_freed_at w.blocks a ≡ false
     alive = process_not_freed (block_at w.blocks a).owner self owned
 
     pub channels_now : ChannelsFit p sent
@@ -227,12 +227,12 @@ module _ (p : ProgramModel) (w : World) (self : ℕ) (h : BlocksFit p w.blocks) 
               moves = e.moves;
               mine = end_at e.ends side (block_at w.blocks a) (block_at sent a) (state_mine ∙ k.1)
                   (queue_other a (λ s. peer.apart (sym s))) e.mine;
-              theirs = λ l. absurd (true≢false (and_true (freed w.blocks to) (is_empty (block_at w.blocks a).queue) k.0).0
-                  (of_not (freed w.blocks to) l));
+              theirs = λ l. absurd (true≢false (and_true (is_freed_at w.blocks to) (is_empty (block_at w.blocks a).queue) k.0).0
+                  (of_not (is_freed_at w.blocks to) l));
             })
             (λ leads. ends_send p x side (block_at w.blocks a) (block_at w.blocks to) (block_at sent a) (block_at sent to)
             (is_alive w.blocks to) m state' e leads state_mine (queue_other a (λ s. peer.apart (sym s)))
-            (state_other to peer.apart) (λ l. queue_to (of_not (freed w.blocks to) l))) (moves x there)
+            (state_other to peer.apart) (λ l. queue_to (of_not (is_freed_at w.blocks to) l))) (moves x there)
 
     given_no_queue : (x j : ℕ) → is_among m.payload x ≡ true → is_queue (block_at w.blocks x).owner j ≡ false
     given_no_queue x j e = process_no_queue (block_at w.blocks x).owner self j (mine x e)
@@ -315,7 +315,7 @@ module _ (p : ProgramModel) (w : World) (self : ℕ) (h : BlocksFit p w.blocks) 
         true≢false one (ap (λ (n : ℕ). is_queue (block_at w.blocks n).owner j) e
         ∙ process_no_queue (block_at w.blocks a).owner self j owned)
 
-    pub brought_now : ((j : ℕ) → AreBrought p w.blocks (block_at w.blocks j).queue) → AreDeclared sent (brought p m.message) m.payload
+    pub brought_now : ((j : ℕ) → AreBrought p w.blocks (block_at w.blocks j).queue) → AreDeclared sent (payload_types p m.message) m.payload
         → (j : ℕ) → AreBrought p sent (block_at sent j).queue
     brought_now were typed j = by gone refl (cases_eq j to)
       where
@@ -328,7 +328,7 @@ module _ (p : ProgramModel) (w : World) (self : ℕ) (h : BlocksFit p w.blocks) 
         by false e (inr n) = subst (λ (q : List MessageHeld). AreBrought p sent q) (sym (queue_other j n)) (old j)
         by false e (inl s) = subst (λ (n : ℕ). AreBrought p sent (block_at sent n).queue) (sym s)
             (subst (λ (q : List MessageHeld). AreBrought p sent q) (sym (queue_to e))
-            (each_append (λ y. AreDeclared sent (brought p y.message) y.payload) (block_at w.blocks to).queue (m ∷ []) (old to)
+            (each_append (λ y. AreDeclared sent (payload_types p y.message) y.payload) (block_at w.blocks to).queue (m ∷ []) (old to)
             (typed, tt)))
 
     owns_now : (q j : ℕ) → owns sent q j ≡ not (is_among m.payload j) && owns w.blocks q j

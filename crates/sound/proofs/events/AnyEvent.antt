@@ -18,8 +18,8 @@ use Rattle.contracts.specs.Leaving.{sign_from}
 use Rattle.contracts.specs.TwoEnds.{Leads, HeldAlways, NeverLonger}
 use Rattle.machine.specs.Blocks.{sent_block, received_block, bound_of}
 use Rattle.machine.specs.Frames.{address}
-use Rattle.machine.specs.Outcomes.{Outcome, QueueBounds, test, tested, Waits}
-use Rattle.machine.specs.World.{MessageHeld, Block, Frame, World, block_at, read, owns, freed, cut_off, is_empty, changed}
+use Rattle.machine.specs.Outcomes.{Outcome, QueueBounds, test, after_tests, Waits}
+use Rattle.machine.specs.World.{MessageHeld, Block, Frame, World, block_at, read, owns, is_freed_at, cut_off, is_empty, change_each}
 use Rattle.machine.specs.declared.halts.Fault.TheVariants.{F1, F4, F6}
 use Rattle.sound.specs.Operands.{stateless}
 use Rattle.sound.proofs.Fronts.{has_front, empty_not}
@@ -31,8 +31,8 @@ use Rattle.sound.proofs.blocks.SentBlocks.{process_not_freed}
 use Rattle.sound.proofs.events.Sending.{end_is, sends_along, room_is}
 use Rattle.sound.proofs.blocks.AnyBlocks.{RunFits, IsFine, one_test, or_rest, some_is, no_edges, end_of_type, own_at, lost_fits}
 use Rattle.sound.specs.Queues.{other}
-use Rattle.machine.specs.Instructions.{is_own, send_tests, send_from, edge_out, edge_in, has_room, receives, receives_at, closes_at}
-use Rattle.machine.specs.Instructions.{receives_from, event_of}
+use Rattle.machine.specs.Instructions.{is_own, send_tests, send_from, state_by_send, state_by_receive, has_room, receives, receives_at, closes_at}
+use Rattle.machine.specs.Instructions.{receives_from, outcome_from}
 use Rattle.machine.proofs.Holding.{owned_there}
 use Rattle.rules.proofs.EndLemmas.{each_at}
 use Rattle.machine.proofs.ChangeLemmas.{true≢false}
@@ -46,7 +46,7 @@ module _ (p : ProgramModel) (bound : QueueBounds) (w : World) (self : ℕ) (f : 
       → ((x : ContractModel) → slice_get p.contracts c ≡ Some x
       → ((cut_off w.blocks a ≡ true) × (state' ≡ (block_at w.blocks a).state))
       ⊎ Leads x.parts.edges record { 0 = (block_at w.blocks a).state } record { 0 = m.message } (sign_from side) record { 0 = state' })
-      → RunFits p (changed (sent_block a state' (block_at w.blocks a).peer (freed w.blocks (block_at w.blocks a).peer) m) w.blocks)
+      → RunFits p (change_each (sent_block a state' (block_at w.blocks a).peer (is_freed_at w.blocks (block_at w.blocks a).peer) m) w.blocks)
   sent_fits a state' m c side owned ty mine once moves =
       let within = owned_there w.blocks self a owned in
       let at = sending.at p w self h.fits a state' m c side owned within ty mine once moves in
@@ -71,7 +71,7 @@ module _ (p : ProgramModel) (bound : QueueBounds) (w : World) (self : ℕ) (f : 
       (mine : (x : ℕ) → is_among m.payload x ≡ true → owns w.blocks self x ≡ true)
       (once : (x : ℕ) → standing_in x m.payload ≡ one_if (is_among m.payload x)) where
     abbrev edge : Option ℕ
-    edge = edge_out p bound w self f rest a m.message
+    edge = state_by_send p bound w self f rest a m.message
 
     abbrev state' : ℕ
     state' = if cut_off w.blocks a then (block_at w.blocks a).state else unwrap_or edge (block_at w.blocks a).state
@@ -87,7 +87,7 @@ module _ (p : ProgramModel) (bound : QueueBounds) (w : World) (self : ℕ) (f : 
 
     -- the queue has room, and with the message what is to hold does
     abbrev Sends : Type 0
-    Sends = (has_room p bound w self f rest to ≡ true) × RunFits p (changed (sent_block a state' to (freed w.blocks to) m) w.blocks)
+    Sends = (has_room p bound w self f rest to ≡ true) × RunFits p (change_each (sent_block a state' to (is_freed_at w.blocks to) m) w.blocks)
 
     end_sends : (c : ℕ) (side : Side) → stateless (block_at w.blocks a).ty ≡ Endpoint record { 0 = c } side record { 0 = 0 }
         → cut_off w.blocks a || is_some edge ≡ true → Sends
@@ -114,17 +114,17 @@ module _ (p : ProgramModel) (bound : QueueBounds) (w : World) (self : ℕ) (f : 
         ⊎_elim (λ k. k) (λ k. absurd (true≢false (or_rest (cut_off w.blocks a) (is_some edge) k may)
         (ap is_some (no_edges p (block_at w.blocks a).ty (block_at w.blocks a).state m.message no_end))))
         (cases_Bool (cut_off w.blocks a)) in
-        let gone = (and_true (freed w.blocks to) (is_empty (block_at w.blocks a).queue) cut).0 in (
+        let gone = (and_true (is_freed_at w.blocks to) (is_empty (block_at w.blocks a).queue) cut).0 in (
           ap (λ (b : Bool). b || nat_lt (length (block_at w.blocks to).queue) (bound_of bound (block_at w.blocks to).ty)) gone,
           lost_fits
-              p bound w self f rest h a state' to (freed w.blocks to) m gone (stays cut) within mine,
+              p bound w self f rest h a state' to (is_freed_at w.blocks to) m gone (stays cut) within mine,
         )
 
     sends : cut_off w.blocks a || is_some edge ≡ true → Sends
     sends may = ⊎_elim (λ e. let k = end_is (block_at w.blocks a).ty e in end_sends k.c k.side k.is may) (λ e. plain_sends e may)
         (cases_Bool (is_end (block_at w.blocks a).ty))
 
-    pub send_fine : IsFine p (tested (send_tests p bound w self f rest a edge) (send_from p bound w self f rest a m edge vs' next))
+    pub send_fine : IsFine p (after_tests (send_tests p bound w self f rest a edge) (send_from p bound w self f rest a m edge vs' next))
     send_fine = one_test p (cut_off w.blocks a || is_some edge) F4 (test (has_room p bound w self f rest to) F6 ∷ []) _ (λ e. tt)
         (λ may. one_test p (has_room p bound w self f rest to) F6 [] _ (λ e. true≢false (sends may).0 e) (λ e. (sends may).1))
 
@@ -134,7 +134,7 @@ module _ (p : ProgramModel) (bound : QueueBounds) (w : World) (self : ℕ) (f : 
       → (block_at w.blocks a).queue ≡ m ∷ ms
       → ((x : ContractModel) → slice_get p.contracts c ≡ Some x
       → Leads x.parts.edges record { 0 = (block_at w.blocks a).state } record { 0 = m.message } (sign_to side) record { 0 = state' })
-      → RunFits p (changed (received_block self a state' m ms) w.blocks)
+      → RunFits p (change_each (received_block self a state' m ms) w.blocks)
   received_fits a state' m ms c side owned ty was leads =
       let within = owned_there w.blocks self a owned in
       record {
@@ -155,16 +155,16 @@ module _ (p : ProgramModel) (bound : QueueBounds) (w : World) (self : ℕ) (f : 
 
   module _ (always : HeldAlways) (sound : IsSoundProgram p bound) (cases : List EntranceModel) where
     takes_fits : (a : ℕ) (m : MessageHeld) (ms : List MessageHeld) → owns w.blocks self a ≡ true → (block_at w.blocks a).queue ≡ m ∷ ms
-        → RunFits p (changed (received_block self a (unwrap_or (edge_in p bound w self f rest a m.message) (block_at w.blocks a).state) m
+        → RunFits p (change_each (received_block self a (unwrap_or (state_by_receive p bound w self f rest a m.message) (block_at w.blocks a).state) m
         ms) w.blocks)
     takes_fits a m ms owned was =
-        let state' = unwrap_or (edge_in p bound w self f rest a m.message) (block_at w.blocks a).state in
+        let state' = unwrap_or (state_by_receive p bound w self f rest a m.message) (block_at w.blocks a).state in
         let end : is_end (block_at w.blocks a).ty ≡ true =
         ⊎_elim (λ e. e) (λ e. absurd (empty_not m ms (sym (h.plain a e) ∙ was))) (cases_Bool (is_end (block_at w.blocks a).ty)) in
         let k = end_is (block_at w.blocks a).ty end in
         let front = has_front always p bound sound w.blocks a k.c k.side h.fits.channels (owned_there w.blocks self a owned)
         (process_not_freed (block_at w.blocks a).owner self owned) k.is m ms was in
-        let is : state' ≡ front.to = ap (λ (z : Option ℕ). unwrap_or z (block_at w.blocks a).state) front.edge_in in
+        let is : state' ≡ front.to = ap (λ (z : Option ℕ). unwrap_or z (block_at w.blocks a).state) front.state_by_receive in
         received_fits a state' m ms k.c k.side owned k.is was
         (λ x there. subst (λ (n : ℕ). Leads x.parts.edges record { 0 = (block_at w.blocks a).state } record { 0 = m.message }
         (sign_to k.side) record { 0 = n }) (sym is) (front.leads x there))
@@ -180,7 +180,7 @@ module _ (p : ProgramModel) (bound : QueueBounds) (w : World) (self : ℕ) (f : 
 
     receives_fine : (v a : ℕ) (q : List MessageHeld) → owns w.blocks self a ≡ true → (block_at w.blocks a).queue ≡ q
         → IsFine p (receives p bound w self f rest cases v a q)
-    receives_fine v a [] owned was = by (freed w.blocks (block_at w.blocks a).peer)
+    receives_fine v a [] owned was = by (is_freed_at w.blocks (block_at w.blocks a).peer)
       where
         by : (b : Bool) → IsFine p (if b then closes_at p bound w self f rest (case_for cases v None) else Waits)
         by true = closes_fine (case_for cases v None)
@@ -198,13 +198,13 @@ module _ (p : ProgramModel) (bound : QueueBounds) (w : World) (self : ℕ) (f : 
 
     mentions_fine : (es : List Mention) (o : Outcome)
         → (Each (λ e. is_own p bound w self f rest (read f.variables e.variable.0) ≡ true) es → IsFine p o)
-        → IsFine p (tested (map (λ e. test (is_own p bound w self f rest (read f.variables e.variable.0)) F1) es) o)
+        → IsFine p (after_tests (map (λ e. test (is_own p bound w self f rest (read f.variables e.variable.0)) F1) es) o)
     mentions_fine [] o go = go tt
     mentions_fine (e ∷ es) o go =
         one_test p (is_own p bound w self f rest (read f.variables e.variable.0)) F1 _ o (λ k. tt)
         (λ k. mentions_fine es o (λ more. go (k, more)))
 
-    pub switch_fine : (place : Place) (choice : ℕ) → IsFine p (event_of p bound w self f rest (Switch place cases) choice)
+    pub switch_fine : (place : Place) (choice : ℕ) → IsFine p (outcome_from p bound w self f rest (Switch place cases) choice)
     switch_fine place choice = mentions_fine (first_mentions [] cases) _
         (λ own. chosen_fine (slice_get (first_mentions [] cases) choice)
         (λ v is. each_at (λ e. is_own p bound w self f rest (read f.variables e.variable.0) ≡ true)

@@ -16,7 +16,7 @@ use Rattle.rows.specs.Rows.{leaf_at, leaf_or_nothing}
 use Rattle.rules.specs.Steps.{entry_leaf}
 use Rattle.rows.specs.declared.row.Leaf.TheVariants as leaf
 use Rattle.machine.specs.Heaps as heaps
-use Rattle.machine.specs.Frames.{filled, entered_at}
+use Rattle.machine.specs.Frames.{variables_at_entry, entered_at}
 use Rattle.machine.specs.Runs.{start_of}
 use Rattle.machine.specs.World.{Frame, World, stack_at, read, owns}
 use Rattle.sound.specs.GraphFit.{AreGraphsFit}
@@ -24,16 +24,16 @@ use Rattle.sound.specs.Premises.{IsEntry}
 use Rattle.sound.proofs.events.Calling.{entry_reached}
 use Rattle.sound.proofs.Invariant.{LeafFits, one_if, standing, held, Holds, StackFits}
 
-filled_long : (xs : List VariableModel) → length (filled xs []) ≡ length xs
+filled_long : (xs : List VariableModel) → length (variables_at_entry xs []) ≡ length xs
 filled_long [] = refl
 filled_long (x ∷ xs) = ap suc (filled_long xs)
 
-filled_none : (xs : List VariableModel) (u : ℕ) → read (filled xs []) u ≡ None
+filled_none : (xs : List VariableModel) (u : ℕ) → read (variables_at_entry xs []) u ≡ None
 filled_none [] u = refl
 filled_none (x ∷ xs) zero = refl
 filled_none (x ∷ xs) (suc u) = filled_none xs u
 
-filled_nothing : (xs : List VariableModel) (a : ℕ) → standing a (filled xs []) ≡ 0
+filled_nothing : (xs : List VariableModel) (a : ℕ) → standing a (variables_at_entry xs []) ≡ 0
 filled_nothing [] a = refl
 filled_nothing (x ∷ xs) a = let e = filled_nothing xs a in omega arith
 
@@ -53,7 +53,7 @@ begun_with m f = record { processes = (f ∷ []) ∷ []; blocks = [] }
 pub start_holds : (p : ProgramModel) (m : ℕ) → AreGraphsFit p → IsEntry p m → Holds p (start_of p m)
 start_holds p m graphs entry =
     let x = entry.method in
-    let top : Frame = record { method = m; point = (graph_of x).first; variables = filled x.variables [] } in
+    let top : Frame = record { method = m; point = (graph_of x).first; variables = variables_at_entry x.variables [] } in
     subst (λ (f : Frame). Holds p (begun_with m f)) (sym (ap (λ (o : Option MethodModel). entered_at o m []) entry.there)) (record {
       channels = record { imp = λ a c within is. absurd (omega arith); exp = λ a c within is. absurd (omega arith) };
       stacks = stacks;
@@ -73,7 +73,7 @@ start_holds p m graphs entry =
       method = m;
       point = (graph_of entry.method).first;
       variables =
-          filled entry.method.variables [];
+          variables_at_entry entry.method.variables [];
     } ∷ []) ∷ []) q)
     stacks zero = (
       record {
@@ -97,7 +97,7 @@ start_holds p m graphs entry =
       method = m;
       point = (graph_of entry.method).first;
       variables =
-          filled entry.method.variables [];
+          variables_at_entry entry.method.variables [];
     } ∷ []) ∷ []) q) ≡ one_if (owns [] q a)
     own zero a = let e = filled_nothing entry.method.variables a in omega arith
     own (suc q) a = refl

@@ -15,7 +15,7 @@ use Rattle.program.specs.declared.number.MethodId.{MethodId}
 use Rattle.program.specs.declared.statement.Mention.{Mention}
 use Rattle.flow.specs.Graphs.{Instruction, Call}
 use Rattle.flow.specs.Lowering.{graph_of}
-use Rattle.rules.specs.Arguments.{claimed, given_before, all_arguments, target_checks, given_leaf}
+use Rattle.rules.specs.Arguments.{after_claims, given_before, all_arguments, target_checks, given_leaf}
 use Rattle.rules.specs.Endpoints.{parameter_types, result_of}
 use Rattle.sound.proofs.Parameters.{parameters_of, types_among}
 use Rattle.rules.specs.Mentions.{is_lent}
@@ -24,7 +24,7 @@ use Rattle.rules.specs.Steps.{entry_leaf, outcome, entry_of, method_entry}
 use Rattle.rows.specs.declared.row.Leaf.{Leaf}
 use Rattle.analyse.specs.Reach.{Reached}
 use Rattle.machine.specs.Blocks.{is_own_still}
-use Rattle.machine.specs.Frames.{method_at, filled, address, entered_at, instruction_at, point_instruction}
+use Rattle.machine.specs.Frames.{method_at, variables_at_entry, address, entered_at, instruction_at, point_instruction}
 use Rattle.machine.specs.Outcomes.{Moved, QueueBounds}
 use Rattle.machine.specs.World.{Frame, World, stack_at, read, owns, let_go}
 use Rattle.machine.specs.declared.halts.Fault.TheVariants.{F1, F3}
@@ -41,7 +41,7 @@ use Rattle.sound.proofs.Kept.{LentStays, lent_stays_same, lent_stays_set, rest_a
 use Rattle.sound.proofs.Lists.{each_map}
 use Rattle.sound.proofs.Quiet.{stays_same}
 use Rattle.sound.proofs.Here.{IsGood, tested_good, test_holds, Here, AllHold}
-use Rattle.machine.specs.Instructions.{event_of, argument_tests}
+use Rattle.machine.specs.Instructions.{outcome_from, argument_tests}
 use Rattle.machine.proofs.CountLemmas.{one_or_none}
 use Rattle.machine.proofs.HeldExchange.{one_if_true}
 use Rattle.machine.proofs.ChangeLemmas.{eqb_apart}
@@ -186,16 +186,16 @@ pub good_call : (p : ProgramModel) (bound : QueueBounds) (w : World) (self choic
     (place : Place) (method : MethodId) (arguments : List Argument) (target : Option Mention) (next : ℕ)
     → Here p w self f rest m (Call place method arguments target next)
     → ((h : IsGraphFit p m) → IsCallFit p m h.scope f.point method.0 arguments target next)
-    → IsGood p w (event_of p bound w self f rest (Call place method arguments target next) choice)
+    → IsGood p w (outcome_from p bound w self f rest (Call place method arguments target next) choice)
 good_call p bound w self choice f rest m place method arguments target next h fit =
     let g = fit h.graph in
     let x = g.callee in
     let vs = f.variables in
     let us = let_go vs arguments in
     let types = parameter_types p method.0 in
-    let checks = all_arguments m h.row types arguments ++ target_checks m (claimed h.row arguments) target in
-    let after = (next, given_leaf (claimed h.row arguments) (result_of p method.0) target) ∷ [] in
-    let passed = passed_left (all_arguments m h.row types arguments) (target_checks m (claimed h.row arguments) target)
+    let checks = all_arguments m h.row types arguments ++ target_checks m (after_claims h.row arguments) target in
+    let after = (next, given_leaf (after_claims h.row arguments) (result_of p method.0) target) ∷ [] in
+    let passed = passed_left (all_arguments m h.row types arguments) (target_checks m (after_claims h.row arguments) target)
     (all_pass checks after h.passes) in
     let before = passed_left (given_before m [] arguments) (each_argument m h.row types arguments) passed in
     let each : Passed (each_argument m h.row (types_among x.variables) arguments) =
@@ -209,7 +209,7 @@ good_call p bound w self choice f rest m place method arguments target next h fi
     (λ a. a.claimed ≡ false → read us (number a) ≡ read vs (number a)) arguments (λ a k own. go_other vs arguments (number a) (k own))
     (lent_not_claimed arguments apart) in
     let e = entered_all m.variables w.blocks vs us h.row x.variables arguments args g.arguments_fit none same in
-    let top : Frame = record { method = method.0; point = (graph_of x).first; variables = filled x.variables (given_of vs arguments) } in
+    let top : Frame = record { method = method.0; point = (graph_of x).first; variables = variables_at_entry x.variables (given_of vs arguments) } in
     let g' : Frame = record { method = f.method; point = f.point; variables = us } in
     let at : instruction_at p g' ≡ Some (Call place method arguments target next) =
     ap (λ (o : Option MethodModel). point_instruction o f.point) h.there ∙ h.at in
@@ -243,8 +243,8 @@ good_call p bound w self choice f rest m place method arguments target next h fi
             before = h.row;
             reached = h.reached;
             fits = subst (λ (ys : List (Option ℕ)). RowFits w.blocks m.variables ys
-                (claimed (claimed h.row arguments) (as_claimed arguments))) (sym back)
-                (go_fits w.blocks m.variables us (claimed h.row arguments) (as_claimed arguments)
+                (after_claims (after_claims h.row arguments) (as_claimed arguments))) (sym back)
+                (go_fits w.blocks m.variables us (after_claims h.row arguments) (as_claimed arguments)
                 (go_fits w.blocks m.variables vs h.row arguments h.fits));
             lent = e.lent;
             long = go_long vs arguments ∙ h.fits.long;

@@ -15,8 +15,8 @@ use Rattle.machine.specs.Blocks.{freed_block, goes_with}
 use Rattle.machine.specs.Heaps.{FieldsHold, of_process}
 use Rattle.machine.specs.Frames.{address}
 use Rattle.machine.specs.Outcomes.{Moved, QueueBounds, test}
-use Rattle.machine.specs.World.{MessageHeld, Block, Frame, World, block_at, read, owns, freed, is_process, is_queue, is_freed}
-use Rattle.machine.specs.World.{is_empty, changed}
+use Rattle.machine.specs.World.{MessageHeld, Block, Frame, World, block_at, read, owns, is_freed_at, is_process, is_queue, is_freed}
+use Rattle.machine.specs.World.{is_empty, change_each}
 use Rattle.machine.specs.declared.halts.Fault.TheVariants.{F2}
 use Rattle.machine.specs.declared.worlds.Owner.TheVariants.{Process, Queue, Inside, Channel, Freed}
 use Rattle.machine.specs.declared.worlds.Owner.{Owner}
@@ -32,7 +32,7 @@ use Rattle.sound.proofs.Kept.{lent_stays_set, on_world, goes_on, AreKept, LiesIn
 use Rattle.sound.proofs.Lists.{not_false, and_true, both_true}
 use Rattle.sound.proofs.Quiet.{contains_first, own_holds}
 use Rattle.sound.proofs.Here.{IsGood, tested_good, test_holds, row_set, Here, owned_is}
-use Rattle.machine.specs.Instructions.{is_own, event_of}
+use Rattle.machine.specs.Instructions.{is_own, outcome_from}
 use Rattle.machine.proofs.ChangeLemmas.{changed_length, eqb_same, eqb_apart, true≢false}
 
 -- ---- owners
@@ -86,7 +86,7 @@ module _ (p : ProgramModel) (w : World) (self : ℕ) (h : BlocksFit p w.blocks) 
   own = of_some (block_at w.blocks a).owner self owned
 
   abbrev pub bs' : List Block
-  bs' = changed (freed_block goes) w.blocks
+  bs' = change_each (freed_block goes) w.blocks
 
   pub at : (j : ℕ) → block_at bs' j ≡ freed_block goes j (block_at w.blocks j)
   at = left_at w.blocks a h.held own
@@ -111,19 +111,19 @@ module _ (p : ProgramModel) (w : World) (self : ℕ) (h : BlocksFit p w.blocks) 
   queue_it j e = ap (λ (b : Block). b.queue) (at j) ∙ ap (λ (t : Bool). if t then [] else (block_at w.blocks j).queue) e
 
   -- what lives now stays, and lived before
-  lived : (j : ℕ) → freed bs' j ≡ false → (goes j ≡ false) × (freed w.blocks j ≡ false)
+  lived : (j : ℕ) → is_freed_at bs' j ≡ false → (goes j ≡ false) × (is_freed_at w.blocks j ≡ false)
   lived j l = then_freed goes (goes j) (block_at w.blocks j).owner (sym (ap is_freed (owner_at j)) ∙ l)
 
   pub cut : StaysCutOff w.blocks bs'
   cut = record {
     long = let e = long in omega arith;
     each = λ j short c.
-        let k = and_true (freed w.blocks (block_at w.blocks j).peer) (is_empty (block_at w.blocks j).queue) c in
+        let k = and_true (is_freed_at w.blocks (block_at w.blocks j).peer) (is_empty (block_at w.blocks j).queue) c in
         let peer : (block_at bs' j).peer ≡ (block_at w.blocks j).peer = ap (λ (b : Block). b.peer) (at j) in
-        let gone : freed bs' (block_at w.blocks j).peer ≡ true =
+        let gone : is_freed_at bs' (block_at w.blocks j).peer ≡ true =
         ap is_freed (owner_at (block_at w.blocks j).peer)
         ∙ then_stays goes (goes (block_at w.blocks j).peer) (block_at w.blocks (block_at w.blocks j).peer).owner k.0 in
-        both_true (freed bs' (block_at bs' j).peer) (is_empty (block_at bs' j).queue) (ap (freed bs') peer ∙ gone)
+        both_true (is_freed_at bs' (block_at bs' j).peer) (is_empty (block_at bs' j).queue) (ap (is_freed_at bs') peer ∙ gone)
         (⊎_elim (λ e. ap is_empty (queue_it j e)) (λ n. ap is_empty (queue_other j n) ∙ k.1) (cases_Bool (goes j)));
   }
 
@@ -219,7 +219,7 @@ module _ (p : ProgramModel) (w : World) (self : ℕ) (h : BlocksFit p w.blocks) 
 
 pub good_delete : (p : ProgramModel) (bound : QueueBounds) (w : World) (self choice : ℕ) (f : Frame) (rest : List Frame) (m : MethodModel)
     (v : Mention) (next : ℕ)
-    → Here p w self f rest m (Delete v next) → IsGood p w (event_of p bound w self f rest (Delete v next) choice)
+    → Here p w self f rest m (Delete v next) → IsGood p w (outcome_from p bound w self f rest (Delete v next) choice)
 good_delete p bound w self choice f rest m v next h =
     let row' = set h.row v.variable.0 leaf.Nothing in
     let vs' = set f.variables v.variable.0 None in
@@ -230,7 +230,7 @@ good_delete p bound w self choice f rest m v next h =
     let o = owned_is p w self f rest m h.row v.variable.0 h.holds h.is h.fits owned in
     let a = o.at in
     let hb = blocks_fit p w h.holds in
-    let bs = changed (freed_block (goes_with w.blocks a)) w.blocks in
+    let bs = change_each (freed_block (goes_with w.blocks a)) w.blocks in
     let reached = h.onward ((next, row') ∷ []) (next, row') (passed_goes checks ((next, row') ∷ []) passed)
     (contains_first (next, row') []) in
     tested_good p w (test (is_own p bound w self f rest (read f.variables v.variable.0)) F2 ∷ []) _ (
@@ -239,7 +239,7 @@ good_delete p bound w self choice f rest m v next h =
       tt,
     )
     (subst (λ (x : Option ℕ). IsGood p w (Moved (on_world w self f next vs' rest
-    (changed (freed_block (goes_with w.blocks (address x))) w.blocks))))
+    (change_each (freed_block (goes_with w.blocks (address x))) w.blocks))))
     (sym o.is) (
       goes_on p w self f rest m next vs' row' bs h.holds h.is h.there h.below reached
           (row_set bs m.variables f.variables h.row v.variable.0 None leaf.Nothing

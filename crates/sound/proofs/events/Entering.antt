@@ -20,7 +20,7 @@ use Rattle.sound.proofs.Parameters.{each_argument}
 use Rattle.rules.specs.Steps.{entry_leaf}
 use Rattle.rows.specs.declared.row.Leaf.TheVariants as leaf
 use Rattle.rows.specs.declared.row.Leaf.{Leaf}
-use Rattle.machine.specs.Frames.{filled}
+use Rattle.machine.specs.Frames.{variables_at_entry}
 use Rattle.machine.specs.World.{Block, read, cut_off}
 use Rattle.sound.specs.Operands.{IsOfType, AreArguments}
 use Rattle.sound.proofs.Arguments.{standing_of}
@@ -141,7 +141,7 @@ pub entered_all : (variables : List VariableModel) (bs : List Block) (vs us : Li
     → ArgsFit bs vs row (types_among xs) arguments → AreArguments variables (parameters_of xs) arguments
     → Each (λ b. b.claimed ≡ true → read us (number b) ≡ None) arguments
     → Each (λ b. b.claimed ≡ false → read us (number b) ≡ read vs (number b)) arguments
-    → Entered bs vs us row xs (filled xs (given_of vs arguments)) arguments
+    → Entered bs vs us row xs (variables_at_entry xs (given_of vs arguments)) arguments
 entered_all variables bs vs us row [] [] fit are none same =
     record { fits = record { long = refl; row_long = refl; each = λ v z there. absurd (cc) }; lent = refl; counts = λ n. refl }
 entered_all variables bs vs us row [] (a ∷ arguments) fit are none same = absurd fit
@@ -152,11 +152,11 @@ entered_all variables bs vs us row (x ∷ xs) [] fit are none same =
         → ArgsFit bs vs row (map (λ v. v.ty) (if is_parameter r then x ∷ parameters_of xs else parameters_of xs)) []
         → AreArguments variables (if is_parameter r then x ∷ parameters_of xs else parameters_of xs) []
         → (ArgsFit bs vs row (types_among xs) [] → AreArguments variables (parameters_of xs) []
-        → Entered bs vs us row xs (filled xs []) []) → Entered bs vs us row (x ∷ xs) (None ∷ filled xs []) []
+        → Entered bs vs us row xs (variables_at_entry xs []) []) → Entered bs vs us row (x ∷ xs) (None ∷ variables_at_entry xs []) []
     by role.Local is f k more =
         let e = more f k in
         record {
-          fits = row_cons bs x xs None (filled xs []) (entry_leaf x.role x.ty) (map (λ v. entry_leaf v.role v.ty) xs)
+          fits = row_cons bs x xs None (variables_at_entry xs []) (entry_leaf x.role x.ty) (map (λ v. entry_leaf v.role v.ty) xs)
               (ap (λ (r : Role). entry_leaf r x.ty) is) e.fits;
           lent = at_role x.role role.Local _ _ _ is e.lent;
           counts = λ n. let c = e.counts n in omega arith;
@@ -171,15 +171,15 @@ entered_all variables bs vs us row (x ∷ xs) (a ∷ arguments) fit are none sam
         → ArgsFit bs vs row (map (λ v. v.ty) (if is_parameter r then x ∷ parameters_of xs else parameters_of xs)) (a ∷ arguments)
         → AreArguments variables (if is_parameter r then x ∷ parameters_of xs else parameters_of xs) (a ∷ arguments)
         → (ArgsFit bs vs row (types_among xs) (a ∷ arguments) → AreArguments variables (parameters_of xs) (a ∷ arguments)
-        → Entered bs vs us row xs (filled xs (given_of vs (a ∷ arguments))) (a ∷ arguments))
+        → Entered bs vs us row xs (variables_at_entry xs (given_of vs (a ∷ arguments))) (a ∷ arguments))
         → (ArgsFit bs vs row (types_among xs) arguments → AreArguments variables (parameters_of xs) arguments
-        → Entered bs vs us row xs (filled xs (given_of vs arguments)) arguments)
+        → Entered bs vs us row xs (variables_at_entry xs (given_of vs arguments)) arguments)
         → Entered bs vs us row (x ∷ xs) (if is_parameter r then read vs (number a)
-        ∷ filled xs (given_of vs arguments) else (None ∷ filled xs (given_of vs (a ∷ arguments)))) (a ∷ arguments)
+        ∷ variables_at_entry xs (given_of vs arguments) else (None ∷ variables_at_entry xs (given_of vs (a ∷ arguments)))) (a ∷ arguments)
     by role.Local is f k all more =
         let e = all f k in
         record {
-          fits = row_cons bs x xs None (filled xs (given_of vs (a ∷ arguments))) (entry_leaf x.role x.ty)
+          fits = row_cons bs x xs None (variables_at_entry xs (given_of vs (a ∷ arguments))) (entry_leaf x.role x.ty)
               (map (λ v. entry_leaf v.role v.ty) xs) (ap (λ (r : Role). entry_leaf r x.ty) is) e.fits;
           lent = at_role x.role role.Local _ _ _ is e.lent;
           counts = λ n. let c = e.counts n in omega arith;
@@ -188,7 +188,7 @@ entered_all variables bs vs us row (x ∷ xs) (a ∷ arguments) fit are none sam
         let e = more f.1 k.1 in
         let own : a.claimed ≡ false = k.0.1 ∙ ap is_claimed is in
         record {
-          fits = row_cons bs x xs (read vs (number a)) (filled xs (given_of vs arguments)) (entry_leaf x.role x.ty)
+          fits = row_cons bs x xs (read vs (number a)) (variables_at_entry xs (given_of vs arguments)) (entry_leaf x.role x.ty)
               (map (λ v. entry_leaf v.role v.ty) xs)
               (subst (λ (y : Option ℕ). LeafFits bs x.ty y (entry_leaf x.role x.ty)) (sym f.0.is)
               (subst (λ (l : Leaf). HasLeaf bs x.ty f.0.at l) (sym (ap (λ (r : Role). entry_leaf r x.ty) is)) f.0.leaf)) e.fits;
@@ -212,7 +212,7 @@ entered_all variables bs vs us row (x ∷ xs) (a ∷ arguments) fit are none sam
         let e = more f.1 k.1 in
         let claims : a.claimed ≡ true = k.0.1 ∙ ap is_claimed is in
         record {
-          fits = row_cons bs x xs (read vs (number a)) (filled xs (given_of vs arguments)) (entry_leaf x.role x.ty)
+          fits = row_cons bs x xs (read vs (number a)) (variables_at_entry xs (given_of vs arguments)) (entry_leaf x.role x.ty)
               (map (λ v. entry_leaf v.role v.ty) xs)
               (subst (λ (y : Option ℕ). LeafFits bs x.ty y (entry_leaf x.role x.ty)) (sym f.0.is)
               (subst (λ (l : Leaf). HasLeaf bs x.ty f.0.at l) (sym (ap (λ (r : Role). entry_leaf r x.ty) is)) f.0.leaf)) e.fits;

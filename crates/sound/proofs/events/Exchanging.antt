@@ -12,11 +12,11 @@ use Rattle.rules.specs.Arguments.{field_checks, payload}
 use Rattle.rules.specs.Endpoints.{declared_leaf, field_of, is_wrong}
 use Rattle.rules.specs.Mentions.{require_owned, require_another, is_lent}
 use Rattle.rows.specs.Rows.{is_owned, leaf_at}
-use Rattle.rules.specs.RuleTable.{exchanged}
+use Rattle.rules.specs.RuleTable.{after_exchange}
 use Rattle.machine.specs.Blocks.{exchanged_block, is_own_still}
 use Rattle.machine.specs.Frames.{address}
 use Rattle.machine.specs.Outcomes.{QueueBounds, Moved, test}
-use Rattle.machine.specs.World.{Block, Frame, World, block_at, changed, owns, read}
+use Rattle.machine.specs.World.{Block, Frame, World, block_at, change_each, owns, read}
 use Rattle.machine.specs.declared.halts.Fault.TheVariants.{F1, F3}
 use Rattle.sound.specs.GraphFit.{IsExchangeFit, IsGraphFit}
 use Rattle.sound.specs.Operands.{stateless}
@@ -32,7 +32,7 @@ use Rattle.sound.proofs.Lists.{not_false}
 use Rattle.sound.proofs.Parameters.{field_known}
 use Rattle.sound.proofs.Quiet.{contains_first, fits_type, own_holds}
 use Rattle.sound.proofs.blocks.SentBlocks.{process_not_freed}
-use Rattle.machine.specs.Instructions.{event_of, exchanges, is_own}
+use Rattle.machine.specs.Instructions.{outcome_from, exchanges, is_own}
 use Rattle.machine.proofs.ChangeLemmas.{eqb_same, eqb_apart, true≢false}
 
 -- the state of a type says nothing of fields
@@ -63,7 +63,7 @@ still_holds bs self taken x owned apart =
 pub good_exchange : (p : ProgramModel) (bound : QueueBounds) (w : World) (self choice : ℕ) (f : Frame) (rest : List Frame) (m : MethodModel)
     (e : stated.Exchange) (next : ℕ) → Here p w self f rest m (Exchange e next)
     → ((h : IsGraphFit p m) → IsExchangeFit p m h.scope f.point e next)
-    → IsGood p w (event_of p bound w self f rest (Exchange e next) choice)
+    → IsGood p w (outcome_from p bound w self f rest (Exchange e next) choice)
 good_exchange p bound w self choice f rest m e next h fit =
     let vs = f.variables in
     let hv = e.holder.variable.0 in
@@ -74,7 +74,7 @@ good_exchange p bound w self choice f rest m e next h fit =
     let row' = set h.row xv (declared_leaf k) in
     let checks = require_another m e.holder e.given ∷ require_owned m h.row e.holder ∷ field_checks m h.row k (payload e.given) in
     let passed = all_pass checks ((next, row') ∷ []) (λ finding q. h.passes finding
-    (ap (λ (o : Option HeapType). exchanged p m h.row e next o) type_is ∙ q)) in
+    (ap (λ (o : Option HeapType). after_exchange p m h.row e next o) type_is ∙ q)) in
     let other = not_refused (hv == xv) _ passed.0 in
     let h_owned = not_false (is_owned h.row hv) (not_refused (not (is_owned h.row hv)) _ passed.1.0) in
     let x_own = not_refused (is_lent m xv) _ passed.1.1.0 in
@@ -112,7 +112,7 @@ good_exchange p bound w self choice f rest m e next h fit =
     (sym (ap (λ (z : VariableModel). stateless z.ty) (some_same y g.given.variable (sym there ∙ g.given.there)) ∙ g.given.ty))
     held_leaf) in
     let reached = h.onward ((next, row') ∷ []) (next, row')
-    (ap (λ (o : Option HeapType). exchanged p m h.row e next o) type_is ∙ passed_goes checks ((next, row') ∷ []) passed)
+    (ap (λ (o : Option HeapType). after_exchange p m h.row e next o) type_is ∙ passed_goes checks ((next, row') ∷ []) passed)
     (contains_first (next, row') []) in
     let tests = test (is_own p bound w self f rest (read vs hv)) F1
     ∷ test (is_own_still w.blocks self (address (read vs hv) ∷ []) (read vs xv)) F3 ∷ [] in
@@ -129,9 +129,9 @@ good_exchange p bound w self choice f rest m e next h fit =
     )
     (subst (λ (y : Option ℕ). IsGood p w (exchanges p bound w self f rest e next y)) (sym found')
     (subst (λ (y : Option ℕ). IsGood p w (Moved (on_world w self f next vs' rest
-    (changed (exchanged_block self (address y) e.field (address (read vs xv)) held) w.blocks)))) (sym o.is)
+    (change_each (exchanged_block self (address y) e.field (address (read vs xv)) held) w.blocks)))) (sym o.is)
     (subst (λ (y : Option ℕ). IsGood p w (Moved (on_world w self f next vs' rest
-    (changed (exchanged_block self a e.field (address y) held) w.blocks)))) (sym x.is) (
+    (change_each (exchanged_block self a e.field (address y) held) w.blocks)))) (sym x.is) (
       goes_on p w self f rest m next vs' row' bs h.holds h.is h.there h.below reached fits' (record {
         lent = lent_stays_set m.variables vs xv (Some held) x_own;
         cut = cut;

@@ -13,7 +13,7 @@ use Rattle.program.specs.declared.call.Argument.{Argument}
 use Rattle.program.specs.declared.types.HeapType.{HeapType}
 use Rattle.program.specs.declared.method.Role.TheVariants as role
 use Rattle.program.specs.declared.method.Role.{Role}
-use Rattle.rules.specs.Arguments.{claimed}
+use Rattle.rules.specs.Arguments.{after_claims}
 use Rattle.rules.specs.Endpoints.{declared_leaf}
 use Rattle.sound.proofs.Parameters.{parameters_of}
 use Rattle.rules.specs.Mentions.{is_lent_role}
@@ -66,7 +66,7 @@ abbrev pub FitsAt : List Block → List VariableModel → List (Option ℕ) → 
 FitsAt bs variables vs row u = (y : VariableModel) → slice_get variables u ≡ Some y → LeafFits bs y.ty (read vs u) (leaf_at row u)
 
 pub put_back : (bs : List Block) (variables : List VariableModel) (vs : List (Option ℕ)) (row : List Leaf) (arguments : List Argument)
-    → RowFits bs variables (let_go vs (as_claimed arguments)) (claimed row (as_claimed arguments))
+    → RowFits bs variables (let_go vs (as_claimed arguments)) (after_claims row (as_claimed arguments))
     → Each (λ a. FitsAt bs variables vs row (number a)) arguments → RowFits bs variables vs row
 put_back bs variables vs row arguments h back = record {
   long = sym (go_long vs (as_claimed arguments)) ∙ h.long;
@@ -143,19 +143,19 @@ all_back bs variables mine before (x ∷ xs) (y ∷ ys) arguments are ends h =
 pub fits_back : (bs : List Block) (variables : List VariableModel) (mine : List (Option ℕ)) (before : List Leaf)
     (total arguments : List Argument) → Each (GivenBack bs variables mine before) arguments
     → Each (λ a. a.claimed ≡ false → NotClaimed total (number a)) arguments
-    → Each (λ a. a.claimed ≡ true → leaf_at (claimed before total) (number a) ≡ leaf.Nothing) arguments
-    → Each (λ a. FitsAt bs variables mine (claimed before total) (number a)) arguments
+    → Each (λ a. a.claimed ≡ true → leaf_at (after_claims before total) (number a) ≡ leaf.Nothing) arguments
+    → Each (λ a. FitsAt bs variables mine (after_claims before total) (number a)) arguments
 fits_back bs variables mine before total [] h n z = tt
 fits_back bs variables mine before total (a ∷ arguments) h n z =
     (λ y there. by y there (cases_Bool a.claimed), fits_back bs variables mine before total arguments h.1 n.1 z.1)
   where
     by : (y : VariableModel) → slice_get variables (number a) ≡ Some y → (a.claimed ≡ true) ⊎ (a.claimed ≡ false)
-        → LeafFits bs y.ty (read mine (number a)) (leaf_at (claimed before total) (number a))
-    by y there (inl c) = subst (λ (x : Option ℕ). LeafFits bs y.ty x (leaf_at (claimed before total) (number a))) (sym (h.0.gone c))
+        → LeafFits bs y.ty (read mine (number a)) (leaf_at (after_claims before total) (number a))
+    by y there (inl c) = subst (λ (x : Option ℕ). LeafFits bs y.ty x (leaf_at (after_claims before total) (number a))) (sym (h.0.gone c))
         (z.0 c)
     by y there (inr c) =
         let b = h.0.lent c in
-        subst (λ (x : Option ℕ). LeafFits bs y.ty x (leaf_at (claimed before total) (number a))) (sym b.1)
+        subst (λ (x : Option ℕ). LeafFits bs y.ty x (leaf_at (after_claims before total) (number a))) (sym b.1)
         (subst (λ (l : Leaf). HasLeaf bs y.ty b.0 l) (sym (row_other before total (number a) (n.0 c))) (b.2 y there))
 
 -- where all but the lent parameters are none, what stands in a frame is what was lent to it

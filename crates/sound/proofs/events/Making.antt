@@ -8,7 +8,7 @@ use Rattle.program.specs.WellFormed.{field_types, is_end}
 use Rattle.program.specs.declared.types.HeapType.{HeapType}
 use Rattle.program.specs.declared.statement.Mention.{Mention}
 use Rattle.flow.specs.Graphs.{New}
-use Rattle.rules.specs.Arguments.{claimed, given_before, target_checks}
+use Rattle.rules.specs.Arguments.{after_claims, given_before, target_checks}
 use Rattle.rules.specs.Endpoints.{fields_of}
 use Rattle.rules.specs.Mentions.{is_lent}
 use Rattle.rows.specs.Rows.{leaf_at, is_owned}
@@ -31,19 +31,19 @@ use Rattle.sound.proofs.Kept.{goes_on, lent_stays_on, lent_stays_set, row_kept, 
 use Rattle.sound.proofs.blocks.NewBlock as made
 use Rattle.sound.proofs.Parameters.{each_taken, fields_known}
 use Rattle.sound.proofs.Quiet.{contains_first}
-use Rattle.machine.specs.Instructions.{argument_tests, event_of}
+use Rattle.machine.specs.Instructions.{argument_tests, outcome_from}
 
 pub good_new : (p : ProgramModel) (bound : QueueBounds) (w : World) (self choice : ℕ) (f : Frame) (rest : List Frame) (m : MethodModel)
     (target : Mention) (arguments : List Mention) (next : ℕ)
     → Here p w self f rest m (New target arguments next)
     → ((h : IsGraphFit p m) → IsNewFit p m h.scope f.point target.variable.0 arguments next)
-    → IsGood p w (event_of p bound w self f rest (New target arguments next) choice)
+    → IsGood p w (outcome_from p bound w self f rest (New target arguments next) choice)
 good_new p bound w self choice f rest m target arguments next h fit =
     let v = target.variable.0 in
     let vs = f.variables in
     let args = payloads_claimed arguments in
     let us = let_go vs args in
-    let row1 = claimed h.row args in
+    let row1 = after_claims h.row args in
     let row' = set row1 v leaf.Block in
     let g = fit h.graph in
     let types = field_types p.structs g.variable.ty in

@@ -17,8 +17,8 @@ use Rattle.program.specs.declared.number.MessageId.{MessageId}
 use Rattle.program.specs.declared.number.StateId.{StateId}
 use Rattle.contracts.specs.Bounds.{sign_to}
 use Rattle.contracts.specs.Leaving.{sign_from}
-use Rattle.contracts.specs.TwoEnds.{Ends, Leads, Move, Moves, begun}
-use Rattle.machine.specs.World.{MessageHeld, Block, block_at, freed}
+use Rattle.contracts.specs.TwoEnds.{Ends, Leads, Move, Moves, ends_at_start}
+use Rattle.machine.specs.World.{MessageHeld, Block, block_at, is_freed_at}
 use Rattle.sound.specs.Operands.{stateless}
 use Rattle.sound.proofs.Invariant.{IsEndOf, ChannelFits, ChannelsFit}
 use Rattle.sound.specs.Queues.{other}
@@ -43,12 +43,12 @@ moves_more edges (suc n) old new next h m = (h.0, h.1, moves_more edges n h.0 ne
 pub record EndsAre (p : ProgramModel) (contract : ContractModel) (side : Side) (b : Block) (lives : Bool) (peer : Block) : Type 0 where
   pub n : ℕ
   pub ends : Ends
-  pub moves : Moves contract.parts.edges n (begun contract.parts.first) ends
+  pub moves : Moves contract.parts.edges n (ends_at_start contract.parts.first) ends
   pub mine : IsEndOf ends side b
   pub theirs : lives ≡ true → IsEndOf ends (other side) peer
 
 abbrev pub is_alive : List Block → ℕ → Bool
-is_alive bs a = not (freed bs a)
+is_alive bs a = not (is_freed_at bs a)
 
 -- a send
 pub ends_send : (p : ProgramModel) (x : ContractModel) (side : Side) (b peer b' peer' : Block) (lives : Bool) (m : MessageHeld) (q' : ℕ)
@@ -63,7 +63,7 @@ ends_send p x Imp b peer b' peer' lives m q' e leads s q ps pq = record {
     queue =
         set_at sign.Receive (e.ends.queue sign.Receive ++ record { 0 = m.message } ∷ []) e.ends.queue;
   };
-  moves = moves_more x.parts.edges e.n (begun x.parts.first) e.ends _ e.moves (
+  moves = moves_more x.parts.edges e.n (ends_at_start x.parts.first) e.ends _ e.moves (
     sign.Receive,
     inl record {
       message = record { 0 = m.message };
@@ -94,7 +94,7 @@ ends_send p x Exp b peer b' peer' lives m q' e leads s q ps pq = record {
     queue =
         set_at sign.Send (e.ends.queue sign.Send ++ record { 0 = m.message } ∷ []) e.ends.queue;
   };
-  moves = moves_more x.parts.edges e.n (begun x.parts.first) e.ends _ e.moves (
+  moves = moves_more x.parts.edges e.n (ends_at_start x.parts.first) e.ends _ e.moves (
     sign.Send,
     inl record {
       message = record { 0 = m.message };
@@ -143,7 +143,7 @@ ends_take p x Imp b peer b' peer' lives m ms q' e leads was s q ps pq =
     record {
       n = suc e.n;
       ends = record { state = set_at sign.Receive (record { 0 = q' }) e.ends.state; queue = set_at sign.Send f.others e.ends.queue };
-      moves = moves_more x.parts.edges e.n (begun x.parts.first) e.ends _ e.moves (
+      moves = moves_more x.parts.edges e.n (ends_at_start x.parts.first) e.ends _ e.moves (
         sign.Send,
         inr record {
           message = record { 0 = m.message };
@@ -171,7 +171,7 @@ ends_take p x Exp b peer b' peer' lives m ms q' e leads was s q ps pq =
     record {
       n = suc e.n;
       ends = record { state = set_at sign.Send (record { 0 = q' }) e.ends.state; queue = set_at sign.Receive f.others e.ends.queue };
-      moves = moves_more x.parts.edges e.n (begun x.parts.first) e.ends _ e.moves (
+      moves = moves_more x.parts.edges e.n (ends_at_start x.parts.first) e.ends _ e.moves (
         sign.Receive,
         inr record {
           message = record { 0 = m.message };
@@ -220,9 +220,9 @@ end_at ends side b b' s q h =
     }
 
 module _ (p : ProgramModel) (bs bs' : List Block) (a c : ℕ) (side : Side) (h : ChannelsFit p bs) (within : a < length bs)
-    (ty : stateless (block_at bs a).ty ≡ Endpoint record { 0 = c } side record { 0 = 0 }) (alive : freed bs a ≡ false)
+    (ty : stateless (block_at bs a).ty ≡ Endpoint record { 0 = c } side record { 0 = 0 }) (alive : is_freed_at bs a ≡ false)
     (long : length bs' ≡ length bs) (types : (j : ℕ) → (block_at bs' j).ty ≡ (block_at bs j).ty)
-    (peers : (j : ℕ) → (block_at bs' j).peer ≡ (block_at bs j).peer) (lives : (j : ℕ) → freed bs' j ≡ false → freed bs j ≡ false)
+    (peers : (j : ℕ) → (block_at bs' j).peer ≡ (block_at bs j).peer) (lives : (j : ℕ) → is_freed_at bs' j ≡ false → is_freed_at bs j ≡ false)
     (state : (j : ℕ) → j ≢ a → (block_at bs' j).state ≡ (block_at bs j).state)
     (queue : (j : ℕ) → j ≢ a → j ≢ (block_at bs a).peer → (block_at bs' j).queue ≡ (block_at bs j).queue)
     (moved : (x : ContractModel) → slice_get p.contracts c ≡ Some x
@@ -257,7 +257,7 @@ module _ (p : ProgramModel) (bs bs' : List Block) (a c : ℕ) (side : Side) (h :
         moves = k.moves;
         mine = k.mine alive;
         theirs = λ l. subst (λ (n : ℕ). IsEndOf k.ends Exp (block_at bs n)) (sym k.peer_is)
-            (k.theirs (sym (ap (freed bs) k.peer_is) ∙ of_not (freed bs (block_at bs a).peer) l));
+            (k.theirs (sym (ap (is_freed_at bs) k.peer_is) ∙ of_not (is_freed_at bs (block_at bs a).peer) l));
       })) in
       let f = subst (λ (z : Side). EndsAre p k.contract z (block_at bs' a) (is_alive bs (block_at bs a).peer)
       (block_at bs' (block_at bs a).peer)) s e in
@@ -274,7 +274,7 @@ module _ (p : ProgramModel) (bs bs' : List Block) (a c : ℕ) (side : Side) (h :
         moves = f.moves;
         mine = λ l. f.mine;
         theirs = λ l. subst (λ (n : ℕ). IsEndOf f.ends Exp (block_at bs' n)) k.peer_is
-            (f.theirs (ap not (ap (freed bs) k.peer_is ∙ lives k.peer l)));
+            (f.theirs (ap not (ap (is_freed_at bs) k.peer_is ∙ lives k.peer l)));
       }
 
   -- the exporter moves
@@ -287,9 +287,9 @@ module _ (p : ProgramModel) (bs bs' : List Block) (a c : ℕ) (side : Side) (h :
         n = k.n;
         ends = k.ends;
         moves = k.moves;
-        mine = subst (λ (n : ℕ). IsEndOf k.ends Exp (block_at bs n)) is (k.theirs (ap (freed bs) is ∙ alive));
+        mine = subst (λ (n : ℕ). IsEndOf k.ends Exp (block_at bs n)) is (k.theirs (ap (is_freed_at bs) is ∙ alive));
         theirs = λ l. subst (λ (n : ℕ). IsEndOf k.ends Imp (block_at bs n)) (sym to)
-            (k.mine (sym (ap (freed bs) to) ∙ of_not (freed bs (block_at bs a).peer) l));
+            (k.mine (sym (ap (is_freed_at bs) to) ∙ of_not (is_freed_at bs (block_at bs a).peer) l));
       })) in
       let f = subst (λ (z : Side). EndsAre p k.contract z (block_at bs' a) (is_alive bs (block_at bs a).peer)
       (block_at bs' (block_at bs a).peer)) s e in
@@ -304,7 +304,7 @@ module _ (p : ProgramModel) (bs bs' : List Block) (a c : ℕ) (side : Side) (h :
         n = f.n;
         ends = f.ends;
         moves = f.moves;
-        mine = λ l. subst (λ (n : ℕ). IsEndOf f.ends Imp (block_at bs' n)) to (f.theirs (ap not (ap (freed bs) to ∙ lives j l)));
+        mine = λ l. subst (λ (n : ℕ). IsEndOf f.ends Imp (block_at bs' n)) to (f.theirs (ap not (ap (is_freed_at bs) to ∙ lives j l)));
         theirs = λ l. subst (λ (n : ℕ). IsEndOf f.ends Exp (block_at bs' n)) (sym is) f.mine;
       }
 

@@ -16,7 +16,7 @@ use Rattle.program.specs.declared.types.Side.{Side}
 use Rattle.program.specs.declared.statement.Channel as made
 use Rattle.flow.specs.Graphs.{NewChannel}
 use Rattle.rules.specs.Endpoints.{first_state}
-use Rattle.rules.specs.Mentions.{is_lent, require_nothing, require_not_lent}
+use Rattle.rules.specs.Mentions.{is_lent, require_empty, require_not_lent}
 use Rattle.rules.specs.Outcomes.{Check}
 use Rattle.rows.specs.Rows.{leaf_at, is_owned}
 use Rattle.rows.specs.declared.row.Leaf.TheVariants as leaf
@@ -38,7 +38,7 @@ use Rattle.sound.proofs.blocks.NewEnds as made_ends
 use Rattle.sound.proofs.Quiet.{contains_first, end_stateless}
 use Rattle.sound.proofs.Here.{IsGood, row_set, nothing_none, Here}
 use Rattle.sound.specs.Queues.{other}
-use Rattle.machine.specs.Instructions.{event_of}
+use Rattle.machine.specs.Instructions.{outcome_from}
 
 -- ---- the two ends
 pub record TwoTypes (c : ℕ) (j k : HeapType) : Type 0 where
@@ -137,7 +137,7 @@ module _ (p : ProgramModel) (bound : QueueBounds) (w : World) (self choice : ℕ
   row' = set (set h.row v1 (leaf.State start)) v2 (leaf.State start)
 
   abbrev checks : List Check
-  checks = require_not_lent m c.first ∷ require_nothing m h.row c.first ∷ require_not_lent m c.second ∷ require_nothing m h.row c.second ∷ []
+  checks = require_not_lent m c.first ∷ require_empty m h.row c.first ∷ require_not_lent m c.second ∷ require_empty m h.row c.second ∷ []
 
   passed : Passed checks
   passed = all_pass checks ((next, row') ∷ []) h.passes
@@ -233,7 +233,7 @@ module _ (p : ProgramModel) (bound : QueueBounds) (w : World) (self choice : ℕ
   by_side Exp e1 e2 = pair_good (n + 1) n apart (leaf_two fit.first.ty e1) (leaf_one fit.second.ty e2)
       (λ a. let k = two_counts a in omega arith)
 
-  pub good_channel : IsGood p w (event_of p bound w self f rest (NewChannel c next) choice)
+  pub good_channel : IsGood p w (outcome_from p bound w self f rest (NewChannel c next) choice)
   good_channel = subst (λ (b : Bool). IsGood p w (Moved
       (on_world w self f next (set (set f.variables v1 (Some (if b then n else n + 1))) v2 (Some (if b then n + 1 else n))) rest bs')))
       (sym (ap is_imp (type_of_variable p f.method m v1 fit.first h.there fit.first_there)

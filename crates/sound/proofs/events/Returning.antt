@@ -16,11 +16,11 @@ use Rattle.program.specs.declared.number.VarId.{VarId}
 use Rattle.program.specs.declared.statement.Mention.{Mention}
 use Rattle.flow.specs.Graphs.{Instruction, Call, Return}
 use Rattle.flow.specs.Lowering.{graph_of}
-use Rattle.rules.specs.Arguments.{claimed, given_before, all_arguments, target_checks, given_leaf}
+use Rattle.rules.specs.Arguments.{after_claims, given_before, all_arguments, target_checks, given_leaf}
 use Rattle.rules.specs.Endpoints.{declared_leaf, is_wrong, parameter_types, result_of, type_of}
 use Rattle.sound.proofs.Parameters.{type_known, parameters_of, each_argument}
 use Rattle.rules.specs.Mentions.{is_lent, is_lent_role, name_of, given_back, is_kept, is_named}
-use Rattle.rules.specs.Outcomes.{Pair, Check, refused}
+use Rattle.rules.specs.Outcomes.{Pair, Check, refuse_if}
 use Rattle.rows.specs.Rows.{leaf_at, is_owned}
 use Rattle.rules.specs.RuleTable.{instruction_outcome, back_checks, is_not_back, value_checks}
 use Rattle.rules.specs.Scopes.{declared_between}
@@ -31,7 +31,7 @@ use Rattle.rows.specs.declared.row.Leaf.{Leaf}
 use Rattle.analyse.specs.Reach.{Reached}
 use Rattle.machine.specs.Blocks.{owns_none}
 use Rattle.machine.specs.Frames.{method_at, instruction_at, point_instruction, put, call_target, call_next}
-use Rattle.machine.specs.Outcomes.{Moved, QueueBounds, test, tested}
+use Rattle.machine.specs.Outcomes.{Moved, QueueBounds, test, after_tests}
 use Rattle.machine.specs.World.{Block, Frame, World, stack_at, read, owns, let_go}
 use Rattle.machine.specs.declared.halts.Fault.TheVariants.{F3, F7}
 use Rattle.sound.specs.GraphFit.{AreGraphsFit, IsCallFit, IsReturnFit}
@@ -50,7 +50,7 @@ use Rattle.sound.proofs.Lists.{element_at, not_false}
 use Rattle.sound.proofs.Quiet.{contains_first, own_holds, fits_type, type_same, stays_same, type_there}
 use Rattle.sound.proofs.Here.{IsGood, tested_good, test_holds, row_set, nothing_none, Here, owned_is, outcome_at}
 use Rattle.sound.proofs.events.GivenBack.{passed_range, passed_has, put_back, LentEnds, GivenBack, all_back, fits_back, lent_counts}
-use Rattle.machine.specs.Instructions.{event_of, is_own, returns, value_tests}
+use Rattle.machine.specs.Instructions.{outcome_from, is_own, returns, value_tests}
 use Rattle.machine.proofs.ChangeLemmas.{eqb_apart}
 
 -- ---- the frame that ends
@@ -83,7 +83,7 @@ module _ (p : ProgramModel) (bound : QueueBounds) (w : World) (self choice : ℕ
       by (inl inside) =
           let k : is_kept m h.row value u ≡ false =
           not_refused (is_kept m h.row value u) _ (passed_has
-          (λ v. refused (is_kept m h.row value v) (still_owned (name_of m v) place)) (declared_between m None last) u scoped
+          (λ v. refuse_if (is_kept m h.row value v) (still_owned (name_of m v) place)) (declared_between m None last) u scoped
           (fit.covers u inside)) in
           something_is (leaf_at h.row u)
           (sym (ap (λ (b : Bool). not b && (not (is_lent m u) && is_owned h.row u)) named
@@ -95,7 +95,7 @@ module _ (p : ProgramModel) (bound : QueueBounds) (w : World) (self choice : ℕ
       let l = leaf_at h.row u in
       let k : is_not_back p m h.row u ≡ false =
       not_refused (is_not_back p m h.row u) _
-      (passed_range (λ v. refused (is_not_back p m h.row v) (not_back (name_of m v) place)) 0 (length m.variables) u lent_back (omega arith)
+      (passed_range (λ v. refuse_if (is_not_back p m h.row v) (not_back (name_of m v) place)) 0 (length m.variables) u lent_back (omega arith)
       (let short = slice_get_within m.variables u x there in omega arith)) in
       let is_lent_here : is_lent m u ≡ true = lent_of m.variables u x there ∙ lent in
       let right : is_wrong x.ty l ≡ false =
@@ -155,7 +155,7 @@ module _ (p : ProgramModel) (bound : QueueBounds) (w : World) (self choice : ℕ
   call_of = Call caller.place record { 0 = f.method } caller.arguments caller.target caller.next
 
   abbrev left : List Leaf
-  left = claimed caller.before caller.arguments
+  left = after_claims caller.before caller.arguments
 
   caller_at : slice_get (graph_of caller.m).instructions g.point ≡ Some call_of
   caller_at = sym (ap (λ (x : Option MethodModel). point_instruction x g.point) caller.there) ∙ caller.call
@@ -216,7 +216,7 @@ module _ (p : ProgramModel) (bound : QueueBounds) (w : World) (self choice : ℕ
 
   row_left : RowFits w.blocks caller.m.variables g.variables left
   row_left = put_back w.blocks caller.m.variables g.variables left caller.arguments
-      (subst (λ (ys : List (Option ℕ)). RowFits w.blocks caller.m.variables ys (claimed left (as_claimed caller.arguments))) kept_is
+      (subst (λ (ys : List (Option ℕ)). RowFits w.blocks caller.m.variables ys (after_claims left (as_claimed caller.arguments))) kept_is
       caller.fits)
       (fits_back w.blocks caller.m.variables g.variables caller.before caller.arguments caller.arguments back
       (lent_not_claimed caller.arguments apart) (row_nothing caller.before caller.arguments))
@@ -276,7 +276,7 @@ module _ (p : ProgramModel) (bound : QueueBounds) (w : World) (self choice : ℕ
 
   return_something : (k : HeapType) (v t : Mention) → m.result ≡ Some k → value ≡ Some v → caller.target ≡ Some t
       → IsOfType m.variables k v.variable.0 → IsOfType caller.m.variables k t.variable.0
-      → IsGood p w (tested (value_tests p bound w self f (g ∷ more) (Some v)) (returns p bound w self f (g ∷ more) (Some v) (g ∷ more)))
+      → IsGood p w (after_tests (value_tests p bound w self f (g ∷ more) (Some v)) (returns p bound w self f (g ∷ more) (Some v) (g ∷ more)))
   return_something k v t r is to v_type t_type =
       let checks : Passed (value_checks p m h.row (Some v)) =
       subst (λ (o : Option Mention). Passed (value_checks p m h.row o)) is
@@ -341,13 +341,13 @@ module _ (p : ProgramModel) (bound : QueueBounds) (w : World) (self choice : ℕ
           (ap (λ (o : Option Mention). is_named o u) is ∙ named_other v u n))
           (cases_eq u v.variable.0)
 
-  pub good_back : IsGood p w (tested (value_tests p bound w self f (g ∷ more) value) (returns p bound w self f (g ∷ more) value (g ∷ more)))
+  pub good_back : IsGood p w (after_tests (value_tests p bound w self f (g ∷ more) value) (returns p bound w self f (g ∷ more) value (g ∷ more)))
   good_back = by m.result refl value refl caller.target refl fit.given
       (subst (λ (x : MethodModel). IsTakenBy caller.m.variables x.result caller.target) callee_is caller_fit.taken)
     where
       by : (r : Option HeapType) → m.result ≡ r → (v : Option Mention) → value ≡ v → (t : Option Mention) → caller.target ≡ t
           → IsTakenBy m.variables r v → IsTakenBy caller.m.variables r t
-          → IsGood p w (tested (value_tests p bound w self f (g ∷ more) v) (returns p bound w self f (g ∷ more) v (g ∷ more)))
+          → IsGood p w (after_tests (value_tests p bound w self f (g ∷ more) v) (returns p bound w self f (g ∷ more) v (g ∷ more)))
       by None r None v t to a b = return_nothing r v
       by None r (Some x) v t to a b = absurd a
       by (Some k) r None v t to a b = absurd a
@@ -358,9 +358,9 @@ pub good_return : (p : ProgramModel) (bound : QueueBounds) (w : World) (self cho
     (place : Place) (value : Option Mention) (last : Option VarId) → AreGraphsFit p
     → ((n : ℕ) (x : MethodModel) → method_at p n ≡ Some x → IsClean p n) → (h : Here p w self f rest m (Return place value last))
     → IsReturnFit p m h.graph.scope f.point value last
-    → IsGood p w (event_of p bound w self f rest (Return place value last) choice)
+    → IsGood p w (outcome_from p bound w self f rest (Return place value last) choice)
 good_return p bound w self choice f [] m place value last graphs clean h fit =
-    subst (λ (v : Option Mention). IsGood p w (tested (value_tests p bound w self f [] v) (returns p bound w self f [] v [])))
+    subst (λ (v : Option Mention). IsGood p w (after_tests (value_tests p bound w self f [] v) (returns p bound w self f [] v [])))
     (sym (last_none p bound w self choice f [] m place value last h fit h.below))
     (tested_good p w (test (owns_none w.blocks self) F7 ∷ []) _
     (test_holds (owns_none w.blocks self) F7 (has_none w.blocks self (λ a. zero_false (owns w.blocks self a) (own_none a))), tt) (

@@ -23,10 +23,10 @@ use Rattle.flow.specs.Graphs.{Send}
 use Rattle.contracts.specs.Bounds.{sign_to}
 use Rattle.contracts.specs.Leaving.{sign_from, edges_from, end_on}
 use Rattle.contracts.specs.TwoEnds.{Leads, NeverLonger}
-use Rattle.rules.specs.Arguments.{claimed, given_before, lacks_edge, sent_leaf}
-use Rattle.rules.specs.Endpoints.{brought, edges_of, edges_out, message_name, type_of}
+use Rattle.rules.specs.Arguments.{after_claims, given_before, lacks_edge, sent_leaf}
+use Rattle.rules.specs.Endpoints.{payload_types, edges_of, edges_out, message_name, type_of}
 use Rattle.rules.specs.Mentions.{require_owned}
-use Rattle.rules.specs.Outcomes.{refused}
+use Rattle.rules.specs.Outcomes.{refuse_if}
 use Rattle.rows.specs.Rows.{leaf_at, is_owned}
 use Rattle.sound.proofs.Parameters.{each_taken, type_known}
 use Rattle.rules.specs.Texts.{not_sent, wrong_for}
@@ -34,8 +34,8 @@ use Rattle.rows.specs.declared.row.Leaf.TheVariants as leaf
 use Rattle.rows.specs.declared.row.Leaf.{Leaf}
 use Rattle.machine.specs.Blocks.{bound_of}
 use Rattle.machine.specs.Frames.{address, payloads_claimed, addresses}
-use Rattle.machine.specs.Outcomes.{QueueBounds, test, tested}
-use Rattle.machine.specs.World.{MessageHeld, Block, Frame, World, block_at, read, freed, cut_off, is_empty, let_go}
+use Rattle.machine.specs.Outcomes.{QueueBounds, test, after_tests}
+use Rattle.machine.specs.World.{MessageHeld, Block, Frame, World, block_at, read, is_freed_at, cut_off, is_empty, let_go}
 use Rattle.machine.specs.declared.halts.Fault.TheVariants.{F1, F4, F6}
 use Rattle.sound.specs.GraphFit.{IsSendFit}
 use Rattle.sound.specs.Operands.{stateless}
@@ -53,7 +53,7 @@ use Rattle.sound.proofs.Quiet.{contains_first, own_holds}
 use Rattle.sound.proofs.blocks.SentBlocks.{peer_is, process_not_freed, sent, at, cut_now, kept_now, state_mine, counted_now, others_now, channels_now, queues_now, brought_now, held_now, declared_now}
 use Rattle.sound.proofs.Here.{IsGood, tested_good, test_holds, Here, owned_is}
 use Rattle.sound.specs.Queues.{other}
-use Rattle.machine.specs.Instructions.{event_of, argument_tests, send_tests, send_from, edge_out, has_room, is_own}
+use Rattle.machine.specs.Instructions.{outcome_from, argument_tests, send_tests, send_from, state_by_send, has_room, is_own}
 use Rattle.machine.proofs.ChangeLemmas.{eqb_same, ltb_true_of, true≢false}
 use Rattle.rules.proofs.TransferLemmas.{of_not}
 
@@ -100,7 +100,7 @@ pub record ChannelOf (p : ProgramModel) (bs : List Block) (a c : ℕ) (side : Si
   pub there : slice_get p.contracts c ≡ Some contract
   pub ends : EndsAre p contract side (block_at bs a) (is_alive bs (block_at bs a).peer) (block_at bs (block_at bs a).peer)
 
-pub channel_of : (p : ProgramModel) (bs : List Block) (a c : ℕ) (side : Side) → ChannelsFit p bs → a < length bs → freed bs a ≡ false
+pub channel_of : (p : ProgramModel) (bs : List Block) (a c : ℕ) (side : Side) → ChannelsFit p bs → a < length bs → is_freed_at bs a ≡ false
     → stateless (block_at bs a).ty ≡ Endpoint record { 0 = c } side record { 0 = 0 } → ChannelOf p bs a c side
 channel_of p bs a c Imp h within alive ty =
     let k = h.imp a c within ty in
@@ -113,7 +113,7 @@ channel_of p bs a c Imp h within alive ty =
         moves = k.moves;
         mine = k.mine alive;
         theirs = λ l. subst (λ (n : ℕ). IsEndOf k.ends Exp (block_at bs n)) (sym k.peer_is)
-            (k.theirs (sym (ap (freed bs) k.peer_is) ∙ of_not (freed bs (block_at bs a).peer) l));
+            (k.theirs (sym (ap (is_freed_at bs) k.peer_is) ∙ of_not (is_freed_at bs (block_at bs a).peer) l));
       };
     }
 channel_of p bs a c Exp h within alive ty =
@@ -127,9 +127,9 @@ channel_of p bs a c Exp h within alive ty =
         n = k.n;
         ends = k.ends;
         moves = k.moves;
-        mine = subst (λ (n : ℕ). IsEndOf k.ends Exp (block_at bs n)) me (k.theirs (ap (freed bs) me ∙ alive));
+        mine = subst (λ (n : ℕ). IsEndOf k.ends Exp (block_at bs n)) me (k.theirs (ap (is_freed_at bs) me ∙ alive));
         theirs = λ l. subst (λ (n : ℕ). IsEndOf k.ends Imp (block_at bs n)) (sym e.peer_is)
-            (k.mine (sym (ap (freed bs) e.peer_is) ∙ of_not (freed bs (block_at bs a).peer) l));
+            (k.mine (sym (ap (is_freed_at bs) e.peer_is) ∙ of_not (is_freed_at bs (block_at bs a).peer) l));
       };
     }
 
@@ -207,13 +207,13 @@ sends_along p bs a message to c side ty edge y there =
 -- a send that has an edge, or whose endpoint is cut off, finds room
 pub room_is : NeverLonger → (p : ProgramModel) (bound : QueueBounds) → IsSoundProgram p bound
     → (w : World) (self : ℕ) (f : Frame) (rest : List Frame) (a state' : ℕ) (msg : MessageHeld) (c : ℕ) (side : Side)
-    → ChannelsFit p w.blocks → a < length w.blocks → freed w.blocks a ≡ false
+    → ChannelsFit p w.blocks → a < length w.blocks → is_freed_at w.blocks a ≡ false
     → stateless (block_at w.blocks a).ty ≡ Endpoint record { 0 = c } side record { 0 = 0 }
     → (cut_off w.blocks a ≡ false → (y : ContractModel) → slice_get p.contracts c ≡ Some y
     → Leads y.parts.edges record { 0 = (block_at w.blocks a).state } record { 0 = msg.message } (sign_from side) record { 0 = state' })
     → has_room p bound w self f rest (block_at w.blocks a).peer ≡ true
 room_is longer p bound sound w self f rest a state' msg c side channels within alive ty leads = ⊎_elim
-    (λ g. or_left (freed w.blocks (block_at w.blocks a).peer) _ g)
+    (λ g. or_left (is_freed_at w.blocks (block_at w.blocks a).peer) _ g)
     (λ g.
     let cut : cut_off w.blocks a ≡ false = ap (λ (b : Bool). b && is_empty (block_at w.blocks a).queue) g in
     let ch = channel_of p w.blocks a c side channels within alive ty in
@@ -225,46 +225,46 @@ room_is longer p bound sound w self f rest a state' msg c side channels within a
     let bound_is : bound_of bound (block_at w.blocks (block_at w.blocks a).peer).ty ≡ bound c (other side) =
     bound_of_end bound (block_at w.blocks (block_at w.blocks a).peer).ty
     ∙ of_end_is bound 0 (block_at w.blocks (block_at w.blocks a).peer).ty c (other side) pk.ty in
-    or_right (freed w.blocks (block_at w.blocks a).peer) _
+    or_right (is_freed_at w.blocks (block_at w.blocks a).peer) _
     (ap (nat_lt (length (block_at w.blocks (block_at w.blocks a).peer).queue)) bound_is
     ∙ ltb_true_of (length (block_at w.blocks (block_at w.blocks a).peer).queue) (bound c (other side)) room))
-    (cases_Bool (freed w.blocks (block_at w.blocks a).peer))
+    (cases_Bool (is_freed_at w.blocks (block_at w.blocks a).peer))
 
 -- the row after a send
 pub sent_fits : (bs bs' : List Block) (variables : List VariableModel) (vs : List (Option ℕ)) (row : List Leaf) (arguments : List Argument)
     (e a : ℕ) (l' : Leaf) (x : VariableModel)
     → RowFits bs variables vs row → NotClaimed arguments e → StaysCutOff bs bs' → ((j : ℕ) → j ≢ a → j < length bs → IsKept bs bs' j)
     → standing a (let_go vs arguments) ≤ 1 → read vs e ≡ Some a → slice_get variables e ≡ Some x → HasLeaf bs' x.ty a l'
-    → RowFits bs' variables (let_go vs arguments) (set (claimed row arguments) e l')
+    → RowFits bs' variables (let_go vs arguments) (set (after_claims row arguments) e l')
 sent_fits bs bs' variables vs row arguments e a l' x h free cut kept once is there leaf = record {
   long = base.long;
-  row_long = length-set (claimed row arguments) e l' ∙ base.row_long;
+  row_long = length-set (after_claims row arguments) e l' ∙ base.row_long;
   each = λ u y at. ⊎_elim (λ s. mine u y at s) (λ n. others u y at n) (cases_eq u e);
 }
   where
-    base : RowFits bs variables (let_go vs arguments) (claimed row arguments)
+    base : RowFits bs variables (let_go vs arguments) (after_claims row arguments)
     base = go_fits bs variables vs row arguments h
 
     here : read (let_go vs arguments) e ≡ Some a
     here = go_other vs arguments e free ∙ is
 
     mine : (u : ℕ) (y : VariableModel) → slice_get variables u ≡ Some y → u ≡ e
-        → LeafFits bs' y.ty (read (let_go vs arguments) u) (leaf_at (set (claimed row arguments) e l') u)
+        → LeafFits bs' y.ty (read (let_go vs arguments) u) (leaf_at (set (after_claims row arguments) e l') u)
     mine u y at s =
         let within : e < length variables = slice_get_within variables e x there in
         let row_long = base.row_long in
         let v : read (let_go vs arguments) u ≡ Some a = ap (read (let_go vs arguments)) s ∙ here in
-        let r : leaf_at (set (claimed row arguments) e l') u ≡ l' =
-        ap (leaf_at (set (claimed row arguments) e l')) s ∙ leaf_set_same (claimed row arguments) e l' (omega arith) in
+        let r : leaf_at (set (after_claims row arguments) e l') u ≡ l' =
+        ap (leaf_at (set (after_claims row arguments) e l')) s ∙ leaf_set_same (after_claims row arguments) e l' (omega arith) in
         let k : x.ty ≡ y.ty = ap (λ (z : VariableModel). z.ty) (some_same x y (sym there ∙ (sym (ap (slice_get variables) s) ∙ at))) in
-        subst (λ (z : Option ℕ). LeafFits bs' y.ty z (leaf_at (set (claimed row arguments) e l') u)) (sym v)
+        subst (λ (z : Option ℕ). LeafFits bs' y.ty z (leaf_at (set (after_claims row arguments) e l') u)) (sym v)
         (subst (λ (z : Leaf). HasLeaf bs' y.ty a z) (sym r) (subst (λ (z : HeapType). HasLeaf bs' z a l') k leaf))
 
     others : (u : ℕ) (y : VariableModel) → slice_get variables u ≡ Some y → u ≢ e
-        → LeafFits bs' y.ty (read (let_go vs arguments) u) (leaf_at (set (claimed row arguments) e l') u)
+        → LeafFits bs' y.ty (read (let_go vs arguments) u) (leaf_at (set (after_claims row arguments) e l') u)
     others u y at n =
-        subst (λ (z : Leaf). LeafFits bs' y.ty (read (let_go vs arguments) u) z) (sym (leaf_set_other (claimed row arguments) e u l' n))
-        (fits_kept bs bs' y.ty (read (let_go vs arguments) u) (leaf_at (claimed row arguments) u) cut
+        subst (λ (z : Leaf). LeafFits bs' y.ty (read (let_go vs arguments) u) z) (sym (leaf_set_other (after_claims row arguments) e u l' n))
+        (fits_kept bs bs' y.ty (read (let_go vs arguments) u) (leaf_at (after_claims row arguments) u) cut
         (λ j at_j short. kept j (λ s. n (no_copies (let_go vs arguments) u e a once (at_j ∙ ap Some s) here)) short) (base.each u y at))
 
 claims_apart : (arguments : List Argument) (e : ℕ) → Each (λ b. number b ≢ e) arguments → NotClaimed arguments e
@@ -275,18 +275,18 @@ pub good_send : (p : ProgramModel) (bound : QueueBounds) (w : World) (self choic
     → NeverLonger → IsSoundProgram p bound → (place : Place) (e : Mention) (message : MessageId) (payloads : List Mention) (next : ℕ)
     → (h : Here p w self f rest m (Send place e message payloads next))
     → IsSendFit p m h.graph.scope f.point e.variable.0 message.0 payloads next
-    → IsGood p w (event_of p bound w self f rest (Send place e message payloads next) choice)
+    → IsGood p w (outcome_from p bound w self f rest (Send place e message payloads next) choice)
 good_send p bound w self choice f rest m longer sound place e message payloads next h fit =
     let vs = f.variables in
     let v = e.variable.0 in
     let args = payloads_claimed payloads in
-    let types = brought p message.0 in
+    let types = payload_types p message.0 in
     let name = message_name p (type_of m v) message.0 in
     let l = leaf_at h.row v in
     let wrong = λ (x : List ℕ) (at : Place). wrong_for x name at in
-    let lacks = refused (lacks_edge p (type_of m v) message.0 l) (not_sent name place) ∷ [] in
+    let lacks = refuse_if (lacks_edge p (type_of m v) message.0 l) (not_sent name place) ∷ [] in
     let checks = require_owned m h.row e ∷ ((given_before m (v ∷ []) args ++ each_taken m h.row wrong types payloads) ++ lacks) in
-    let row' = set (claimed h.row args) v (sent_leaf p (type_of m v) message.0 l) in
+    let row' = set (after_claims h.row args) v (sent_leaf p (type_of m v) message.0 l) in
     let passed = all_pass checks ((next, row') ∷ []) h.passes in
     let owned = not_false (is_owned h.row v) (not_refused (not (is_owned h.row v)) _ passed.0) in
     let o = owned_is p w self f rest m h.row v h.holds h.is h.fits owned in
@@ -312,7 +312,7 @@ good_send p bound w self choice f rest m longer sound place e message payloads n
     let own = λ (y u : ℕ) (i : read vs u ≡ Some y). top_owned p w self f rest y u h.holds h.is i in
     let end_k = end_is x.ty end in
     let type_a = o.leaf.ty ∙ end_k.is in
-    let edge = edge_out p bound w self f rest a message.0 in
+    let edge = state_by_send p bound w self f rest a message.0 in
     let state' = if cut_off w.blocks a then (block_at w.blocks a).state else unwrap_or edge (block_at w.blocks a).state in
     let msg : MessageHeld = record { message = message.0; payload = addresses vs args } in
     let leaves = λ (y : ℕ). given_leaves y w.blocks vs h.row types args fits apart claims (all y) in
@@ -358,9 +358,9 @@ good_send p bound w self choice f rest m longer sound place e message payloads n
     (λ y i short. kept' (λ z. is_among (addresses vs args) z ≡ true)
     (λ z q s. true≢false q (ap (is_among (addresses vs args)) s ∙ not_mine)) y i short) in
     let is_address : address (read vs v) ≡ a = ap address o.is in
-    subst (λ (n : ℕ). IsGood p w (tested (test (is_own p bound w self f rest (read vs v)) F1
-    ∷ (argument_tests p bound w self f rest [] args ++ send_tests p bound w self f rest n (edge_out p bound w self f rest n message.0)))
-    (send_from p bound w self f rest n msg (edge_out p bound w self f rest n message.0) (let_go vs args) next))) (sym is_address)
+    subst (λ (n : ℕ). IsGood p w (after_tests (test (is_own p bound w self f rest (read vs v)) F1
+    ∷ (argument_tests p bound w self f rest [] args ++ send_tests p bound w self f rest n (state_by_send p bound w self f rest n message.0)))
+    (send_from p bound w self f rest n msg (state_by_send p bound w self f rest n message.0) (let_go vs args) next))) (sym is_address)
     (tested_good p w (test (is_own p bound w self f rest (read vs v)) F1
     ∷ (argument_tests p bound w self f rest [] args ++ send_tests p bound w self f rest a edge)) _ (
       test_holds (is_own p bound w self f rest (read vs v)) F1 (own_holds p bound w self f rest (read vs v) a o.is o.owned),

@@ -17,7 +17,7 @@ use Rattle.program.specs.declared.method.Role.{Role}
 use Rattle.program.specs.declared.number.MethodId.{MethodId}
 use Rattle.flow.specs.Graphs.{Start}
 use Rattle.flow.specs.Lowering.{graph_of}
-use Rattle.rules.specs.Arguments.{claimed, given_before, all_arguments}
+use Rattle.rules.specs.Arguments.{after_claims, given_before, all_arguments}
 use Rattle.rules.specs.Endpoints.{parameter_types}
 use Rattle.sound.proofs.Parameters.{parameters_of, types_among}
 use Rattle.rules.specs.Mentions.{is_lent_role}
@@ -25,11 +25,11 @@ use Rattle.sound.proofs.Parameters.{each_argument}
 use Rattle.rules.specs.Steps.{entry_leaf, outcome, entry_of}
 use Rattle.rows.specs.declared.row.Leaf.{Leaf}
 use Rattle.analyse.specs.Reach.{Reached}
-use Rattle.machine.specs.Blocks.{handed}
-use Rattle.machine.specs.Frames.{method_at, filled, entered_at, addresses}
+use Rattle.machine.specs.Blocks.{with_new_owner}
+use Rattle.machine.specs.Frames.{method_at, variables_at_entry, entered_at, addresses}
 use Rattle.machine.specs.Outcomes.{Moved, QueueBounds}
 use Rattle.machine.specs.World.{no_type, Block, Frame, World, block_at, stack_at, read, owns, is_process}
-use Rattle.machine.specs.World.{changed, let_go}
+use Rattle.machine.specs.World.{change_each, let_go}
 use Rattle.machine.specs.declared.worlds.Owner.TheVariants.{Process, Channel}
 use Rattle.machine.specs.declared.worlds.Owner.{Owner}
 use Rattle.sound.specs.GraphFit.{IsStartFit}
@@ -48,7 +48,7 @@ use Rattle.sound.proofs.Kept.{went}
 use Rattle.sound.proofs.Lists.{each_map}
 use Rattle.sound.proofs.Quiet.{contains_first}
 use Rattle.sound.proofs.Here.{IsGood, tested_good, Here}
-use Rattle.machine.specs.Instructions.{event_of, argument_tests}
+use Rattle.machine.specs.Instructions.{outcome_from, argument_tests}
 use Rattle.machine.proofs.ChangeLemmas.{changed_length, eqb_same, eqb_apart, true≢false}
 use Rattle.machine.proofs.Holding.{owned_there}
 
@@ -73,10 +73,10 @@ module _ (p : ProgramModel) (w : World) (self : ℕ) (h : Holds p w) (given : Li
   fresh = length w.processes
 
   abbrev taken : List Block
-  taken = changed (handed (Process fresh) given) w.blocks
+  taken = change_each (with_new_owner (Process fresh) given) w.blocks
 
-  at : (j : ℕ) → block_at taken j ≡ handed (Process fresh) given j (block_at w.blocks j)
-  at j = changed_all (handed (Process fresh) given) w.blocks j (λ past.
+  at : (j : ℕ) → block_at taken j ≡ with_new_owner (Process fresh) given j (block_at w.blocks j)
+  at j = changed_all (with_new_owner (Process fresh) given) w.blocks j (λ past.
       ap (λ (b : Bool). record {
         ty = no_type;
         owner = if b then Process fresh else Channel;
@@ -91,7 +91,7 @@ module _ (p : ProgramModel) (w : World) (self : ℕ) (h : Holds p w) (given : Li
   owner_now j = ap (λ (b : Block). b.owner) (at j)
 
   long_now : length taken ≡ length w.blocks
-  long_now = changed_length (handed (Process fresh) given) w.blocks
+  long_now = changed_length (with_new_owner (Process fresh) given) w.blocks
 
   pub kept_now : (P : ℕ → Type 0) → AreKept w.blocks taken P
   kept_now = kept_handed p w.blocks taken self given (Process fresh) (blocks_fit p w h) mine refl (λ a. refl) long_now at
@@ -246,14 +246,14 @@ none_lent variables (y ∷ xs) arguments are claims v x there =
 pub good_start : (p : ProgramModel) (bound : QueueBounds) (w : World) (self choice : ℕ) (f : Frame) (rest : List Frame) (m : MethodModel)
     (place : Place) (method : MethodId) (arguments : List Argument) (next : ℕ)
     → (h : Here p w self f rest m (Start place method arguments next)) → IsStartFit p m h.graph.scope f.point method.0 arguments next
-    → IsGood p w (event_of p bound w self f rest (Start place method arguments next) choice)
+    → IsGood p w (outcome_from p bound w self f rest (Start place method arguments next) choice)
 good_start p bound w self choice f rest m place method arguments next h g =
     let x = g.callee in
     let vs = f.variables in
     let us = let_go vs arguments in
     let types = parameter_types p method.0 in
     let checks = all_arguments m h.row types arguments in
-    let row' = claimed h.row arguments in
+    let row' = after_claims h.row arguments in
     let passed = all_pass checks ((next, row') ∷ []) h.passes in
     let each : Passed (each_argument m h.row (types_among x.variables) arguments) =
     subst (λ (ks : List HeapType). Passed (each_argument m h.row ks arguments))
@@ -271,7 +271,7 @@ good_start p bound w self choice f rest m place method arguments next h g =
     (λ a. a.claimed ≡ false → read us (number a) ≡ read vs (number a)) arguments (λ a k o. go_other vs arguments (number a) (k o))
     (lent_not_claimed arguments apart) in
     let e = entered_all m.variables w.blocks vs us h.row x.variables arguments args g.arguments_fit none same in
-    let top : Frame = record { method = method.0; point = (graph_of x).first; variables = filled x.variables (given_of vs arguments) } in
+    let top : Frame = record { method = method.0; point = (graph_of x).first; variables = variables_at_entry x.variables (given_of vs arguments) } in
     let cut = cut_now p w self h.holds (addresses vs arguments) mine in
     let bs' = taken p w self h.holds (addresses vs arguments) mine in
     tested_good p w (argument_tests p bound w self f rest [] arguments) _
@@ -279,7 +279,7 @@ good_start p bound w self choice f rest m place method arguments next h g =
     (subst (λ (t : Frame). IsGood p w (Moved record {
       processes = set w.processes self (went f next us ∷ rest) ++ (t ∷ []) ∷ [];
       blocks =
-          changed (handed (Process (length w.processes)) (addresses vs arguments)) w.blocks;
+          change_each (with_new_owner (Process (length w.processes)) (addresses vs arguments)) w.blocks;
     }))
     (sym (ap (λ (o : Option MethodModel). entered_at o method.0 (given_of vs arguments)) g.there)) (
       with_started p w self h.holds (addresses vs arguments) mine f rest m next us row' top h.is h.there h.below
@@ -292,10 +292,10 @@ good_start p bound w self choice f rest m place method arguments next h g =
             there = g.there;
             row = map (λ v. entry_leaf v.role v.ty) x.variables;
             reached = entry_reached p method.0 x g.there;
-            fits = row_kept w.blocks bs' x.variables (filled x.variables (given_of vs arguments))
+            fits = row_kept w.blocks bs' x.variables (variables_at_entry x.variables (given_of vs arguments))
                 (map (λ v. entry_leaf v.role v.ty) x.variables) cut
                 (kept_now p w self h.holds (addresses vs arguments) mine
-                (λ a. 0 < standing a (filled x.variables (given_of vs arguments)))) e.fits;
+                (λ a. 0 < standing a (variables_at_entry x.variables (given_of vs arguments)))) e.fits;
           })
           (record { m = x; there = g.there; void = g.void; alone = none_lent m.variables x.variables arguments g.arguments_fit g.claims })
           (λ j. (leaves j).0)

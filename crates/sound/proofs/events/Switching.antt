@@ -21,12 +21,12 @@ use Rattle.flow.specs.Graphs.{Switch}
 use Rattle.contracts.specs.Bounds.{sign_to}
 use Rattle.contracts.specs.Leaving.{edges_from, end_on}
 use Rattle.contracts.specs.TwoEnds.{Leads, HeldAlways}
-use Rattle.rules.specs.Endpoints.{brought, edges_of, message_name, type_of, edges_in, in_state}
+use Rattle.rules.specs.Endpoints.{payload_types, edges_of, message_name, type_of, edges_in, in_state}
 use Rattle.rules.specs.Mentions.{is_lent, require_owned, name_of}
-use Rattle.rules.specs.Outcomes.{Pair, Check, refused}
+use Rattle.rules.specs.Outcomes.{Pair, Check, refuse_if}
 use Rattle.rows.specs.Rows.{leaf_at, is_owned}
 use Rattle.rules.specs.Steps.{outcome, entry_of}
-use Rattle.rules.specs.Switches.{comes_at, pair_at, bound_leaves, received, closed, awaited_edges, covered, is_to_send, switch_checks}
+use Rattle.rules.specs.Switches.{comes_at, pair_at, bound_leaves, receive_pairs, close_pairs, awaited_edges, cover_checks, is_to_send, switch_checks}
 use Rattle.rules.specs.Switches.{switch_pairs}
 use Rattle.rules.specs.Texts.{nothing_to_receive, not_covered}
 use Rattle.rows.specs.declared.row.Leaf.TheVariants as leaf
@@ -34,7 +34,7 @@ use Rattle.rows.specs.declared.row.Leaf.{Leaf}
 use Rattle.analyse.specs.Reach.{Reached}
 use Rattle.machine.specs.Frames.{address, bound_to}
 use Rattle.machine.specs.Outcomes.{Moved, QueueBounds, test, Waits}
-use Rattle.machine.specs.World.{MessageHeld, Block, Frame, World, block_at, read, freed, cut_off, is_empty}
+use Rattle.machine.specs.World.{MessageHeld, Block, Frame, World, block_at, read, is_freed_at, cut_off, is_empty}
 use Rattle.machine.specs.declared.halts.Fault.TheVariants.{F1}
 use Rattle.sound.specs.GraphFit.{IsSwitch, IsEntrance, IsBoundAt}
 use Rattle.sound.specs.Operands.{stateless, IsEndVariable}
@@ -56,7 +56,7 @@ use Rattle.sound.proofs.Here.{IsGood, tested_good, nothing_none, Here, Owned, ow
 use Rattle.sound.proofs.Parameters.{type_known}
 use Rattle.sound.proofs.Cases.{passed_flat, passed_map, Found, found_in, bound_fits, bound_counts}
 use Rattle.sound.proofs.Cases.{bound_stays, and_false, InState, in_state_is, tests_own, brings}
-use Rattle.machine.specs.Instructions.{event_of, is_own, receives, receives_from, receives_at, closes_at, edge_in}
+use Rattle.machine.specs.Instructions.{outcome_from, is_own, receives, receives_from, receives_at, closes_at, state_by_receive}
 use Rattle.rules.proofs.EndLemmas.{each_at}
 use Rattle.analyse.proofs.FrontLemmas.{contains_at}
 use Rattle.contracts.proofs.CandidateLemmas.{in_flat}
@@ -75,7 +75,7 @@ module _ (p : ProgramModel) (bound : QueueBounds) (w : World) (self choice : ℕ
   pairs = switch_pairs p m h.row cases
 
   abbrev later : List Check
-  later = refused (list_all (is_to_send p m h.row) es) (nothing_to_receive place) ∷ flat_map (covered p m h.row cases) es
+  later = refuse_if (list_all (is_to_send p m h.row) es) (nothing_to_receive place) ∷ flat_map (cover_checks p m h.row cases) es
 
   passed : Passed all_checks
   passed = all_pass all_checks pairs h.passes
@@ -83,8 +83,8 @@ module _ (p : ProgramModel) (bound : QueueBounds) (w : World) (self choice : ℕ
   owned_all : Each (λ e. is_owned h.row e.variable.0 ≡ true) es
   owned_all = passed_owned m h.row es (passed_left (map (require_owned m h.row) es) later passed)
 
-  covered_all : Each (λ e. Passed (covered p m h.row cases e)) es
-  covered_all = passed_flat (covered p m h.row cases) es (passed_right (map (require_owned m h.row) es) later passed).1
+  covered_all : Each (λ e. Passed (cover_checks p m h.row cases e)) es
+  covered_all = passed_flat (cover_checks p m h.row cases) es (passed_right (map (require_owned m h.row) es) later passed).1
 
   reaches : (y : Pair) → Contains pairs y → Reached (outcome p f.method) (entry_of p f.method) y
   reaches y c = h.onward pairs y (passed_goes all_checks pairs passed) c
@@ -112,17 +112,17 @@ module _ (p : ProgramModel) (bound : QueueBounds) (w : World) (self choice : ℕ
     stands = standing_read f.variables v.variable.0 own.at own.is
 
     -- a close
-    close_good : (c : EntranceModel) → case_for cases v.variable.0 None ≡ Some c → freed w.blocks (block_at w.blocks own.at).peer ≡ true
+    close_good : (c : EntranceModel) → case_for cases v.variable.0 None ≡ Some c → is_freed_at w.blocks (block_at w.blocks own.at).peer ≡ true
         → (block_at w.blocks own.at).queue ≡ [] → IsGood p w (Moved (on_world w self f c.next f.variables rest w.blocks))
     close_good c is gone empty =
         let row' = set h.row v.variable.0 leaf.CutOff in
-        let there : Contains (closed p m h.row cases v.variable.0) (c.next, row') =
+        let there : Contains (close_pairs p m h.row cases v.variable.0) (c.next, row') =
         subst (λ (x : Option EntranceModel). Contains (pair_at x (λ c. set h.row v.variable.0 leaf.CutOff)) (c.next, row')) (sym is)
         (contains_first (c.next, row') []) in
         let in_pairs : Contains pairs (c.next, row') =
         in_flat (comes_at p m h.row cases) es v (c.next, row') (contains_at es choice v at_choice)
-        (Contains-append_right (flat_map (received p m h.row cases v.variable.0) (awaited_edges p m h.row v))
-        (closed p m h.row cases v.variable.0) (c.next, row') there) in (
+        (Contains-append_right (flat_map (receive_pairs p m h.row cases v.variable.0) (awaited_edges p m h.row v))
+        (close_pairs p m h.row cases v.variable.0) (c.next, row') there) in (
           goes_on p w self f rest m c.next f.variables row' w.blocks h.holds h.is h.there h.below (reaches (c.next, row') in_pairs)
               (sent_fits w.blocks w.blocks m.variables f.variables h.row [] v.variable.0 own.at leaf.CutOff own.variable h.fits tt
               (stays_same w.blocks) (λ j n short. record { there = short; ty = refl; state = inl refl }) once own.is own.there
@@ -131,7 +131,7 @@ module _ (p : ProgramModel) (bound : QueueBounds) (w : World) (self choice : ℕ
                 ty = own.leaf.ty;
                 state = (
                   is_an_end,
-                  both_true (freed w.blocks (block_at w.blocks own.at).peer) (is_empty (block_at w.blocks own.at).queue) gone
+                  both_true (is_freed_at w.blocks (block_at w.blocks own.at).peer) (is_empty (block_at w.blocks own.at).queue) gone
                       (ap is_empty empty),
                 );
               }))
@@ -142,8 +142,8 @@ module _ (p : ProgramModel) (bound : QueueBounds) (w : World) (self choice : ℕ
     -- a message
     module _ (y : MessageHeld) (ys : List MessageHeld) (was : (block_at w.blocks own.at).queue ≡ y ∷ ys) where
       not_cut : cut_off w.blocks own.at ≡ false
-      not_cut = ap (λ (q : List MessageHeld). freed w.blocks (block_at w.blocks own.at).peer && is_empty q) was
-          ∙ and_false (freed w.blocks (block_at w.blocks own.at).peer)
+      not_cut = ap (λ (q : List MessageHeld). is_freed_at w.blocks (block_at w.blocks own.at).peer && is_empty q) was
+          ∙ and_false (is_freed_at w.blocks (block_at w.blocks own.at).peer)
 
       state_is : InState w.blocks own.at (leaf_at h.row v.variable.0)
       state_is = in_state_is w.blocks own.variable.ty own.at (leaf_at h.row v.variable.0) own.leaf is_an_end not_cut
@@ -159,10 +159,10 @@ module _ (p : ProgramModel) (bound : QueueBounds) (w : World) (self choice : ℕ
       edges_are = ap (λ (z : Option ContractModel). option_map_or (λ u. u.parts.edges) z []) front.there
 
       abbrev state' : ℕ
-      state' = unwrap_or (edge_in p bound w self f rest own.at y.message) (block_at w.blocks own.at).state
+      state' = unwrap_or (state_by_receive p bound w self f rest own.at y.message) (block_at w.blocks own.at).state
 
       state'_is : state' ≡ front.to
-      state'_is = ap (λ (z : Option ℕ). unwrap_or z (block_at w.blocks own.at).state) front.edge_in
+      state'_is = ap (λ (z : Option ℕ). unwrap_or z (block_at w.blocks own.at).state) front.state_by_receive
 
       awaited_is : awaited_edges p m h.row v ≡ edges_from edges (sign_to end_k.side) (block_at w.blocks own.at).state
       awaited_is = ap (λ (l : Leaf). in_state l (λ q. edges_in p (type_of m v.variable.0) q) []) state_is.is
@@ -177,9 +177,9 @@ module _ (p : ProgramModel) (bound : QueueBounds) (w : World) (self choice : ℕ
 
       has_case : is_none (case_for cases v.variable.0 (Some y.message)) ≡ false
       has_case =
-          let F = λ (d : Edge). refused (is_none (case_for cases v.variable.0 (Some d.message.0)))
+          let F = λ (d : Edge). refuse_if (is_none (case_for cases v.variable.0 (Some d.message.0)))
           (not_covered (name_of m v.variable.0) (message_name p (type_of m v.variable.0) d.message.0) v.place) in
-          let c = each_at (λ e. Passed (covered p m h.row cases e)) es choice v covered_all at_choice in
+          let c = each_at (λ e. Passed (cover_checks p m h.row cases e)) es choice v covered_all at_choice in
           let k = each_contains (λ d. F d ≡ None) (awaited_edges p m h.row v) row_edge.edge
           (passed_map F (awaited_edges p m h.row v) c) row_edge.there in
           ap (λ (n : ℕ). is_none (case_for cases v.variable.0 (Some n))) (sym row_edge.message)
@@ -203,7 +203,7 @@ module _ (p : ProgramModel) (bound : QueueBounds) (w : World) (self choice : ℕ
       kept' : (P : ℕ → Type 0) → ((j : ℕ) → P j → j ≢ own.at) → AreKept w.blocks bs' P
       kept' = kept_now p w self hb own.at state' y ys end_k.c end_k.side own.owned own.leaf.there type_a was leads
 
-      typed' : AreDeclared bs' (brought p y.message) y.payload
+      typed' : AreDeclared bs' (payload_types p y.message) y.payload
       typed' = typed p w self hb own.at state' y ys end_k.c end_k.side own.owned own.leaf.there type_a was leads h.holds.brought
 
       leaf' : HasLeaf bs' own.variable.ty own.at (leaf.State front.to)
@@ -230,20 +230,20 @@ module _ (p : ProgramModel) (bound : QueueBounds) (w : World) (self choice : ℕ
           let k = case_is (IsEntrance p m h.graph.scope f.point) cases v.variable.0 (Some y.message) c fit.each is in
           let b = brings p m h.graph.scope f.point y.message c c.awaited refl k.0 k.2 in
           let d = row_edge.edge in
-          let row_d = bound_leaves (set h.row v.variable.0 (leaf.State d.to.0)) c.targets (brought p d.message.0) in
-          let row' = bound_leaves (set h.row v.variable.0 (leaf.State front.to)) c.targets (brought p y.message) in
-          let there : Contains (received p m h.row cases v.variable.0 d) (c.next, row_d) =
+          let row_d = bound_leaves (set h.row v.variable.0 (leaf.State d.to.0)) c.targets (payload_types p d.message.0) in
+          let row' = bound_leaves (set h.row v.variable.0 (leaf.State front.to)) c.targets (payload_types p y.message) in
+          let there : Contains (receive_pairs p m h.row cases v.variable.0 d) (c.next, row_d) =
           subst (λ (x : Option EntranceModel). Contains (pair_at x
-          (λ c. bound_leaves (set h.row v.variable.0 (leaf.State d.to.0)) c.targets (brought p d.message.0))) (c.next, row_d))
+          (λ c. bound_leaves (set h.row v.variable.0 (leaf.State d.to.0)) c.targets (payload_types p d.message.0))) (c.next, row_d))
           (sym (ap (λ (n : ℕ). case_for cases v.variable.0 (Some n)) row_edge.message ∙ is)) (contains_first (c.next, row_d) []) in
           let in_pairs : Contains pairs (c.next, row_d) =
           in_flat (comes_at p m h.row cases) es v (c.next, row_d) (contains_at es choice v at_choice)
-          (Contains-append_left (flat_map (received p m h.row cases v.variable.0) (awaited_edges p m h.row v))
-          (closed p m h.row cases v.variable.0) (c.next, row_d)
-          (in_flat (received p m h.row cases v.variable.0) (awaited_edges p m h.row v) d (c.next, row_d) row_edge.there there)) in
+          (Contains-append_left (flat_map (receive_pairs p m h.row cases v.variable.0) (awaited_edges p m h.row v))
+          (close_pairs p m h.row cases v.variable.0) (c.next, row_d)
+          (in_flat (receive_pairs p m h.row cases v.variable.0) (awaited_edges p m h.row v) d (c.next, row_d) row_edge.there there)) in
           let row_is : row_d ≡ row' =
-          ap (λ (n : ℕ). bound_leaves (set h.row v.variable.0 (leaf.State n)) c.targets (brought p d.message.0)) row_edge.ends
-          ∙ ap (λ (n : ℕ). bound_leaves (set h.row v.variable.0 (leaf.State front.to)) c.targets (brought p n)) row_edge.message in
+          ap (λ (n : ℕ). bound_leaves (set h.row v.variable.0 (leaf.State n)) c.targets (payload_types p d.message.0)) row_edge.ends
+          ∙ ap (λ (n : ℕ). bound_leaves (set h.row v.variable.0 (leaf.State front.to)) c.targets (payload_types p n)) row_edge.message in
           let base = sent_fits w.blocks bs' m.variables f.variables h.row [] v.variable.0 own.at
           (leaf.State front.to) own.variable h.fits tt cut' (λ j n short. kept' (λ z. z ≢ own.at) (λ z q. q) j n short) once own.is
           own.there leaf' in (
@@ -251,7 +251,7 @@ module _ (p : ProgramModel) (bound : QueueBounds) (w : World) (self choice : ℕ
                 (subst (λ (r : List Leaf). Reached (outcome p f.method) (entry_of p f.method) (c.next, r)) row_is
                 (reaches (c.next, row_d) in_pairs))
                 (bound_fits bs' m.variables f.variables (set h.row v.variable.0 (leaf.State front.to)) c.targets
-                (brought p y.message) y.payload base b.types typed')
+                (payload_types p y.message) y.payload base b.types typed')
                 (record {
                   lent = bound_stays p m f.variables c.targets y.payload
                       (each_map (λ u. IsBoundAt p m h.graph.scope f.point c.next u.0) (λ u. is_lent m u.0 ≡ false) c.targets
@@ -261,7 +261,7 @@ module _ (p : ProgramModel) (bound : QueueBounds) (w : World) (self choice : ℕ
                       ap (λ (n : ℕ). standing n f.variables) s in let k2 = stands in absurd (omega arith));
                   counted = λ j. counted_now p w self hb own.at state' y ys end_k.c end_k.side own.owned own.leaf.there type_a was leads j
                       (standing j f.variables) (standing j (bound_to f.variables c.targets y.payload))
-                      (bound_counts j m.variables f.variables c.targets (brought p y.message) bs' y.payload h.fits.long b.types typed'
+                      (bound_counts j m.variables f.variables c.targets (payload_types p y.message) bs' y.payload h.fits.long b.types typed'
                       b.apart (bound_none c.targets c.next b.bound_at));
                   others = others_now p w self hb own.at state' y ys end_k.c end_k.side own.owned own.leaf.there type_a was leads;
                   channels = channels_now p w self hb own.at state' y ys end_k.c end_k.side own.owned own.leaf.there type_a was leads;
@@ -280,7 +280,7 @@ module _ (p : ProgramModel) (bound : QueueBounds) (w : World) (self choice : ℕ
       receive_good None is = absurd (true≢false (ap is_none is) has_case)
       receive_good (Some c) is = message_good c is
 
-    close_or_wait : (b : Bool) → freed w.blocks (block_at w.blocks own.at).peer ≡ b → (block_at w.blocks own.at).queue ≡ []
+    close_or_wait : (b : Bool) → is_freed_at w.blocks (block_at w.blocks own.at).peer ≡ b → (block_at w.blocks own.at).queue ≡ []
         → IsGood p w (if b then closes_at p bound w self f rest (case_for cases v.variable.0 None) else Waits)
     close_or_wait false e empty = tt
     close_or_wait true e empty = by (case_for cases v.variable.0 None) refl
@@ -291,7 +291,7 @@ module _ (p : ProgramModel) (bound : QueueBounds) (w : World) (self choice : ℕ
 
     at_queue : (q : List MessageHeld) → (block_at w.blocks own.at).queue ≡ q
         → IsGood p w (receives p bound w self f rest cases v.variable.0 own.at q)
-    at_queue [] is = close_or_wait (freed w.blocks (block_at w.blocks own.at).peer) refl is
+    at_queue [] is = close_or_wait (is_freed_at w.blocks (block_at w.blocks own.at).peer) refl is
     at_queue (y ∷ ys) is = receive_good y ys is (case_for cases v.variable.0 (Some y.message)) refl
 
     chosen_good : IsGood p w (receives p bound w self f rest cases v.variable.0 (address (read f.variables v.variable.0))
@@ -303,7 +303,7 @@ module _ (p : ProgramModel) (bound : QueueBounds) (w : World) (self choice : ℕ
   from_choice None is = tt
   from_choice (Some v) is = chosen_good v is
 
-  pub good_switch : IsGood p w (event_of p bound w self f rest (Switch place cases) choice)
+  pub good_switch : IsGood p w (outcome_from p bound w self f rest (Switch place cases) choice)
   good_switch = tested_good p w (map (λ e. test (is_own p bound w self f rest (read f.variables e.variable.0)) F1) es)
       (receives_from p bound w self f rest cases (slice_get es choice))
       (tests_own p bound w self f rest m h.row es h.holds h.is h.fits owned_all) (from_choice (slice_get es choice) refl)

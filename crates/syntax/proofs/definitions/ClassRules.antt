@@ -6,7 +6,7 @@ use Rattle.source.specs.declared.kind.Kind.{Kind}
 use Rattle.source.specs.declared.kind.Kind.TheVariants as kind
 use Rattle.source.specs.declared.token.Span.{Span}
 use Rattle.tree.specs.Symbols.{Symbol, Fixed, by_kind, is_kind, kind_at}
-use Rattle.tree.specs.Spelling.{name, when, listed, braced, parens}
+use Rattle.tree.specs.Spelling.{name, when, comma_list, in_braces, parens}
 use Rattle.syntax.specs.Reading.{never, Stops, optional_at, when_at, listed_on, listed_at}
 use Rattle.tree.specs.Grammar.{access_word, value_type}
 use Rattle.syntax.specs.Firsts.{opens_access, opens_type, opens_parameter, opens_method}
@@ -94,13 +94,13 @@ parameter_item = record { piece = parameter_piece; begin = record { each = λ p.
 
 -- "(" [ parameter { "," parameter } ] ")"
 
-pub parameters_inside : InParens (listed parameter) (listed_on (by_kind opens_parameter)) (listed_at (by_kind opens_parameter))
+pub parameters_inside : InParens (comma_list parameter) (listed_on (by_kind opens_parameter)) (listed_at (by_kind opens_parameter))
 parameters_inside = record { on = refl; here = elim [ [] ↦ refl | p ∷ ps ↦ refl ] }
 
-pub parameter_list_piece : Piece (listed parameter) (listed_on (by_kind opens_parameter)) (listed_at (by_kind opens_parameter))
+pub parameter_list_piece : Piece (comma_list parameter) (listed_on (by_kind opens_parameter)) (listed_at (by_kind opens_parameter))
 parameter_list_piece = listed_piece parameter_item
 
-pub parameters_piece : Piece (parens (listed parameter)) never (λ _. never)
+pub parameters_piece : Piece (parens (comma_list parameter)) never (λ _. never)
 parameters_piece = parens_piece parameters_inside parameter_list_piece
 
 -- result = "void" | type .
@@ -145,7 +145,7 @@ abbrev pub Signature : Type 0
 Signature = Span × ((Span × List made.Parameter.Parameter) × BlockTree)
 
 abbrev pub signature : Signature → List Symbol
-signature = both name (both (parens (listed parameter)) block)
+signature = both name (both (parens (comma_list parameter)) block)
 
 pub signature_piece : Piece signature never (λ _. never)
 signature_piece = next named_piece (next parameters_piece block_piece)
@@ -200,7 +200,7 @@ methods_inside = record { on = λ _. refl; here = λ _ _. refl }
 pub method_sequence_piece : Piece (flat_map method) (by_kind opens_method) (λ _. by_kind opens_method)
 method_sequence_piece = many_piece method_starts splits_self method_piece
 
-pub methods_piece : Piece (braced (flat_map method)) never (λ _. never)
+pub methods_piece : Piece (in_braces (flat_map method)) never (λ _. never)
 methods_piece = braced_piece methods_inside method_sequence_piece
 
 -- class = "class" ID methods .

@@ -6,7 +6,7 @@ use Rattle.std.proofs.lemmas.List.{map-append}
 use Rattle.source.specs.declared.kind.Kind.TheVariants as kind
 use Rattle.source.specs.declared.token.Span.{Span}
 use Rattle.tree.specs.Symbols.{Symbol, Fixed, Placed, by_kind}
-use Rattle.tree.specs.Spelling.{placed}
+use Rattle.tree.specs.Spelling.{token_at}
 use Rattle.syntax.specs.Reading.{never, Stops, last_at, many_at}
 use Rattle.tree.specs.Trees.{member_tree, MessageTree, BodyTree, Empty, Path, One, StateTree, MemberTree, Message, State, ContractTree}
 use Rattle.tree.specs.Grammar.{direction_word, message, state, member, contract}
@@ -102,12 +102,12 @@ members_end_at m ms all r is h =
 -- { member } "}"
 
 abbrev pub members_end : List MemberTree × Span → List Symbol
-members_end = both (flat_map member) (placed kind.CloseBrace)
+members_end = both (flat_map member) (token_at kind.CloseBrace)
 
-pub members_follow : Follows members_on (placed kind.CloseBrace) never
+pub members_follow : Follows members_on (token_at kind.CloseBrace) never
 members_follow = record { each = λ u r h. refl }
 
-members_meet : Meets (many_at (by_kind opens_member) member_at) (placed kind.CloseBrace) (λ _. never)
+members_meet : Meets (many_at (by_kind opens_member) member_at) (token_at kind.CloseBrace) (λ _. never)
 members_meet = record { here = λ ms span r h. sequence_stops (by_kind opens_member) member_at (Placed kind.CloseBrace span) refl (λ m. member_apart m (Placed kind.CloseBrace span) refl) ms }
 
 pub members_end_piece : Piece members_end never (λ _. never)
@@ -116,7 +116,7 @@ members_end_piece = both_piece members_piece (placed_piece kind.CloseBrace) memb
 -- state { member } "}"
 
 members_stop : (p : List MemberTree × Span) (r : List Symbol) → Stops state_on (members_end p ++ r)
-members_stop p r = subst (Stops state_on) (sym (append_assoc (flat_map member p.0) (placed kind.CloseBrace p.1) r)) (many_stops member_starts member_splits member_leaves p.0 (placed kind.CloseBrace p.1 ++ r) refl)
+members_stop p r = subst (Stops state_on) (sym (append_assoc (flat_map member p.0) (token_at kind.CloseBrace p.1) r)) (many_stops member_starts member_splits member_leaves p.0 (token_at kind.CloseBrace p.1 ++ r) refl)
 
 state_stops : (s : StateTree) (ys : List Symbol) → Stops state_on ys → Stops (state_at s) ys
 state_stops s [] h = tt

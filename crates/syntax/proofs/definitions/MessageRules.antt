@@ -4,7 +4,7 @@ use Rattle.source.specs.declared.kind.Kind.{Kind}
 use Rattle.source.specs.declared.kind.Kind.TheVariants as kind
 use Rattle.source.specs.declared.token.Span.{Span}
 use Rattle.tree.specs.Symbols.{by_kind}
-use Rattle.tree.specs.Spelling.{listed, parens}
+use Rattle.tree.specs.Spelling.{comma_list, parens}
 use Rattle.syntax.specs.Reading.{never, listed_on, listed_at}
 use Rattle.tree.specs.Trees.{MessageTree}
 use Rattle.tree.specs.Grammar.{direction_word, param, message}
@@ -40,13 +40,13 @@ directions = record { some = direction.In; known = known; blank = refl; only = o
 
 -- params = "(" [ param { "," param } ] ")" .
 
-pub params_inside : InParens (listed param) (listed_on (by_kind opens_type)) (listed_at (by_kind opens_type))
+pub params_inside : InParens (comma_list param) (listed_on (by_kind opens_type)) (listed_at (by_kind opens_type))
 params_inside = record { on = refl; here = elim [ [] ↦ refl | p ∷ ps ↦ refl ] }
 
-pub param_list_piece : Piece (listed param) (listed_on (by_kind opens_type)) (listed_at (by_kind opens_type))
+pub param_list_piece : Piece (comma_list param) (listed_on (by_kind opens_type)) (listed_at (by_kind opens_type))
 param_list_piece = listed_piece param_item
 
-pub params_piece : Piece (parens (listed param)) never (λ _. never)
+pub params_piece : Piece (parens (comma_list param)) never (λ _. never)
 params_piece = parens_piece params_inside param_list_piece
 
 -- message = direction "message" ID params ";" .

@@ -5,7 +5,7 @@ use Rattle.source.specs.declared.kind.Kind.{Kind}
 use Rattle.source.specs.declared.kind.Kind.TheVariants as kind
 use Rattle.source.specs.declared.token.Span.{Span}
 use Rattle.tree.specs.Symbols.{Symbol, by_kind}
-use Rattle.tree.specs.Spelling.{word, placed, name}
+use Rattle.tree.specs.Spelling.{word, token_at, name}
 use Rattle.syntax.specs.Reading.{never, Stops, leads, Fails}
 use Rattle.tree.specs.Trees.{PathTree}
 use Rattle.tree.specs.Grammar.{sign_word, edge, path}
@@ -105,9 +105,9 @@ trail_back p =
 path_back : (t : Trail) → trail_of (path_of t) ≡ t
 path_back t = λ i. (t.0, behind_back t.1.0 t.1.1 i)
 
-behind_spelled : (s : sign_nodes.Sign.Sign) (m : Span) (es : List contract_nodes.Edge.Edge) (target : Span) → hop (behind s m es target).0 ++ flat_map hop (behind s m es target).1 ≡ placed (sign_word s) m ++ (word kind.Arrow ++ (flat_map edge es ++ name target))
+behind_spelled : (s : sign_nodes.Sign.Sign) (m : Span) (es : List contract_nodes.Edge.Edge) (target : Span) → hop (behind s m es target).0 ++ flat_map hop (behind s m es target).1 ≡ token_at (sign_word s) m ++ (word kind.Arrow ++ (flat_map edge es ++ name target))
 behind_spelled s m [] target = refl
-behind_spelled s m (e ∷ es) target = ap (λ t. placed (sign_word s) m ++ (word kind.Arrow ++ (name e.message ++ t))) (behind_spelled e.sign e.mark es target)
+behind_spelled s m (e ∷ es) target = ap (λ t. token_at (sign_word s) m ++ (word kind.Arrow ++ (name e.message ++ t))) (behind_spelled e.sign e.mark es target)
 
 trail_spelled : (p : PathTree) → trail (trail_of p) ≡ path p
 trail_spelled p = ap (λ t. name p.first.message ++ t) (behind_spelled p.first.sign p.first.mark p.others p.target)

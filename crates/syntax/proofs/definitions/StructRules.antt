@@ -5,7 +5,7 @@ use Rattle.source.specs.declared.kind.Kind.{Kind}
 use Rattle.source.specs.declared.kind.Kind.TheVariants as kind
 use Rattle.source.specs.declared.token.Span.{Span}
 use Rattle.tree.specs.Symbols.{Symbol, Fixed, by_kind, kind_at}
-use Rattle.tree.specs.Spelling.{name, braced}
+use Rattle.tree.specs.Spelling.{name, in_braces}
 use Rattle.syntax.specs.Reading.{never, Stops, optional_at}
 use Rattle.tree.specs.Grammar.{access_word, value_type}
 use Rattle.syntax.specs.Firsts.{opens_access, opens_type, opens_field}
@@ -103,7 +103,7 @@ fields_inside = record { on = λ _. refl; here = λ _ _. refl }
 pub field_sequence_piece : Piece (flat_map field) (by_kind opens_field) (λ _. by_kind opens_field)
 field_sequence_piece = many_piece field_starts splits_self field_piece
 
-pub fields_piece : Piece (braced (flat_map field)) never (λ _. never)
+pub fields_piece : Piece (in_braces (flat_map field)) never (λ _. never)
 fields_piece = braced_piece fields_inside field_sequence_piece
 
 -- struct = "rep" "struct" ID "{" { field } "}" .

@@ -4,7 +4,7 @@ use Rattle.std.proofs.Common.{◌≡◌, Bool, false, List, ◌∷◌, ◌++◌,
 use Rattle.source.specs.declared.kind.Kind.TheVariants.{OpenBrace, CloseBrace, OpenParen, CloseParen, OpenBracket, CloseBracket}
 use Rattle.source.specs.declared.token.Span.{Span}
 use Rattle.tree.specs.Symbols.{Symbol, Fixed, Placed}
-use Rattle.tree.specs.Spelling.{placed, within, braced, parens}
+use Rattle.tree.specs.Spelling.{token_at, within, in_braces, parens}
 use Rattle.syntax.specs.Reading.{never, Stops, Fails}
 use Rattle.syntax.proofs.pieces.Pieces.{ReadsOneWay, Piece, Follows, Meets, both_way, both_piece, via_way, via_fails, fails_first, fails_second, fails_here, fails_after, ends, meets}
 use Rattle.syntax.proofs.pieces.CursorLemmas.{fixed, fixed_piece, placed_piece}
@@ -21,25 +21,25 @@ abbrev from : {X : Type 0} → Unit {0} × (X × Span) → X × Span
 from p = p.1
 
 module _ {X : Type 0} {a : X → List Symbol} {f : Symbol → Bool} {at : X → Symbol → Bool} (inside : InBraces a f at) where
-  follows : Follows f (placed CloseBrace) never
+  follows : Follows f (token_at CloseBrace) never
   follows = record { each = λ span r h. inside.on span }
 
-  meet : Meets at (placed CloseBrace) (λ _. never)
+  meet : Meets at (token_at CloseBrace) (λ _. never)
   meet = record { here = λ x span r h. inside.here x span }
 
-  pub braced_way : {x : X} {span : Span} → ReadsOneWay a f at x → ReadsOneWay (braced a) never (λ _. never) (x, span)
+  pub braced_way : {x : X} {span : Span} → ReadsOneWay a f at x → ReadsOneWay (in_braces a) never (λ _. never) (x, span)
   braced_way {x} {span} way = via_way to from (λ _. refl) (both_way ((fixed_piece OpenBrace).each tt) (both_way way ((placed_piece CloseBrace).each span) follows meet) ends meets)
 
-  pub braced_piece : Piece a f at → Piece (braced a) never (λ _. never)
+  pub braced_piece : Piece a f at → Piece (in_braces a) never (λ _. never)
   braced_piece piece = record { some = (piece.some, (placed_piece CloseBrace).some); each = λ p. braced_way (piece.each p.0) }
 
-  pub braced_open_fails : {old new : List Symbol} → Piece a f at → Fails (fixed OpenBrace) never old new → Fails (braced a) never old new
+  pub braced_open_fails : {old new : List Symbol} → Piece a f at → Fails (fixed OpenBrace) never old new → Fails (in_braces a) never old new
   braced_open_fails {old} {new} piece h = via_fails to from (λ _. refl) (fails_here h (both_piece piece (placed_piece CloseBrace) follows meet))
 
-  pub braced_fails : {old mid new : List Symbol} → (old ≡ Fixed OpenBrace ∷ mid) × Stops never mid → Fails a f mid new → Fails (braced a) never old new
+  pub braced_fails : {old mid new : List Symbol} → (old ≡ Fixed OpenBrace ∷ mid) × Stops never mid → Fails a f mid new → Fails (in_braces a) never old new
   braced_fails {old} {mid} {new} read h = via_fails to from (λ _. refl) (fails_after tt (fixed_piece OpenBrace) read (fails_first h (placed_piece CloseBrace) follows))
 
-  pub braced_close_fails : {old mid last new : List Symbol} (x : X) → Piece a f at → (old ≡ Fixed OpenBrace ∷ mid) × Stops never mid → (mid ≡ a x ++ last) × Stops (at x) last → Fails (placed CloseBrace) never last new → Fails (braced a) never old new
+  pub braced_close_fails : {old mid last new : List Symbol} (x : X) → Piece a f at → (old ≡ Fixed OpenBrace ∷ mid) × Stops never mid → (mid ≡ a x ++ last) × Stops (at x) last → Fails (token_at CloseBrace) never last new → Fails (in_braces a) never old new
   braced_close_fails {old} {mid} {last} {new} x piece read inner h = via_fails to from (λ _. refl) (fails_after tt (fixed_piece OpenBrace) read (fails_second x piece inner follows h))
 
 -- such a piece goes on by no ")"
@@ -66,13 +66,13 @@ module _ {X : Type 0} {a : X → List Symbol} {f : Symbol → Bool} {at : X → 
   pub parens_piece : Piece a f at → Piece (parens a) never (λ _. never)
   parens_piece piece = record { some = ((placed_piece OpenParen).some, piece.some); each = λ p. parens_way (piece.each p.1) }
 
-  pub parens_open_fails : {old new : List Symbol} → Piece a f at → Fails (placed OpenParen) never old new → Fails (parens a) never old new
+  pub parens_open_fails : {old new : List Symbol} → Piece a f at → Fails (token_at OpenParen) never old new → Fails (parens a) never old new
   parens_open_fails {old} {new} piece h = via_fails out back (λ _. refl) (fails_here h (both_piece piece (fixed_piece CloseParen) before apart))
 
-  pub parens_fails : {old mid new : List Symbol} (span : Span) → (old ≡ placed OpenParen span ++ mid) × Stops never mid → Fails a f mid new → Fails (parens a) never old new
+  pub parens_fails : {old mid new : List Symbol} (span : Span) → (old ≡ token_at OpenParen span ++ mid) × Stops never mid → Fails a f mid new → Fails (parens a) never old new
   parens_fails {old} {mid} {new} span read h = via_fails out back (λ _. refl) (fails_after span (placed_piece OpenParen) read (fails_first h (fixed_piece CloseParen) before))
 
-  pub parens_close_fails : {old mid last new : List Symbol} (span : Span) (x : X) → Piece a f at → (old ≡ placed OpenParen span ++ mid) × Stops never mid → (mid ≡ a x ++ last) × Stops (at x) last → Fails (fixed CloseParen) never last new → Fails (parens a) never old new
+  pub parens_close_fails : {old mid last new : List Symbol} (span : Span) (x : X) → Piece a f at → (old ≡ token_at OpenParen span ++ mid) × Stops never mid → (mid ≡ a x ++ last) × Stops (at x) last → Fails (fixed CloseParen) never last new → Fails (parens a) never old new
   parens_close_fails {old} {mid} {last} {new} span x piece read inner h = via_fails out back (λ _. refl) (fails_after span (placed_piece OpenParen) read (fails_second x piece inner before h))
 
 -- such a piece goes on by no "]"

@@ -6,7 +6,7 @@ use Rattle.source.specs.declared.kind.Kind.{Kind}
 use Rattle.source.specs.contracts.kind.Kind.{the_type}
 use denote.Enum.Bare.{same_true, true_same}
 use Rattle.tree.specs.Symbols.{Symbol, Fixed, Placed, kind_at, kind_is, by_kind, is_kind}
-use Rattle.tree.specs.Spelling.{placed}
+use Rattle.tree.specs.Spelling.{token_at}
 use Rattle.syntax.specs.Reading.{Stops, leads}
 use Rattle.syntax.proofs.pieces.Beginnings.{Starts, leads_stops}
 use Rattle.syntax.proofs.pieces.CursorLemmas.{fixed, leads_of, leads_by}
@@ -54,7 +54,7 @@ other_leads p (y ∷ ys) some none h = ap not (leads_by p (y ∷ ys) none ∙ h)
 pub fixed_starts : (kind : Kind) → Starts (fixed kind) (is_kind kind)
 fixed_starts kind = record { each = λ u. record { head = Fixed kind; tail = []; is = refl; first = kind_self kind } }
 
-pub placed_starts : (kind : Kind) → Starts (placed kind) (is_kind kind)
+pub placed_starts : (kind : Kind) → Starts (token_at kind) (is_kind kind)
 placed_starts kind = record { each = λ span. record { head = Placed kind span; tail = []; is = refl; first = kind_self kind } }
 
 -- a token of another kind is next

@@ -4,7 +4,7 @@ use Rattle.std.specs.List.{flat_map}
 use Rattle.source.specs.declared.kind.Kind.{Kind}
 use Rattle.source.specs.declared.kind.Kind.TheVariants.{Comma}
 use Rattle.tree.specs.Symbols.{Symbol, Fixed, by_kind, is_kind}
-use Rattle.tree.specs.Spelling.{comma, listed, optional}
+use Rattle.tree.specs.Spelling.{comma, comma_list, optional}
 use Rattle.syntax.specs.Reading.{never, Stops, leads, Fails, optional_at, listed_on, listed_at}
 use Rattle.syntax.proofs.pieces.Pieces.{Piece, both, both_piece, via_piece, via_fails, same_piece, same_fails, fails_first, fails_second, ends, meets, stops_never, or_right}
 use Rattle.syntax.proofs.pieces.Beginnings.{Starts, Splits, splits_self, sequence_starts}
@@ -70,7 +70,7 @@ module _ {X : Type 0} {a : X → List Symbol} {p : Option Kind → Bool} (item :
   splits : Splits (by_kind p) (is_kind Comma) (listed_on (by_kind p))
   splits = record { none = λ y h. or_left (by_kind p y) (is_kind Comma y) h; last = λ y h. or_right (by_kind p y) (is_kind Comma y) h; apart = kinds_apart p Comma item.apart }
 
-  spelled : (xs : List X) → optional some_spelled (to xs) ≡ listed a xs
+  spelled : (xs : List X) → optional some_spelled (to xs) ≡ comma_list a xs
   spelled [] = refl
   spelled (x ∷ xs) = refl
 
@@ -78,16 +78,16 @@ module _ {X : Type 0} {a : X → List Symbol} {p : Option Kind → Bool} (item :
   stops [] r h = h
   stops (x ∷ xs) r h = h
 
-  pub listed_piece : Piece (listed a) (listed_on (by_kind p)) (listed_at (by_kind p))
+  pub listed_piece : Piece (comma_list a) (listed_on (by_kind p)) (listed_at (by_kind p))
   listed_piece = same_piece spelled stops (via_piece to from back (opt_piece some_piece some_starts splits))
 
-  listed_fails : {old new : List Symbol} → leads (by_kind p) old ≡ true → Fails some_spelled (is_kind Comma) old new → Fails (listed a) (listed_on (by_kind p)) old new
+  listed_fails : {old new : List Symbol} → leads (by_kind p) old ≡ true → Fails some_spelled (is_kind Comma) old new → Fails (comma_list a) (listed_on (by_kind p)) old new
   listed_fails {old} {new} here h = same_fails spelled (via_fails to from there (opt_fails some_piece some_starts splits here h))
 
   -- the first one begins, and fails
-  pub listed_first_fails : {old new : List Symbol} → leads (by_kind p) old ≡ true → Fails a never old new → Fails (listed a) (listed_on (by_kind p)) old new
+  pub listed_first_fails : {old new : List Symbol} → leads (by_kind p) old ≡ true → Fails a never old new → Fails (comma_list a) (listed_on (by_kind p)) old new
   listed_first_fails {old} {new} here h = listed_fails here (fails_first h commas_piece ends)
 
   -- some are read, a comma is next, and what it begins fails
-  pub listed_more_fails : {old mid new : List Symbol} (x : X) (xs : List X) → leads (by_kind p) old ≡ true → old ≡ a x ++ (flat_map (comma a) xs ++ mid) → leads (is_kind Comma) mid ≡ true → Fails (comma a) never mid new → Fails (listed a) (listed_on (by_kind p)) old new
+  pub listed_more_fails : {old mid new : List Symbol} (x : X) (xs : List X) → leads (by_kind p) old ≡ true → old ≡ a x ++ (flat_map (comma a) xs ++ mid) → leads (is_kind Comma) mid ≡ true → Fails (comma a) never mid new → Fails (comma_list a) (listed_on (by_kind p)) old new
   listed_more_fails {old} {mid} {new} x xs here read more h = listed_fails here (fails_second x item.piece (read, stops_never _) ends (many_fails comma_piece comma_starts splits_self ended_leaves xs refl more h))

@@ -5,7 +5,7 @@ use Rattle.std.specs.List.{flat_map}
 use Rattle.source.specs.declared.kind.Kind.{Kind}
 use Rattle.source.specs.declared.kind.Kind.TheVariants.{Comma}
 use Rattle.tree.specs.Symbols.{Symbol, Fixed, by_kind, is_kind}
-use Rattle.tree.specs.Spelling.{comma, listed, optional}
+use Rattle.tree.specs.Spelling.{comma, comma_list, optional}
 use Rattle.syntax.specs.Reading.{never, Stops, leads, Fails, Takes, optional_at, last_at, many_at, listed_open_on, listed_open_at}
 use Rattle.syntax.proofs.pieces.Pieces.{Piece, Follows, both, next, via_piece, via_fails, same_piece, same_fails, fails_here, fails_after, fails_first, fails_second, or_right, stops_left}
 use Rattle.syntax.proofs.pieces.Beginnings.{Starts, Splits, Leaves, sequence_starts}
@@ -75,7 +75,7 @@ module _ {X : Type 0} {a : X → List Symbol} {f : Symbol → Bool} {at : X → 
   list_opens : Opens (by_kind p) sequence_on (listed_open_on (by_kind p) f)
   list_opens = record { none = λ y h. or_left (by_kind p y) (sequence_on y) h; last = λ y h. or_right (by_kind p y) (sequence_on y) h }
 
-  spelled : (xs : List X) → optional some_spelled (to xs) ≡ listed a xs
+  spelled : (xs : List X) → optional some_spelled (to xs) ≡ comma_list a xs
   spelled [] = refl
   spelled (x ∷ xs) = refl
 
@@ -83,18 +83,18 @@ module _ {X : Type 0} {a : X → List Symbol} {f : Symbol → Bool} {at : X → 
   stops [] r h = h
   stops (x ∷ xs) r h = h
 
-  pub listed_open_piece : Piece (listed a) (listed_open_on (by_kind p) f) (listed_open_at (by_kind p) at)
+  pub listed_open_piece : Piece (comma_list a) (listed_open_on (by_kind p) f) (listed_open_at (by_kind p) at)
   listed_open_piece = same_piece spelled stops (via_piece to from back (open_opt_piece some_piece some_starts list_opens))
 
-  listed_fails : {old new : List Symbol} → leads (by_kind p) old ≡ true → Fails some_spelled sequence_on old new → Fails (listed a) (listed_open_on (by_kind p) f) old new
+  listed_fails : {old new : List Symbol} → leads (by_kind p) old ≡ true → Fails some_spelled sequence_on old new → Fails (comma_list a) (listed_open_on (by_kind p) f) old new
   listed_fails {old} {new} here h = same_fails spelled (via_fails to from there (open_opt_fails some_piece some_starts list_opens here h))
 
   -- the first one begins, and fails
-  pub open_first_fails : {old new : List Symbol} → leads (by_kind p) old ≡ true → Fails a f old new → Fails (listed a) (listed_open_on (by_kind p) f) old new
+  pub open_first_fails : {old new : List Symbol} → leads (by_kind p) old ≡ true → Fails a f old new → Fails (comma_list a) (listed_open_on (by_kind p) f) old new
   open_first_fails {old} {new} here h = listed_fails here (fails_first h commas_piece follows)
 
   -- some are read, a comma is next, and what it begins fails
-  pub open_more_fails : {old mid new : List Symbol} (x : X) (xs : List X) → leads (by_kind p) old ≡ true → old ≡ a x ++ (flat_map (comma a) xs ++ mid) → leads (is_kind Comma) mid ≡ true → Fails (comma a) f mid new → Fails (listed a) (listed_open_on (by_kind p) f) old new
+  pub open_more_fails : {old mid new : List Symbol} (x : X) (xs : List X) → leads (by_kind p) old ≡ true → old ≡ a x ++ (flat_map (comma a) xs ++ mid) → leads (is_kind Comma) mid ≡ true → Fails (comma a) f mid new → Fails (comma_list a) (listed_open_on (by_kind p) f) old new
   open_more_fails {old} {mid} {new} x xs here read more h =
       listed_fails here (fails_second x item.piece (read, rest_stops comma_starts splits item.leaves x xs mid more) follows
       (many_fails comma_piece comma_starts splits item.leaves xs refl more h))

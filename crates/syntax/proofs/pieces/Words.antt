@@ -5,7 +5,7 @@ use Rattle.source.specs.declared.kind.Kind.{Kind}
 use Rattle.source.specs.declared.kind.Kind.TheVariants.{Name}
 use Rattle.source.specs.declared.token.Span.{Span}
 use Rattle.tree.specs.Symbols.{Symbol, Fixed, Placed, is_placed, kind_at, by_kind}
-use Rattle.tree.specs.Spelling.{word, placed}
+use Rattle.tree.specs.Spelling.{word, token_at}
 use Rattle.syntax.specs.Reading.{never, Stops, Fails}
 use Rattle.syntax.proofs.pieces.Pieces.{Piece}
 use Rattle.syntax.proofs.pieces.Beginnings.{Starts, none_fails}
@@ -40,10 +40,10 @@ module _ {X : Type 0} {word_of : X → Kind} {meaning : Option Kind → Option X
           (cc, cc)
 
   -- the same, each with its place
-  pub marks_piece : Piece {X = X × Span} (λ p. placed (word_of p.0) p.1) never (λ _. never)
+  pub marks_piece : Piece {X = X × Span} (λ p. token_at (word_of p.0) p.1) never (λ _. never)
   marks_piece = record { some = (words.some, record { start = 0; end = 0; place = record { line = 1; col = 1 } }); each = λ p. record { only = same p } }
     where
-      same : (p q : X × Span) (r s : List Symbol) → Stops never r → Stops never s → placed (word_of p.0) p.1 ++ r ≡ placed (word_of q.0) q.1 ++ s → (p ≡ q) × (r ≡ s)
+      same : (p q : X × Span) (r s : List Symbol) → Stops never r → Stops never s → token_at (word_of p.0) p.1 ++ r ≡ token_at (word_of q.0) q.1 ++ s → (p ≡ q) × (r ≡ s)
       same p q r s hr hs e =
           let kinds : word_of p.0 ≡ word_of q.0 = cc in
           let spans : p.1 ≡ q.1 = cc in
@@ -51,10 +51,10 @@ module _ {X : Type 0} {word_of : X → Kind} {meaning : Option Kind → Option X
           let first = one_some one in
           (λ i. (first i, spans i), cc)
 
-  pub marks_starts : Starts {X = X × Span} (λ p. placed (word_of p.0) p.1) (by_kind (means meaning))
+  pub marks_starts : Starts {X = X × Span} (λ p. token_at (word_of p.0) p.1) (by_kind (means meaning))
   marks_starts = record { each = λ p. record { head = Placed (word_of p.0) p.1; tail = []; is = refl; first = ap is_some (words.known p.0) } }
 
-  pub marks_fails : (ys : List Symbol) → (ys ≡ [] → ⊥) → meaning (kind_at ys) ≡ None → Fails {X = X × Span} (λ p. placed (word_of p.0) p.1) never ys ys
+  pub marks_fails : (ys : List Symbol) → (ys ≡ [] → ⊥) → meaning (kind_at ys) ≡ None → Fails {X = X × Span} (λ p. token_at (word_of p.0) p.1) never ys ys
   marks_fails ys some none = none_fails marks_piece marks_starts ys some (test_stops (means meaning) ys (ap is_some words.blank) (ap is_some none))
 
   pub words_starts : Starts (λ x. word (word_of x)) (by_kind (means meaning))
@@ -68,7 +68,7 @@ module _ {X : Type 0} {word_of : X → Kind} {meaning : Option Kind → Option X
   pub words_taken : (x : X) (old new : List Symbol) → meaning (kind_at old) ≡ Some x → is_placed (word_of x) ≡ false → ((kind : Kind) → (kind ≡ Name → ⊥) → is_placed kind ≡ false → kind_at old ≡ Some kind → old ≡ Fixed kind ∷ new) → old ≡ word (word_of x) ++ new
   words_taken x old new is low taken = taken (word_of x) (words.plain x) low (words_kind (kind_at old) x is)
 
-  pub marks_taken : (x : X) (span : Span) (old new : List Symbol) → meaning (kind_at old) ≡ Some x → is_placed (word_of x) ≡ true → ((kind : Kind) → is_placed kind ≡ true → kind_at old ≡ Some kind → old ≡ Placed kind span ∷ new) → old ≡ placed (word_of x) span ++ new
+  pub marks_taken : (x : X) (span : Span) (old new : List Symbol) → meaning (kind_at old) ≡ Some x → is_placed (word_of x) ≡ true → ((kind : Kind) → is_placed kind ≡ true → kind_at old ≡ Some kind → old ≡ Placed kind span ∷ new) → old ≡ token_at (word_of x) span ++ new
   marks_taken x span old new is high taken = taken (word_of x) high (words_kind (kind_at old) x is)
 
   -- none of them is next

@@ -1,6 +1,6 @@
 use Rattle.std.proofs.Common.{◌∙◌, ◌++◌, ◌∷◌, [], ap, sym, subst, take, get_or}
 use Rattle.std.proofs.lemmas.List.{take_more, take_all}
-use Rattle.contracts.specs.Positions.{listed}
+use Rattle.contracts.specs.Positions.{numbers_of}
 use Rattle.contracts.specs.Arcs.{AreArcs}
 use Rattle.contracts.proofs.ArcLemmas.{arcs_none, arcs_more, arcs_same}
 use Rattle.contracts.proofs.PartLemmas.{at_place}
@@ -11,7 +11,7 @@ use Rattle.program.specs.declared.contract.Edge.{Edge}
 use Rattle.program.specs.declared.contract.Sign.TheVariants.{Send}
 
 pub loop-edge-init : goal.loop-edge-init
-loop-edge-init c = subst (AreArcs (listed c.args.states) [] c.args.sign) (sym c.in_ok-arcs.ensures.items) (arcs_none (listed c.args.states) c.args.sign)
+loop-edge-init c = subst (AreArcs (numbers_of c.args.states) [] c.args.sign) (sym c.in_ok-arcs.ensures.items) (arcs_none (numbers_of c.args.states) c.args.sign)
 
 pub position-requires : goal.position-requires
 position-requires c = (c.requires.listed _ (at_place c.args.edges.now c.loop-edge.edge-index _ c.loop-edge-test.true)).0
@@ -21,7 +21,7 @@ position-requires-then-eq c = (c.requires.listed _ (at_place c.args.edges.now c.
 
 pub loop-edge-preserved : goal.loop-edge-preserved
 loop-edge-preserved c =
-    let numbers = listed c.args.states in
+    let numbers = numbers_of c.args.states in
     let edges = c.args.edges.now in
     let i = c.loop-edge.edge-index in
     let none : Edge = record { from = record { 0 = 0 }; message = record { 0 = 0 }; sign = Send; to = record { 0 = 0 }; place = record { line = 0; col = 0 } } in
@@ -36,4 +36,4 @@ loop-edge-preserved c =
     ])
 
 pub returns : goal.returns
-returns c = record { arcs = subst (λ l. AreArcs (listed c.args.states) l c.args.sign c.loop-edge.arcs.items) (take_all c.loop-edge.edge-index c.args.edges.now c.loop-edge-test.false) c.loop-edge.invariant }
+returns c = record { arcs = subst (λ l. AreArcs (numbers_of c.args.states) l c.args.sign c.loop-edge.arcs.items) (take_all c.loop-edge.edge-index c.args.edges.now c.loop-edge-test.false) c.loop-edge.invariant }

@@ -4,7 +4,7 @@ use Rattle.std.proofs.lemmas.List.Elements.{All-contains}
 use Rattle.contracts.specs.Chains.{AreEnds}
 use Rattle.contracts.specs.Graphs.{groups}
 use Rattle.contracts.specs.Leaving.{edge_at}
-use Rattle.contracts.specs.Positions.{listed}
+use Rattle.contracts.specs.Positions.{numbers_of}
 use Rattle.contracts.specs.Spans.{cut}
 use Rattle.contracts.proofs.SpanLemmas.{cut_map}
 use Rattle.contracts.proofs.PartLemmas.{all_from}
@@ -12,19 +12,19 @@ use Rattle.contracts.proofs.SourceLemmas.{leaving_is, sources_start}
 use Rattle.contracts.proofs.leaving.edges_by_state.Goals as goal
 
 pub groups_of-requires : goal.groups_of-requires
-groups_of-requires c = record { starts = subst (λ n. All (λ a. a.from < n) c.deref.result.now) (sym c.len.ensures) (subst (All (λ a. a.from < length (listed c.args.states))) (sym c.deref.ensures.value) (sources_start _ _ _ _ c.in_ok-sources.ensures)) }
+groups_of-requires c = record { starts = subst (λ n. All (λ a. a.from < n) c.deref.result.now) (sym c.len.ensures) (subst (All (λ a. a.from < length (numbers_of c.args.states))) (sym c.deref.ensures.value) (sources_start _ _ _ _ c.in_ok-sources.ensures)) }
 
 pub edges_at-requires : goal.edges_at-requires
 edges_at-requires c =
     let edges = c.args.edges.now in
     subst (All (λ i. i < length edges)) (sym c.deref-2.ensures.value) (all_from (λ i. i < length edges) c.in_ok-indices.indices.items.items (λ i there.
     let a = c.in_ok-indices.ensures.ends i there in
-    let within = All-contains (λ x. (x.from < length (listed c.args.states)) × (x.to < length edges)) c.deref.result.now a.0 (subst (All (λ x. (x.from < length (listed c.args.states)) × (x.to < length edges))) (sym c.deref.ensures.value) c.in_ok-sources.ensures.within) a.1 in
+    let within = All-contains (λ x. (x.from < length (numbers_of c.args.states)) × (x.to < length edges)) c.deref.result.now a.0 (subst (All (λ x. (x.from < length (numbers_of c.args.states)) × (x.to < length edges))) (sym c.deref.ensures.value) c.in_ok-sources.ensures.within) a.1 in
     subst (λ k. k < length edges) a.2 within.1))
 
 pub returns : goal.returns
 returns c =
-    let numbers = listed c.args.states in
+    let numbers = numbers_of c.args.states in
     let edges = c.args.edges.now in
     let indices = c.in_ok-indices.indices in
     leaving_is numbers edges c.in_ok-sources.sources.items (groups indices) (cut c.in_ok-items.items.items indices.ends.items) c.requires.listed c.in_ok-sources.ensures

@@ -1,6 +1,6 @@
 use Rattle.std.proofs.Common.{◌+◌, sym, subst}
 use Rattle.contracts.specs.Leaving.{AreSources}
-use Rattle.contracts.specs.Positions.{listed}
+use Rattle.contracts.specs.Positions.{numbers_of}
 use Rattle.contracts.proofs.PartLemmas.{at_place}
 use Rattle.contracts.proofs.PositionLemmas.{listed_once}
 use Rattle.contracts.proofs.SourceLemmas.{sources_more}
@@ -11,7 +11,7 @@ position-requires c = (c.requires.listed _ (at_place c.args.edges.now c.loop-i.i
 
 pub loop-i-preserved : goal.loop-i-preserved
 loop-i-preserved c =
-    let numbers = listed c.args.states in
+    let numbers = numbers_of c.args.states in
     let edges = c.args.edges.now in
     let i = c.loop-i.i in
     subst (AreSources numbers edges (i + 1)) (sym c.in_ok-push.ensures.items)

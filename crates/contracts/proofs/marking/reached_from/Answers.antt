@@ -4,7 +4,7 @@ use Rattle.std.proofs.lemmas.Grind.{get_or_default_zero}
 use Rattle.std.proofs.lemmas.List.Elements.{All-cons, All-nil}
 use Rattle.contracts.specs.Graphs.{groups, group_at, Walk}
 use Rattle.contracts.specs.Marking.{AreMarkSteps}
-use Rattle.contracts.specs.Reached.{joined}
+use Rattle.contracts.specs.Reached.{union}
 use Rattle.contracts.proofs.HeightLemmas.{only_one}
 use Rattle.contracts.proofs.JoinLemmas.{joined_length, joined_range, joined_row, row_within}
 use Rattle.contracts.proofs.MarkLemmas.{begun, done, follow_on, listed_in, steps_append, steps_length}
@@ -13,7 +13,7 @@ use Rattle.contracts.proofs.marking.reached_from.Goals as goal
 use Rattle.contracts.proofs.marking.reached_from.Goals.{After-index-v, In_ok-mark}
 
 abbrev both : (c : In_ok-mark) → List (List ℕ)
-both c = joined (groups c.args.sends.now) (groups c.args.receives.now)
+both c = union (groups c.args.sends.now) (groups c.args.receives.now)
 
 long : (c : In_ok-mark) → length (both c) ≡ length (groups c.args.sends.now)
 long c = joined_length (groups c.args.sends.now) (groups c.args.receives.now) c.requires.same
@@ -36,7 +36,7 @@ in_graph : (c : After-index-v) → c.index-v.result.now < length (groups c.args.
 in_graph c =
     let lt = c.works-test.true in
     let e = c.len-in-works.ensures in
-    let graph = joined (groups c.args.sends.now) (groups c.args.receives.now) in
+    let graph = union (groups c.args.sends.now) (groups c.args.receives.now) in
     let size = joined_length (groups c.args.sends.now) (groups c.args.receives.now) c.requires.same in
     let below = listed_in graph (c.args.first ∷ []) c.works.marks.items c.works.work.items c.works.at c.works.invariant.marking (omega (arith, lt, e)) in
     let is = in_work c in
@@ -86,7 +86,7 @@ works-preserved c =
     let e = c.len-in-works.ensures in
     let first = subst (AreMarkSteps old c.mark_each.new.marks.items work c.mark_each.new.work.items) c.group.ensures c.in_ok-mark_each.ensures.steps in
     let second = subst (AreMarkSteps c.mark_each.new.marks.items new c.mark_each.new.work.items more) c.group-in-works.ensures c.in_ok-mark_each-2.ensures.steps in
-    follow_on (joined sends receives) (c.args.first ∷ []) old new work more c.works.at v
+    follow_on (union sends receives) (c.args.first ∷ []) old new work more c.works.at v
     (joined_range sends receives c.requires.same c.requires.sends c.requires.receives)
     (in_work (goal.at.works-preserved c).After-index-v) (omega (arith, lt, e)) c.works.invariant
     (subst (AreMarkSteps old new work more) (sym (joined_row sends receives v))
@@ -97,7 +97,7 @@ returns-clause-long c = c.works.invariant.marking.long ∙ joined_length (groups
 
 pub returns-clause-reached : goal.returns-clause-reached
 returns-clause-reached c =
-    let graph = joined (groups c.args.sends.now) (groups c.args.receives.now) in
+    let graph = union (groups c.args.sends.now) (groups c.args.receives.now) in
     let first = c.args.first in
     let stop = c.works-test.false in
     let e = c.len-in-works.ensures in

@@ -7,7 +7,7 @@ use Rattle.contracts.specs.Conditions.{IsSound}
 use Rattle.contracts.specs.Graphs.{groups}
 use Rattle.contracts.specs.Leaving.{AreLeaving}
 use Rattle.contracts.specs.Parts.{MessageModel, contract_parts, message_model}
-use Rattle.contracts.specs.Positions.{listed}
+use Rattle.contracts.specs.Positions.{numbers_of}
 use Rattle.contracts.proofs.PartLemmas.{ends_listed, message_numbers_are}
 use Rattle.contracts.proofs.sound.sound_of.Goals as goal
 
@@ -18,7 +18,7 @@ same_numbers one other same = sym (message_numbers_are one) ∙ ap (λ l. map (�
 pub edges_by_state-requires : goal.edges_by_state-requires
 edges_by_state-requires c =
     let same = c.in_ok-edges.ensures.items_if_clones_equal (λ x y h. h) ∙ c.deref.ensures.value in
-    record { listed = subst (EndsListed (listed c.states_of-states.result)) (sym (c.deref-3.ensures.value ∙ same)) (ends_listed c.args.contract.now (listed c.states_of-states.result) c.requires.whole c.states_of-states.ensures) }
+    record { listed = subst (EndsListed (numbers_of c.states_of-states.result)) (sym (c.deref-3.ensures.value ∙ same)) (ends_listed c.args.contract.now (numbers_of c.states_of-states.result) c.requires.whole c.states_of-states.ensures) }
 
 pub invariant_of-result-clause-sound : goal.invariant_of-result-clause-sound
 invariant_of-result-clause-sound c = subst (λ (k : Contract). IsSound (contract_parts k)) (sym c.of.ensures) c.requires.sound
@@ -35,4 +35,4 @@ invariant_of-result-clause-named c = c.messages_of.ensures ∙ same_numbers c.ar
 pub invariant_of-result-clause-leave : goal.invariant_of-result-clause-leave
 invariant_of-result-clause-leave c =
     let same = c.in_ok-edges.ensures.items_if_clones_equal (λ x y h. h) ∙ c.deref.ensures.value ∙ ap (λ (k : Contract). k.edges.items) (sym c.of.ensures) in
-    subst (λ edges. AreLeaving (listed c.states_of-states.result) edges (groups c.in_ok-leaving.leaving)) (c.deref-3.ensures.value ∙ same) c.in_ok-leaving.ensures
+    subst (λ edges. AreLeaving (numbers_of c.states_of-states.result) edges (groups c.in_ok-leaving.leaving)) (c.deref-3.ensures.value ∙ same) c.in_ok-leaving.ensures

@@ -8,7 +8,7 @@ use Rattle.program.specs.declared.limits.TheConstants.{MOST_STATES}
 use Rattle.program.specs.declared.number.MessageId.{MessageId}
 use Rattle.program.specs.declared.number.StateId.{StateId}
 use Rattle.contracts.specs.Parts.{AreConsecutive, state_ids, message_ids, contract_parts}
-use Rattle.contracts.specs.Positions.{EndsHave, listed}
+use Rattle.contracts.specs.Positions.{EndsHave, numbers_of}
 use Rattle.contracts.proofs.PartLemmas.{all_from, contains_map, state_numbers_are, message_numbers_are}
 use Rattle.contracts.proofs.PositionLemmas.{row_is}
 use Rattle.contracts.proofs.WholeLemmas.{ids_once, id_in, row_once, unmapped}
@@ -41,11 +41,11 @@ messages_are : (c : After-new-message_list) → c.in_ok-messages.messages.items 
 messages_are c = c.in_ok-messages.ensures ∙ ap (map (λ m. m.id.0)) c.deref-2.ensures.value ∙ sym (message_numbers_are c.args.contract.now.messages.items)
 
 -- numbers that go up by one are listed by the first and their count
-states_listed : (c : After-new-message_list) → AreConsecutive c.args.contract.now.first.0 (map state_number (states_of c)) → listed c.new-state_list.result ≡ map state_number (states_of c)
+states_listed : (c : After-new-message_list) → AreConsecutive c.args.contract.now.first.0 (map state_number (states_of c)) → numbers_of c.new-state_list.result ≡ map state_number (states_of c)
 states_listed c group =
     c.new-state_list.ensures ∙ ap (range_with_len c.args.contract.now.first.0) (c.len.ensures ∙ c.in_ok-states.states.ok.0 ∙ ap length (states_are c)) ∙ row_is c.args.contract.now.first.0 (map state_number (states_of c)) group
 
-messages_listed : (c : After-new-message_list) → AreConsecutive c.first_or_0-first_message.result (map message_number (messages_of c)) → listed c.new-message_list.result ≡ map message_number (messages_of c)
+messages_listed : (c : After-new-message_list) → AreConsecutive c.first_or_0-first_message.result (map message_number (messages_of c)) → numbers_of c.new-message_list.result ≡ map message_number (messages_of c)
 messages_listed c group =
     c.new-message_list.ensures ∙ ap (range_with_len c.first_or_0-first_message.result) (c.len-2.ensures ∙ c.in_ok-messages.messages.ok.0 ∙ ap length (messages_are c)) ∙ row_is c.first_or_0-first_message.result (map message_number (messages_of c)) group
 
@@ -63,7 +63,7 @@ returns c =
     let first = c.args.contract.now.first.0 in
     let states = states_of before in
     let messages = messages_of before in
-    let Listed : Edge → Type 0 = EndsHave (listed c.new-state_list.result) (listed c.new-message_list.result) in (
+    let Listed : Edge → Type 0 = EndsHave (numbers_of c.new-state_list.result) (numbers_of c.new-message_list.result) in (
       λ yes.
           let all = and_parts _ _ yes in
           let three = and_parts _ _ all.0 in
@@ -74,8 +74,8 @@ returns c =
           let listed_states = states_listed before state_row in
           let listed_messages = messages_listed before message_row in
           let each = λ (e : Edge) (h : Contains edges e). All-contains Listed edges e (subst (All Listed) c.deref-6.ensures.value (c.are_listed-listed.ensures.0 two.1)) h in
-          let state_in = λ (q : StateId) (h : Contains (listed c.new-state_list.result) q.0). id_in state_number states q (λ a b e. ap state_of e) (subst (λ l. Contains l q.0) listed_states h) in
-          let message_in = λ (m : MessageId) (h : Contains (listed c.new-message_list.result) m.0). id_in message_number messages m (λ a b e. ap message_of e) (subst (λ l. Contains l m.0) listed_messages h) in
+          let state_in = λ (q : StateId) (h : Contains (numbers_of c.new-state_list.result) q.0). id_in state_number states q (λ a b e. ap state_of e) (subst (λ l. Contains l q.0) listed_states h) in
+          let message_in = λ (m : MessageId) (h : Contains (numbers_of c.new-message_list.result) m.0). id_in message_number messages m (λ a b e. ap message_of e) (subst (λ l. Contains l m.0) listed_messages h) in
           record {
             first = state_in c.args.contract.now.first (c.has.ensures.0 three.1);
             from = λ e h. state_in e.from (each e h).from;

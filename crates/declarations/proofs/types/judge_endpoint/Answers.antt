@@ -19,6 +19,6 @@ returns-in-Some-Some c = λ p h.
     let looked = looked_contract p.text _ _ declared (c.in-Some-Some.ensures p h) in
     let names = names_of_states (states_of looked.contract) in
     subst (λ o. OnOk result (Adds old new (endpoint_unknown p.text o c.args.contract c.args.state))) (sym looked.is)
-    (subst (λ s. OnOk result (Adds old new (endpoint_unknown p.text (Some (c.in-Some-Some.place, looked.contract)) c.args.contract s))) (sym c.in-Some-Some.is-1)
-    (subst (λ t. OnOk result (Adds old new (asked_name (sort.State (Some c.in-Some-Some.place)) t names c.in-Some-Some.state))) h.text_is
+    (subst (λ s. OnOk result (Adds old new (endpoint_unknown p.text (Some (c.in-Some-Some.index, looked.contract)) c.args.contract s))) (sym c.in-Some-Some.is-1)
+    (subst (λ t. OnOk result (Adds old new (asked_name (sort.State (Some c.in-Some-Some.index)) t names c.in-Some-Some.state))) h.text_is
     (c.judge_name.ensures names (subst (λ t. IsTable (words_at t names) declared.states) (sym h.text_is) looked.declared.states))))

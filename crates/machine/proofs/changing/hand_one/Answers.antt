@@ -5,7 +5,7 @@ use Rattle.machine.specs.World.{Block, block_at, is_process}
 use Rattle.machine.specs.Heaps.{IsCounted, one_if, owned_by}
 use Rattle.machine.proofs.ChangeLemmas.{hands_one, hands_none, handed_at, seen_at, seen_length, seen_set}
 use Rattle.machine.proofs.CountLemmas.{counted_moved, owned_most, some_counted}
-use Rattle.machine.specs.Blocks.{handed}
+use Rattle.machine.specs.Blocks.{with_new_owner}
 use Rattle.machine.proofs.changing.hand_one.Goals as goal
 
 pub count_less-requires : goal.count_less-requires
@@ -32,7 +32,7 @@ pub returns-then-a-len-clause-handed : goal.returns-then-a-len-clause-handed
 returns-then-a-len-clause-handed c =
     let all : c.len.result ≡ length c.args.blocks.now.items = c.len.ensures ∙ c.args.blocks.now.ok.0 in
     hands_one c.args.to c.args.blocks.now.items c.args.a c.index_mut.result.now _ (omega arith)
-    (sym (handed_at c.args.to c.args.a (block_model c.index_mut.result.now)) ∙ ap (λ b. handed c.args.to (c.args.a ∷ []) c.args.a (block_model b)) c.index_mut.ensures.value)
+    (sym (handed_at c.args.to c.args.a (block_model c.index_mut.result.now)) ∙ ap (λ b. with_new_owner c.args.to (c.args.a ∷ []) c.args.a (block_model b)) c.index_mut.ensures.value)
 
 pub returns-else-a-len-clause-handed : goal.returns-else-a-len-clause-handed
 returns-else-a-len-clause-handed c =

@@ -1,8 +1,8 @@
 use Rattle.std.proofs.Common.{refl, sym, ap, ◌≡◌, ◌∙◌, ◌++◌, map, take, length, arith, ◌+◌}
-use Rattle.machine.specs.Blocks.{handed}
+use Rattle.machine.specs.Blocks.{with_new_owner}
 use Rattle.machine.specs.BlockViews.{blocks_model, held_model}
 use Rattle.machine.specs.Heaps.{brings}
-use Rattle.machine.specs.World.{changed}
+use Rattle.machine.specs.World.{change_each}
 use Rattle.machine.specs.declared.worlds.Held as made_held
 use Rattle.machine.specs.declared.worlds.Owner.TheVariants.{Channel}
 use Rattle.machine.proofs.ChangeLemmas.{handed_nothing, handed_both}
@@ -24,8 +24,8 @@ loop-number-preserved c =
     brings_more items i held (omega arith) ∙ ap (λ l. so_far ++ l) (ap (λ (h : made_held.Held). h.payload.items) (sym c.index.ensures) ∙ sym c.deref.ensures.value) in
     record {
       seen = c.hand.ensures.handed
-          ∙ (ap (changed (handed Channel c.deref.result.now)) c.loop-number.invariant.seen
-          ∙ (handed_both Channel so_far c.deref.result.now old ∙ ap (λ l. changed (handed Channel l) old) (sym next)));
+          ∙ (ap (change_each (with_new_owner Channel c.deref.result.now)) c.loop-number.invariant.seen
+          ∙ (handed_both Channel so_far c.deref.result.now old ∙ ap (λ l. change_each (with_new_owner Channel l) old) (sym next)));
       counted = c.hand.ensures.counted;
       listed = c.hand.ensures.listed ∙ c.loop-number.invariant.listed;
     }

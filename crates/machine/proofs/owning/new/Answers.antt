@@ -5,7 +5,7 @@ use Rattle.program.specs.declared.statement.Mention.{Mention}
 use Rattle.rules.specs.Programs.{model_of}
 use Rattle.machine.specs.Answers.{Tells, on_top, with_variables}
 use Rattle.machine.specs.Frames.{addresses, payloads_claimed}
-use Rattle.machine.specs.Machine.{event_of}
+use Rattle.machine.specs.Machine.{outcome_from}
 use Rattle.machine.specs.Outcomes.{Moved}
 use Rattle.machine.specs.Views.{blocks_model, frame_model, variables_model}
 use Rattle.machine.specs.World.{Frame, let_go}
@@ -21,7 +21,7 @@ returns-then-is_empty-clause-tells c = λ bound w rest is.
     let none : making.arguments.now ≡ [] =
     nil_from_length making.arguments.now (eqb-true _ _ (sym c.is_empty.ensures ∙ c.if-is_empty.true)) in
     subst (λ (payloads : List Mention). Tells c.new_alone.result
-    (event_of (model_of c.args.program.now) bound w c.args.turn.process (frame_model c.args.frame.now) rest
+    (outcome_from (model_of c.args.program.now) bound w c.args.turn.process (frame_model c.args.frame.now) rest
     (New making.target payloads c.args.turn.next) 0)
     (on_top w.processes c.args.turn.process rest (frame_model c.new_alone.new.frame) (blocks_model c.new_alone.new.heap.blocks.items)))
     (sym none) (c.new_alone.ensures.tells bound w rest is)

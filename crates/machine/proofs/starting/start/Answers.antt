@@ -1,10 +1,10 @@
 use Rattle.std.proofs.Common.{◌≡◌, [], Some, refl, sym, subst, ap, ◌∙◌, length, map, reverse}
 use Rattle.std.proofs.lemmas.List.{get_or-map}
 use Rattle.rules.specs.Programs.{model_of}
-use Rattle.machine.specs.Blocks.{argument_tests_in, handed}
+use Rattle.machine.specs.Blocks.{argument_tests_in, with_new_owner}
 use Rattle.machine.specs.Frames.{addresses}
 use Rattle.machine.specs.Views.{blocks_model, frame_model, stack_of, stack_model, variables_model, world_model}
-use Rattle.machine.specs.World.{changed, stack_at}
+use Rattle.machine.specs.World.{change_each, stack_at}
 use Rattle.machine.specs.declared.halts.Refusal.TheVariants as refusal
 use Rattle.machine.specs.declared.worlds.Owner.TheVariants.{Process}
 use Rattle.machine.proofs.CallLemmas.{memory_tells, none_passes, passed_on, refused_alone}
@@ -87,7 +87,7 @@ returns-clause-tells c = λ bound.
     ∙ started_is p ps c.args.process s f start.method start.arguments.items c.deref-3.result.now c.deref-5.result.now start.next c.in_ok-begun.begun _ c.push.new.self.items c.index_mut.result.now c.go_on.new.stack c.len-number.result c.deref-4.result.now
     (blocks_model c.args.world.now.heap.blocks.items) (blocks_model c.hand_over.new.self.blocks.items)
     c.requires.there c.index.ensures c.in-Some.is c.deref-3.ensures.value c.in_ok-begun.ensures.entered (ap (λ ws. stack_of (Some c.in_ok-begun.begun) ws) c.new.ensures.items) c.in_ok-push.ensures.items c.index_mut.ensures.value c.deref-5.ensures.value c.go_on.ensures many
-    (c.deref-4.ensures.value ∙ (c.in_ok-owned.ensures.value ∙ ap (λ l. addresses (variables_model f.variables) l) c.deref-2.ensures.value)) (c.hand_over.ensures ∙ ap (changed (handed (Process c.len-number.result) c.deref-4.result.now)) c.list.ensures.same)
+    (c.deref-4.ensures.value ∙ (c.in_ok-owned.ensures.value ∙ ap (λ l. addresses (variables_model f.variables) l) c.deref-2.ensures.value)) (c.hand_over.ensures ∙ ap (change_each (with_new_owner (Process c.len-number.result) c.deref-4.result.now)) c.list.ensures.same)
 
 pub hand_over-requires-clause-owned : goal.hand_over-requires-clause-owned
 hand_over-requires-clause-owned c =

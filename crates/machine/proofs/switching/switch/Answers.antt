@@ -6,7 +6,7 @@ use Rattle.rules.specs.Programs.{model_of}
 use Rattle.machine.specs.Answers.{Tells, on_top}
 use Rattle.machine.specs.Frames.{address}
 use Rattle.machine.specs.Machine.{receives_from}
-use Rattle.machine.specs.Outcomes.{tested}
+use Rattle.machine.specs.Outcomes.{after_tests}
 use Rattle.machine.specs.Views.{blocks_model, frame_model}
 use Rattle.machine.specs.World.{owns, read}
 use Rattle.machine.proofs.CallLemmas.{pass_alone, passed_on, told_alone}
@@ -36,7 +36,7 @@ returns-clause-tells c = λ bound w rest place is.
     let e = get_or es c.args.choice no_mention in
     let same : blocks_model c.blocks-2.result.now ≡ bs = ap blocks_model c.blocks-2.ensures in
     let outcome = receives_from p bound w c.args.process f rest cs (slice_get es c.args.choice) in
-    let passed = ap (λ b. tested (own_tests b c.args.process f.variables es) outcome) (sym same) ∙ pass_alone (own_tests (blocks_model c.blocks-2.result.now) c.args.process f.variables es) outcome c.in_ok-are_own.ensures.pass in
+    let passed = ap (λ b. after_tests (own_tests b c.args.process f.variables es) outcome) (sym same) ∙ pass_alone (own_tests (blocks_model c.blocks-2.result.now) c.args.process f.variables es) outcome c.in_ok-are_own.ensures.pass in
     let there : slice_get es c.args.choice ≡ Some e = slice_get-get_or es c.args.choice no_mention (subst (λ l. c.args.choice < length l) (sym c.endpoints-endpoints.ensures) c.requires.there) in
     subst (λ o. Tells c.deliver.result o (on_top w.processes c.args.process rest (frame_model c.deliver.new.frame) (blocks_model c.deliver.new.heap.blocks.items)))
     (sym (switch_is p bound w c.args.process f rest place cs c.args.choice bs es is c.endpoints-endpoints.ensures

@@ -9,7 +9,7 @@ use Rattle.names.specs.Variables.{NameFrame}
 use Rattle.names.proofs.PendingLemmas.{Pends}
 use Rattle.names.proofs.arguments.judge_arguments.Given as goal
 
-abbrev pub invariant-loop-place : goal.invariant-loop-place
-invariant-loop-place l = (p : ProgramText) (f : NameFrame) → IsScope p l.scope → IsNameFrame p.text f l.variables
+abbrev pub invariant-loop-index : goal.invariant-loop-index
+invariant-loop-index l = (p : ProgramText) (f : NameFrame) → IsScope p l.scope → IsNameFrame p.text f l.variables
     → Pends l.fn.found.items l.found.items (argument_mistakes (record { program = p; variables = f.variables }) l.asked (map shape (map expression_tree l.arguments)))
-    (argument_mistakes (record { program = p; variables = f.variables }) (drop l.place l.asked) (drop l.place (map shape (map expression_tree l.arguments))))
+    (argument_mistakes (record { program = p; variables = f.variables }) (drop l.index l.asked) (drop l.index (map shape (map expression_tree l.arguments))))

@@ -7,6 +7,6 @@ use Rattle.names.specs.Variables.{NameFrame}
 use Rattle.names.proofs.TurnLemmas.{Ongoing}
 use Rattle.names.proofs.binds.judge_bound.Given as goal
 
-abbrev pub invariant-loop-place : goal.invariant-loop-place
-invariant-loop-place l = (p : ProgramText) (f : NameFrame) → IsScope p l.scope → IsNameFrame p.text f l.fn.variables
-    → Ongoing p.text l.fn.found.items l.found.items l.variables (binds_turn p l.parameters l.binds f) (binds_turn p (drop l.place l.parameters) (drop l.place l.binds))
+abbrev pub invariant-loop-index : goal.invariant-loop-index
+invariant-loop-index l = (p : ProgramText) (f : NameFrame) → IsScope p l.scope → IsNameFrame p.text f l.fn.variables
+    → Ongoing p.text l.fn.found.items l.found.items l.variables (binds_turn p l.parameters l.binds f) (binds_turn p (drop l.index l.parameters) (drop l.index l.binds))

@@ -1,7 +1,7 @@
 use Rattle.std.proofs.Common.{◌++◌, ap, ◌∙◌, subst}
 use Rattle.std.specs.Prelude.{OnOk}
 use Rattle.names.specs.Bodies.{exchanged_type, holder_mistakes}
-use Rattle.names.specs.Expressions.{InScope, meant, held, variable_mistakes}
+use Rattle.names.specs.Expressions.{InScope, variable_of, variable_type, variable_mistakes}
 use Rattle.declarations.specs.Mistakes.{Adds}
 use Rattle.declarations.specs.declared.mistake.Demand.TheVariants as demand
 use Rattle.declarations.specs.declared.mistake.Mismatch.TheVariants.{Given}
@@ -23,11 +23,11 @@ returns c = λ p f scope frame.
     let holder = c.in_ok-held.ensures.all p f scope frame in
     let asked = c.in_ok-asked.ensures.all s scope in
     let given = c.in_ok-given.ensures.all p f scope frame in
-    let ty = exchanged_type s (held (meant s e.holder)) e.field in
+    let ty = exchanged_type s (variable_type (variable_of s e.holder)) e.field in
     let first = variable_mistakes s e.holder in
-    let second = holder_mistakes s (held (meant s e.holder)) e.holder e.field in
+    let second = holder_mistakes s (variable_type (variable_of s e.holder)) e.holder e.field in
     let third = variable_mistakes s e.given in
-    let last = unless (agree (held (meant s e.given)) ty) place (Given (demand.OfType ty) (held (meant s e.given))) in
+    let last = unless (agree (variable_type (variable_of s e.given)) ty) place (Given (demand.OfType ty) (variable_type (variable_of s e.given))) in
     on_adds result old named new first (second ++ (third ++ last)) holder.found
     (on_adds result named judged new second (third ++ last) (subst (λ k. Adds named judged (holder_mistakes s k e.holder e.field)) holder.ty asked.found)
     (on_adds result judged used new third last given.found

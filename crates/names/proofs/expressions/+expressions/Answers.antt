@@ -1,5 +1,5 @@
 use Rattle.tree.specs.Operators.{Or, And, Equal, Compare}
-use Rattle.tree.specs.ExpressionTrees.{unmarked, disjunction_tree, conjunction_tree, equality_tree, equality_step_tree, relation_tree, relation_step_tree, sum_tree, factors_tree, factor_tree, unary_tree, prefixed_tree, atom_tree}
+use Rattle.tree.specs.ExpressionTrees.{without_sign, disjunction_tree, conjunction_tree, equality_tree, equality_step_tree, relation_tree, relation_step_tree, sum_tree, factors_tree, factor_tree, unary_tree, prefixed_tree, atom_tree}
 use Rattle.tree.specs.declared.expression.Conjunction as conjunctions
 use Rattle.tree.specs.declared.expression.Disjunction as disjunctions
 use Rattle.tree.specs.declared.expression.Equality as equalitys
@@ -16,23 +16,23 @@ use Rattle.names.proofs.expressions.+expressions.Goals as goal
 
 pub judge_disjunction-each-preserved : goal.judge_disjunction-each-preserved
 judge_disjunction-each-preserved t c =
-    judges_more Or (unmarked conjunction_tree) (shape (conjunction_tree (disjunctions.out-Disjunction c.args.disjunction.now).first)) c.deref-conjunction-items.result.now c.each.conjunction-index c.conjunction-item.result c.each-test.true c.conjunction-item.is
+    judges_more Or (without_sign conjunction_tree) (shape (conjunction_tree (disjunctions.out-Disjunction c.args.disjunction.now).first)) c.deref-conjunction-items.result.now c.each.conjunction-index c.conjunction-item.result c.each-test.true c.conjunction-item.is
     c.each.invariant c.in_ok-right.ensures c.in_ok-left-2.ensures
 
 pub judge_disjunction-returns : goal.judge_disjunction-returns
 judge_disjunction-returns t c =
     let e = c.args.disjunction.now in
-    judges_all Or (unmarked conjunction_tree) (conjunction_tree (disjunctions.out-Disjunction e).first) c.deref-conjunction-items.result.now (disjunctions.out-Disjunction e).others.items c.each.conjunction-index (disjunction_tree e) c.each-test.false c.deref-conjunction-items.ensures.value (disjunction_model e) c.each.invariant
+    judges_all Or (without_sign conjunction_tree) (conjunction_tree (disjunctions.out-Disjunction e).first) c.deref-conjunction-items.result.now (disjunctions.out-Disjunction e).others.items c.each.conjunction-index (disjunction_tree e) c.each-test.false c.deref-conjunction-items.ensures.value (disjunction_model e) c.each.invariant
 
 pub judge_conjunction-each-preserved : goal.judge_conjunction-each-preserved
 judge_conjunction-each-preserved t c =
-    judges_more And (unmarked equality_tree) (shape (equality_tree (conjunctions.out-Conjunction c.args.conjunction.now).first)) c.deref-equality-items.result.now c.each.equality-index c.equality-item.result c.each-test.true c.equality-item.is
+    judges_more And (without_sign equality_tree) (shape (equality_tree (conjunctions.out-Conjunction c.args.conjunction.now).first)) c.deref-equality-items.result.now c.each.equality-index c.equality-item.result c.each-test.true c.equality-item.is
     c.each.invariant c.in_ok-right.ensures c.in_ok-left-2.ensures
 
 pub judge_conjunction-returns : goal.judge_conjunction-returns
 judge_conjunction-returns t c =
     let e = c.args.conjunction.now in
-    judges_all And (unmarked equality_tree) (equality_tree (conjunctions.out-Conjunction e).first) c.deref-equality-items.result.now (conjunctions.out-Conjunction e).others.items c.each.equality-index (conjunction_tree e) c.each-test.false c.deref-equality-items.ensures.value (conjunction_model e) c.each.invariant
+    judges_all And (without_sign equality_tree) (equality_tree (conjunctions.out-Conjunction e).first) c.deref-equality-items.result.now (conjunctions.out-Conjunction e).others.items c.each.equality-index (conjunction_tree e) c.each-test.false c.deref-equality-items.ensures.value (conjunction_model e) c.each.invariant
 
 pub judge_equality-each-preserved : goal.judge_equality-each-preserved
 judge_equality-each-preserved t c =

@@ -1,5 +1,5 @@
 use Rattle.tree.specs.Operators.{Or, And, Equal, Compare}
-use Rattle.tree.specs.ExpressionTrees.{unmarked, conjunction_tree, equality_tree, equality_step_tree, relation_tree, relation_step_tree, sum_tree, factor_tree, unary_tree}
+use Rattle.tree.specs.ExpressionTrees.{without_sign, conjunction_tree, equality_tree, equality_step_tree, relation_tree, relation_step_tree, sum_tree, factor_tree, unary_tree}
 use Rattle.tree.specs.declared.expression.Conjunction as conjunctions
 use Rattle.tree.specs.declared.expression.Disjunction as disjunctions
 use Rattle.tree.specs.declared.expression.Equality as equalitys
@@ -14,11 +14,11 @@ use Rattle.names.proofs.expressions.+expressions.Given as goal
 
 abbrev pub invariant-judge_disjunction-each : goal.invariant-judge_disjunction-each
 invariant-judge_disjunction-each l =
-    Judges l.scope l.variables (chain_to Or (unmarked conjunction_tree) (shape (conjunction_tree (disjunctions.out-Disjunction l.disjunction).first)) l.conjunction-items l.conjunction-index) l.fn.found.items l.found.items l.left
+    Judges l.scope l.variables (chain_to Or (without_sign conjunction_tree) (shape (conjunction_tree (disjunctions.out-Disjunction l.disjunction).first)) l.conjunction-items l.conjunction-index) l.fn.found.items l.found.items l.left
 
 abbrev pub invariant-judge_conjunction-each : goal.invariant-judge_conjunction-each
 invariant-judge_conjunction-each l =
-    Judges l.scope l.variables (chain_to And (unmarked equality_tree) (shape (equality_tree (conjunctions.out-Conjunction l.conjunction).first)) l.equality-items l.equality-index) l.fn.found.items l.found.items l.left
+    Judges l.scope l.variables (chain_to And (without_sign equality_tree) (shape (equality_tree (conjunctions.out-Conjunction l.conjunction).first)) l.equality-items l.equality-index) l.fn.found.items l.found.items l.left
 
 abbrev pub invariant-judge_equality-each : goal.invariant-judge_equality-each
 invariant-judge_equality-each l =

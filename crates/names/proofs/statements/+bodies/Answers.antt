@@ -10,13 +10,13 @@ use Rattle.declarations.specs.declared.mistake.Mistake.TheVariants.{BreakOutside
 use Rattle.names.specs.Bodies.{inside_of, scope_in, declaration_turn, statement_turn, statements_turn, block_turn, test_turn, others_turn, case_turn, cases_turn, head_of, outside, delete_mistakes, exchange_mistakes, channel_mistakes, return_mistakes}
 use Rattle.names.specs.Cases.{binds_turn, awaited_message}
 use Rattle.declarations.specs.Declarations.{bound_params}
-use Rattle.names.specs.Expressions.{meant, held, truth_mistakes}
+use Rattle.names.specs.Expressions.{variable_of, variable_type, truth_mistakes}
 use Rattle.declarations.specs.Mistakes.{Adds}
 use Rattle.names.specs.Frames.{Turned}
 use Rattle.names.specs.Heads.{IsHeads, switch_heads}
 use Rattle.names.specs.Shapes.{shape}
 use Rattle.names.specs.Values.{Alone, Started, call_mistakes, target_mistakes, target_type, value_mistakes}
-use Rattle.names.specs.Variables.{NameFrame, CheckedPiece, closed, follow}
+use Rattle.names.specs.Variables.{NameFrame, CheckedPiece, after_block, follow}
 use Rattle.names.proofs.BranchLemmas.{last_branch, no_branch, no_statement, next_statement, next_test, next_case, case_there, last_case}
 use Rattle.names.proofs.KeepLemmas.{kept, statements_extend, case_extends}
 use Rattle.tree.proofs.StatementTwins.{block_is, case_is, if_is, test_is, switch_is, of_declare, of_assign, of_call, of_start, of_delete, of_exchange, of_channel, of_break, of_continue, of_return}
@@ -62,7 +62,7 @@ judge_case-returns t c = λ m f all around frame heads at.
     let new = c.judge_statements.new.found.items in
     let v = c.judge_binds.new.variables in
     let w = c.judge_statements.new.variables in
-    let params = bound_params (awaited_message s (held (meant s case.endpoint)) case.message) in
+    let params = bound_params (awaited_message s (variable_type (variable_of s case.endpoint)) case.message) in
     let binding = binds_turn m.program params case.binds.items f in
     let sequence = statement_sequence (map statement_tree case.statements.items) in
     let first = c.in_ok-judge_binds.ensures m.program f around.scope frame in
@@ -72,7 +72,7 @@ judge_case-returns t c = λ m f all around frame heads at.
     let inner = leaves f both around.scope.text_is (c.len-outer.ensures text f frame) c.leave.ensures (kept f both.frame (case_extends m params case.binds.items sequence f)) (turned_then binding (statements_turn m sequence) first second) in
     let here = c.in_ok-judge_head.ensures m.program f all (c.context.ensures m f around frame) heads in
     subst (λ k. Turned text old new c.leave.new.self (case_turn m all earlier k f)) (sym (case_is case))
-    (adds_before _ (closed f both) here inner)
+    (adds_before _ (after_block f both) here inner)
 
 pub judge_test-returns : goal.judge_test-returns
 judge_test-returns t c = λ m f around frame.
@@ -227,8 +227,8 @@ judge_statement-returns-in-Return t c = λ m f around frame.
     subst (λ x. OnOk result (Turned text old new v (statement_turn m x f))) (sym (ap statement_tree c.in-Return.is ∙ of_return c.in-Return.word c.in-Return.value))
     (on_stays result text old new v (return_mistakes (scope_in m f) m.result c.in-Return.word (option_map (λ e. expression_tree e.value) c.in-Return.value)) f frame (subst (λ o. OnOk result (Adds old new (return_mistakes (scope_in m f) o c.in-Return.word (option_map (λ e. expression_tree e.value) c.in-Return.value)))) around.result (c.judge_return.ensures m.program f (c.context-context.ensures m f around frame))))
 
-pub judge_switch-loop-place-init : goal.judge_switch-loop-place-init
-judge_switch-loop-place-init t c = λ m f around frame.
+pub judge_switch-loop-index-init : goal.judge_switch-loop-index-init
+judge_switch-loop-index-init t c = λ m f around frame.
     let text = m.program.text in
     let switch = c.args.switch.now in
     let tree = switch_tree switch in
@@ -242,11 +242,11 @@ judge_switch-loop-place-init t c = λ m f around frame.
     let turned = subst (λ k. Turned text old new c.judge_case.new.variables (case_turn m all [] k f)) (sym first) (c.in_ok-judge_case.ensures m f all around frame heads (ap (λ k. Some (head_of k)) first)) in
     goes_first f go rest turned
 
-pub judge_switch-loop-place-preserved : goal.judge_switch-loop-place-preserved
-judge_switch-loop-place-preserved t c = λ m f around frame.
+pub judge_switch-loop-index-preserved : goal.judge_switch-loop-index-preserved
+judge_switch-loop-index-preserved t c = λ m f around frame.
     let text = m.program.text in
     let switch = c.args.switch.now in
-    let i = c.loop-place.place in
+    let i = c.loop-index.index in
     let tree = switch_tree switch in
     let all = switch_heads tree in
     let others = ap (λ (s : SwitchTree). s.others) (switch_is switch) in
@@ -255,19 +255,19 @@ judge_switch-loop-place-preserved t c = λ m f around frame.
     let size = ap (λ (l : List CaseTree). length l) others ∙ length-map (made.Switch.out-Switch switch).others.items case_tree in
     let items = c.deref-case-items.ensures.value in
     let there = subst (λ (l : List made.Case.Case). case ≡ get_or l i case) items c.case-item.is in
-    let next = next_case m (head_of tree.first) tree.others i (case_tree case) (omega (arith, size, ap (λ (l : List made.Case.Case). length l) items, c.loop-place-test.true)) (case_there switch i case others there) in
+    let next = next_case m (head_of tree.first) tree.others i (case_tree case) (omega (arith, size, ap (λ (l : List made.Case.Case). length l) items, c.loop-index-test.true)) (case_there switch i case others there) in
     let whole = follow (case_turn m all [] tree.first f) (cases_turn m all (head_of tree.first ∷ []) (case_sequence tree.others)) in
-    let o = subst (Ongoing text old c.loop-place.found.items c.loop-place.variables whole) next.rest (c.loop-place.invariant m f around frame) in
+    let o = subst (Ongoing text old c.loop-index.found.items c.loop-index.variables whole) next.rest (c.loop-index.invariant m f around frame) in
     goes_on (case_turn m all (take (i + 1) all) (case_tree case)) (cases_turn m all (take (i + 1 + 1) all) (case_sequence (drop (i + 1) tree.others))) o
     (c.in_ok-judge_case-2.ensures m o.frame all around o.stands (subst (λ u. IsHeads u all c.in_ok-heads.heads) around.scope.text_is c.in_ok-heads.ensures) next.head)
 
 pub judge_switch-returns : goal.judge_switch-returns
 judge_switch-returns t c = λ m f around frame.
     let switch = c.args.switch.now in
-    let i = c.loop-place.place in
+    let i = c.loop-index.index in
     let tree = switch_tree switch in
     let all = switch_heads tree in
     let others = ap (λ (s : SwitchTree). s.others) (switch_is switch) in
     let size = ap (λ (l : List CaseTree). length l) others ∙ length-map (made.Switch.out-Switch switch).others.items case_tree in
     let whole = follow (case_turn m all [] tree.first f) (cases_turn m all (head_of tree.first ∷ []) (case_sequence tree.others)) in
-    ends (subst (Ongoing m.program.text c.args.found.now.items c.loop-place.found.items c.loop-place.variables whole) (last_case m all (take (i + 1) all) tree.others i (omega (arith, size, ap (λ (l : List made.Case.Case). length l) c.deref-case-items.ensures.value, c.loop-place-test.false))) (c.loop-place.invariant m f around frame))
+    ends (subst (Ongoing m.program.text c.args.found.now.items c.loop-index.found.items c.loop-index.variables whole) (last_case m all (take (i + 1) all) tree.others i (omega (arith, size, ap (λ (l : List made.Case.Case). length l) c.deref-case-items.ensures.value, c.loop-index-test.false))) (c.loop-index.invariant m f around frame))

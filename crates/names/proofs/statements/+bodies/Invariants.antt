@@ -20,8 +20,8 @@ invariant-judge_if-loop-test l = (m : bodies.Surroundings) (f : NameFrame) → A
     (follow (test_turn m (if_tree l.branches).first f) (others_turn m (if_tree l.branches).others))
     (others_turn m (other_sequence (map test_tree (drop l.test-index l.test-items)) (option_map block_tree (made.If.out-If l.branches).otherwise)))
 
-abbrev pub invariant-judge_switch-loop-place : goal.invariant-judge_switch-loop-place
-invariant-judge_switch-loop-place l = (m : bodies.Surroundings) (f : NameFrame) → AreSurroundings m l.around → IsNameFrame m.program.text f l.fn.variables
+abbrev pub invariant-judge_switch-loop-index : goal.invariant-judge_switch-loop-index
+invariant-judge_switch-loop-index l = (m : bodies.Surroundings) (f : NameFrame) → AreSurroundings m l.around → IsNameFrame m.program.text f l.fn.variables
     → Ongoing m.program.text l.fn.found.items l.found.items l.variables
     (follow (case_turn m (switch_heads (switch_tree l.switch)) [] (switch_tree l.switch).first f) (cases_turn m (switch_heads (switch_tree l.switch)) (head_of (switch_tree l.switch).first ∷ []) (case_sequence (switch_tree l.switch).others)))
-    (cases_turn m (switch_heads (switch_tree l.switch)) (take (l.place + 1) (switch_heads (switch_tree l.switch))) (case_sequence (drop l.place (switch_tree l.switch).others)))
+    (cases_turn m (switch_heads (switch_tree l.switch)) (take (l.index + 1) (switch_heads (switch_tree l.switch))) (case_sequence (drop l.index (switch_tree l.switch).others)))

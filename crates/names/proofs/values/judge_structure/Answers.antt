@@ -16,7 +16,7 @@ use Rattle.names.proofs.values.judge_structure.Goals as goal
 
 pub returns-in_ok-judge_typed_arguments-in-Some-clause-ty : goal.returns-in_ok-judge_typed_arguments-in-Some-clause-ty
 returns-in_ok-judge_typed_arguments-in-Some-clause-ty c = λ p scope.
-    let looked = structured (struct_named p c.args.name) c.in-Some.place c.in-Some.owning.now (c.in-Some.ensures p scope) in
+    let looked = structured (struct_named p c.args.name) c.in-Some.index c.in-Some.owning.now (c.in-Some.ensures p scope) in
     ap pointer_type (sym looked.is)
 
 pub returns-in_ok-judge_typed_arguments-in-Some-clause-found : goal.returns-in_ok-judge_typed_arguments-in-Some-clause-found
@@ -29,7 +29,7 @@ returns-in_ok-judge_typed_arguments-in-Some-clause-found c = λ p f here.
     let counted = c.judge_count.new.found.items in
     let new = c.judge_typed_arguments.new.found.items in
     let owning = c.in-Some.owning.now in
-    let looked = structured (struct_named p name) c.in-Some.place owning (c.in-Some.ensures p here.scope) in
+    let looked = structured (struct_named p name) c.in-Some.index owning (c.in-Some.ensures p here.scope) in
     let asked = fields_asked p looked.structure in
     let many : length owning ≡ length asked = omega (arith, ap length looked.owning, length-map (owning_fields looked.structure) (λ (x : made.Field.Field). type_meant p x.ty)) in
     subst (λ o. Adds old new (struct_made_mistakes s o name es)) (sym looked.is)

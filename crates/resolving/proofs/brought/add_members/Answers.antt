@@ -4,7 +4,7 @@ use Rattle.tree.specs.Trees.{member_tree}
 use Rattle.tree.specs.declared.contract.Member.{Member}
 use Rattle.declarations.specs.Declarations.{message_among}
 use Rattle.program.specs.declared.types.HeapType.{HeapType}
-use Rattle.resolving.specs.Brought.{brought, params_held}
+use Rattle.resolving.specs.Brought.{payload_types, params_held}
 use Rattle.program.specs.Programs.{type_lists}
 use Rattle.resolving.proofs.BroughtLemmas.{members_all, members_more, lists_more}
 use Rattle.resolving.proofs.brought.add_members.Goals as goal
@@ -13,7 +13,7 @@ use Rattle.resolving.proofs.brought.add_members.Goals.{in-Message+in_ok-params_h
 pub loop-member-preserved : goal.loop-member-preserved
 loop-member-preserved c = λ p round.
     let done = c.loop-member.told.items in
-    let here = λ (x : Member). type_lists done ++ map (brought p) (message_among (member_tree x)) in
+    let here = λ (x : Member). type_lists done ++ map (payload_types p) (message_among (member_tree x)) in
     let more = members_more p c.args.members.now c.loop-member.member-index c.member-item.result (type_lists c.args.told.now.items) (type_lists done) (type_lists c.match-member.told.items)
     c.loop-member-test.true c.member-item.is (c.loop-member.invariant p round) in
     elim c.match-member.branch [

@@ -2,7 +2,7 @@ use Rattle.std.proofs.Common.{◌∙◌, sym, ap, ◌++◌}
 use Rattle.std.specs.Iterator.Adapters.{zip_first, zip_second}
 use Rattle.std.specs.Slice.Iter.{iter_rest}
 use Rattle.resolving.specs.Around.{program_in}
-use Rattle.resolving.specs.Plain.{given}
+use Rattle.resolving.specs.Plain.{argument_of}
 use Rattle.resolving.proofs.CalleeLemmas.{given_first, given_to_end, given_more, given_all}
 use Rattle.resolving.proofs.calls.arguments_of.Goals as goal
 
@@ -21,7 +21,7 @@ loop-parameter-preserved c = λ items own f h.
     let before = c.loop-parameter.given.items in
     let after = c.next.new.self in
     let more = given_more p own f before c.loop-parameter.parameter-iterator after c.next.result (c.in-Some.parameter, c.in-Some.argument) c.in-Some.is c.next.ensures.steps in
-    ap (λ l. given_to_end p own f l after) (c.in_ok-add_given.ensures ∙ ap (λ m. before ++ given c.in-Some.parameter.now m) (c.alone-mention.ensures items own f h))
+    ap (λ l. given_to_end p own f l after) (c.in_ok-add_given.ensures ∙ ap (λ m. before ++ argument_of c.in-Some.parameter.now m) (c.alone-mention.ensures items own f h))
     ∙ sym more ∙ c.loop-parameter.invariant items own f h
 
 pub returns : goal.returns

@@ -5,7 +5,7 @@ use Rattle.program.specs.declared.types.Scalar.TheVariants.{Int}
 use Rattle.tree.specs.declared.types.Type.TheVariants.{Scalar}
 use Rattle.resolving.specs.Around.{program_in}
 use Rattle.resolving.specs.Frames.{IsLocalFrame}
-use Rattle.resolving.specs.Locals.{declared}
+use Rattle.resolving.specs.Locals.{with_declaration}
 use Rattle.resolving.specs.Methods.{parameters_frame}
 use Rattle.resolving.proofs.BodyLemmas.{parameters_more}
 use Rattle.resolving.proofs.methods.declare_parameters.Goals as goal
@@ -23,7 +23,7 @@ loop-parameter-preserved c = λ items own f round h.
     let so = parameters_frame p (take i params) f in
     let after = c.declare.new.self in
     subst (λ g. IsLocalFrame text g after) (sym (parameters_more p params i past f c.loop-parameter-test.true))
-    (subst (λ d. IsLocalFrame text (declared text d so) after) (c.parameter_declaration.ensures p own round)
+    (subst (λ d. IsLocalFrame text (with_declaration text d so) after) (c.parameter_declaration.ensures p own round)
     (c.in_ok-declare.ensures so (c.loop-parameter.invariant items own f round h)))
 
 pub returns : goal.returns

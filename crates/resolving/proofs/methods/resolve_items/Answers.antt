@@ -4,7 +4,7 @@ use Rattle.std.specs.List.{flat_map}
 use Rattle.tree.specs.Trees.{contract_of, definition_tree, item_tree, method_tree}
 use Rattle.declarations.specs.Declarations.{messages_of}
 use Rattle.resolving.specs.Around.{program_in}
-use Rattle.resolving.specs.Brought.{brought}
+use Rattle.resolving.specs.Brought.{payload_types}
 use Rattle.resolving.specs.Methods.{method_told}
 use Rattle.resolving.proofs.BroughtLemmas.{brought_all, brought_more}
 use Rattle.resolving.proofs.ItemLemmas.{first_told, items_more, items_all}
@@ -21,7 +21,7 @@ loop-class-preserved c =
     record {
       messages =
           c.in_ok-add_brought.ensures p (record { scope = c.requires.scope; contracts = c.requires.contracts; before = c.deref.ensures.value ∙ c.in_ok-before.ensures })
-          ∙ ap (λ l. l ++ map (brought p) (flat_map messages_of (contract_of (definition_tree c.index-items-class.result.definition)))) c.loop-class.invariant.messages
+          ∙ ap (λ l. l ++ map (payload_types p) (flat_map messages_of (contract_of (definition_tree c.index-items-class.result.definition)))) c.loop-class.invariant.messages
           ∙ sym (brought_more p items i c.index-items-class.result c.loop-class-test.true c.index-items-class.is);
       methods =
           c.in_ok-add_methods.ensures trees i (record { directory = record { scope = c.requires.scope; contracts = c.requires.contracts; before = c.deref.ensures.value ∙ c.in_ok-before.ensures }; items = refl; owning = owning; class_is = refl; few = c.requires.few })

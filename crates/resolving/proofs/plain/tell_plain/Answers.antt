@@ -6,7 +6,7 @@ use Rattle.tree.specs.declared.statement as made
 use Rattle.resolving.specs.Around.{program_in}
 use Rattle.resolving.specs.Types.{type_held}
 use Rattle.resolving.specs.Locals.{next_number}
-use Rattle.resolving.specs.Plain.{told, stated_call, started, first_value, written, channel, exchanged, returned, plain_told}
+use Rattle.resolving.specs.Plain.{simple_of, stated_call, start_statement, first_value, write_statement, channel_or_nothing, exchange_or_nothing, return_statement, plain_told}
 use Rattle.tree.proofs.StatementTwins.{of_declare, of_assign, of_call, of_start, of_channel, of_exchange, of_return}
 use Rattle.resolving.proofs.PlainLemmas.{told_as}
 use Rattle.resolving.proofs.plain.tell_plain.Goals as goal
@@ -25,9 +25,9 @@ returns-in-Assign c = λ items own around.
     let p = program_in c.args.text.now items in
     let text = c.args.text.now in
     let locals = c.args.locals.now in
-    told_as text locals c.tell_assign.result (λ f. written p own f (target_tree c.deref-in-Assign.result.now.target) (value_tree c.deref-in-Assign-2.result.now.value)) (λ f. plain_told p own f (statement_tree c.args.statement.now))
-    (λ f frame. ap (λ (a : made.Assign.Assign). written p own f (target_tree a.target) (value_tree c.deref-in-Assign-2.result.now.value)) c.deref-in-Assign.ensures
-    ∙ ap (λ (a : made.Assign.Assign). written p own f (target_tree c.in-Assign.assign.value.target) (value_tree a.value)) c.deref-in-Assign-2.ensures
+    told_as text locals c.tell_assign.result (λ f. write_statement p own f (target_tree c.deref-in-Assign.result.now.target) (value_tree c.deref-in-Assign-2.result.now.value)) (λ f. plain_told p own f (statement_tree c.args.statement.now))
+    (λ f frame. ap (λ (a : made.Assign.Assign). write_statement p own f (target_tree a.target) (value_tree c.deref-in-Assign-2.result.now.value)) c.deref-in-Assign.ensures
+    ∙ ap (λ (a : made.Assign.Assign). write_statement p own f (target_tree c.in-Assign.assign.value.target) (value_tree a.value)) c.deref-in-Assign-2.ensures
     ∙ ap (plain_told p own f) (sym (ap statement_tree c.in-Assign.is ∙ of_assign c.in-Assign.assign)))
     (c.tell_assign.ensures items own around)
 
@@ -45,22 +45,22 @@ returns-in-Start c = λ items own around.
     let p = program_in c.args.text.now items in
     let text = c.args.text.now in
     let locals = c.args.locals.now in
-    told_as text locals c.tell_start.result (λ f. started p own f (call_tree c.deref-in-Start.result.now)) (λ f. plain_told p own f (statement_tree c.args.statement.now))
-    (λ f frame. ap (λ x. started p own f (call_tree x)) c.deref-in-Start.ensures ∙ ap (plain_told p own f) (sym (ap statement_tree c.in-Start.is ∙ of_start c.in-Start.word c.in-Start.call)))
+    told_as text locals c.tell_start.result (λ f. start_statement p own f (call_tree c.deref-in-Start.result.now)) (λ f. plain_told p own f (statement_tree c.args.statement.now))
+    (λ f frame. ap (λ x. start_statement p own f (call_tree x)) c.deref-in-Start.ensures ∙ ap (plain_told p own f) (sym (ap statement_tree c.in-Start.is ∙ of_start c.in-Start.word c.in-Start.call)))
     (c.tell_start.ensures items own around)
 
 pub returns-in-Exchange : goal.returns-in-Exchange
 returns-in-Exchange c = λ items own around. record {
   all = λ f frame.
       let p = program_in c.args.text.now items in
-      c.unread-in-Exchange.ensures ∙ ap (told []) (c.exchange_action.ensures items own f around frame) ∙ ap (λ e. told [] (exchanged p own f e)) c.deref-in-Exchange.ensures ∙ ap (plain_told p own f) (sym (ap statement_tree c.in-Exchange.is ∙ of_exchange c.in-Exchange.exchange));
+      c.unread-in-Exchange.ensures ∙ ap (simple_of []) (c.exchange_action.ensures items own f around frame) ∙ ap (λ e. simple_of [] (exchange_or_nothing p own f e)) c.deref-in-Exchange.ensures ∙ ap (plain_told p own f) (sym (ap statement_tree c.in-Exchange.is ∙ of_exchange c.in-Exchange.exchange));
 }
 
 pub returns-in-NewChannel : goal.returns-in-NewChannel
 returns-in-NewChannel c = λ items own around. record {
   all = λ f frame.
       let p = program_in c.args.text.now items in
-      c.unread-in-NewChannel.ensures ∙ ap (told []) (c.channel_action.ensures items own f around frame) ∙ ap (λ n. told [] (channel p own f n)) c.deref-in-NewChannel.ensures ∙ ap (plain_told p own f) (sym (ap statement_tree c.in-NewChannel.is ∙ of_channel c.in-NewChannel.channel));
+      c.unread-in-NewChannel.ensures ∙ ap (simple_of []) (c.channel_action.ensures items own f around frame) ∙ ap (λ n. simple_of [] (channel_or_nothing p own f n)) c.deref-in-NewChannel.ensures ∙ ap (plain_told p own f) (sym (ap statement_tree c.in-NewChannel.is ∙ of_channel c.in-NewChannel.channel));
 }
 
 pub returns-in-Return : goal.returns-in-Return
@@ -68,6 +68,6 @@ returns-in-Return c = λ items own around.
     let p = program_in c.args.text.now items in
     let text = c.args.text.now in
     let locals = c.args.locals.now in
-    told_as text locals c.tell_return.result (λ f. returned p own f c.in-Return.word.place (option_map (λ e. expression_tree e.value) c.in-Return.value)) (λ f. plain_told p own f (statement_tree c.args.statement.now))
+    told_as text locals c.tell_return.result (λ f. return_statement p own f c.in-Return.word.place (option_map (λ e. expression_tree e.value) c.in-Return.value)) (λ f. plain_told p own f (statement_tree c.args.statement.now))
     (λ f frame. ap (plain_told p own f) (sym (ap statement_tree c.in-Return.is ∙ of_return c.in-Return.word c.in-Return.value)))
     (c.tell_return.ensures items own)

@@ -2,7 +2,7 @@ use Rattle.std.proofs.Common.{refl, ap}
 use Rattle.tree.specs.Operators.{Or, And, Equal, Compare}
 use Rattle.tree.specs.Expressions.{StepOf}
 use Rattle.tree.specs.Factors.{FactorTree}
-use Rattle.tree.specs.ExpressionTrees.{unmarked, disjunction_tree, conjunction_tree, equality_tree, equality_step_tree, relation_tree, relation_step_tree, sum_tree, factors_tree, factor_tree, unary_tree}
+use Rattle.tree.specs.ExpressionTrees.{without_sign, disjunction_tree, conjunction_tree, equality_tree, equality_step_tree, relation_tree, relation_step_tree, sum_tree, factors_tree, factor_tree, unary_tree}
 use Rattle.tree.specs.declared.expression.Conjunction as conjunctions
 use Rattle.tree.specs.declared.expression.Disjunction as disjunctions
 use Rattle.tree.specs.declared.expression.Equality as equalitys
@@ -17,28 +17,28 @@ use Rattle.resolving.proofs.ReadLemmas.{reads_first, reads_more, reads_all}
 use Rattle.resolving.proofs.reads.+expressions.Goals as goal
 
 pub add_disjunction-each-init : goal.add_disjunction-each-init
-add_disjunction-each-init t c = reads_first c.args.text.now Or (unmarked conjunction_tree) (conjunction_tree (disjunctions.out-Disjunction c.args.disjunction.now).first) c.deref-conjunction-items.result.now c.in_ok-add_conjunction.ensures
+add_disjunction-each-init t c = reads_first c.args.text.now Or (without_sign conjunction_tree) (conjunction_tree (disjunctions.out-Disjunction c.args.disjunction.now).first) c.deref-conjunction-items.result.now c.in_ok-add_conjunction.ensures
 
 pub add_disjunction-each-preserved : goal.add_disjunction-each-preserved
 add_disjunction-each-preserved t c =
-    reads_more c.args.text.now Or (unmarked conjunction_tree) (conjunction_tree (disjunctions.out-Disjunction c.args.disjunction.now).first) c.deref-conjunction-items.result.now c.each.conjunction-index c.conjunction-item.result (conjunction_tree c.conjunction-item.result) c.each-test.true c.conjunction-item.is refl c.each.invariant c.in_ok-add_conjunction-2.ensures
+    reads_more c.args.text.now Or (without_sign conjunction_tree) (conjunction_tree (disjunctions.out-Disjunction c.args.disjunction.now).first) c.deref-conjunction-items.result.now c.each.conjunction-index c.conjunction-item.result (conjunction_tree c.conjunction-item.result) c.each-test.true c.conjunction-item.is refl c.each.invariant c.in_ok-add_conjunction-2.ensures
 
 pub add_disjunction-returns : goal.add_disjunction-returns
 add_disjunction-returns t c =
     let e = c.args.disjunction.now in
-    reads_all c.args.text.now Or (unmarked conjunction_tree) (conjunction_tree (disjunctions.out-Disjunction e).first) c.deref-conjunction-items.result.now (disjunctions.out-Disjunction e).others.items c.each.conjunction-index (disjunction_tree e) c.each-test.false c.deref-conjunction-items.ensures.value (disjunction_model e) c.each.invariant
+    reads_all c.args.text.now Or (without_sign conjunction_tree) (conjunction_tree (disjunctions.out-Disjunction e).first) c.deref-conjunction-items.result.now (disjunctions.out-Disjunction e).others.items c.each.conjunction-index (disjunction_tree e) c.each-test.false c.deref-conjunction-items.ensures.value (disjunction_model e) c.each.invariant
 
 pub add_conjunction-each-init : goal.add_conjunction-each-init
-add_conjunction-each-init t c = reads_first c.args.text.now And (unmarked equality_tree) (equality_tree (conjunctions.out-Conjunction c.args.conjunction.now).first) c.deref-equality-items.result.now c.in_ok-add_equality.ensures
+add_conjunction-each-init t c = reads_first c.args.text.now And (without_sign equality_tree) (equality_tree (conjunctions.out-Conjunction c.args.conjunction.now).first) c.deref-equality-items.result.now c.in_ok-add_equality.ensures
 
 pub add_conjunction-each-preserved : goal.add_conjunction-each-preserved
 add_conjunction-each-preserved t c =
-    reads_more c.args.text.now And (unmarked equality_tree) (equality_tree (conjunctions.out-Conjunction c.args.conjunction.now).first) c.deref-equality-items.result.now c.each.equality-index c.equality-item.result (equality_tree c.equality-item.result) c.each-test.true c.equality-item.is refl c.each.invariant c.in_ok-add_equality-2.ensures
+    reads_more c.args.text.now And (without_sign equality_tree) (equality_tree (conjunctions.out-Conjunction c.args.conjunction.now).first) c.deref-equality-items.result.now c.each.equality-index c.equality-item.result (equality_tree c.equality-item.result) c.each-test.true c.equality-item.is refl c.each.invariant c.in_ok-add_equality-2.ensures
 
 pub add_conjunction-returns : goal.add_conjunction-returns
 add_conjunction-returns t c =
     let e = c.args.conjunction.now in
-    reads_all c.args.text.now And (unmarked equality_tree) (equality_tree (conjunctions.out-Conjunction e).first) c.deref-equality-items.result.now (conjunctions.out-Conjunction e).others.items c.each.equality-index (conjunction_tree e) c.each-test.false c.deref-equality-items.ensures.value (conjunction_model e) c.each.invariant
+    reads_all c.args.text.now And (without_sign equality_tree) (equality_tree (conjunctions.out-Conjunction e).first) c.deref-equality-items.result.now (conjunctions.out-Conjunction e).others.items c.each.equality-index (conjunction_tree e) c.each-test.false c.deref-equality-items.ensures.value (conjunction_model e) c.each.invariant
 
 pub add_equality-each-init : goal.add_equality-each-init
 add_equality-each-init t c = reads_first c.args.text.now Equal equality_step_tree (relation_tree (equalitys.out-Equality c.args.equality.now).first) c.deref-step-items.result.now c.in_ok-add_relation.ensures

@@ -1,5 +1,5 @@
 use Rattle.tree.specs.Operators.{Or, And, Equal, Compare}
-use Rattle.tree.specs.ExpressionTrees.{unmarked, conjunction_tree, equality_tree, equality_step_tree, relation_tree, relation_step_tree, sum_tree, factor_tree, unary_tree}
+use Rattle.tree.specs.ExpressionTrees.{without_sign, conjunction_tree, equality_tree, equality_step_tree, relation_tree, relation_step_tree, sum_tree, factor_tree, unary_tree}
 use Rattle.tree.specs.declared.expression.Conjunction as conjunctions
 use Rattle.tree.specs.declared.expression.Disjunction as disjunctions
 use Rattle.tree.specs.declared.expression.Equality as equalitys
@@ -12,11 +12,11 @@ use Rattle.resolving.proofs.reads.+expressions.Given as goal
 
 abbrev pub invariant-add_disjunction-each : goal.invariant-add_disjunction-each
 invariant-add_disjunction-each l =
-    AddsReads l.text l.locals (chain_reads l.text Or (unmarked conjunction_tree) (conjunction_tree (disjunctions.out-Disjunction l.disjunction).first) l.conjunction-items l.conjunction-index) l.fn.found.items l.found.items
+    AddsReads l.text l.locals (chain_reads l.text Or (without_sign conjunction_tree) (conjunction_tree (disjunctions.out-Disjunction l.disjunction).first) l.conjunction-items l.conjunction-index) l.fn.found.items l.found.items
 
 abbrev pub invariant-add_conjunction-each : goal.invariant-add_conjunction-each
 invariant-add_conjunction-each l =
-    AddsReads l.text l.locals (chain_reads l.text And (unmarked equality_tree) (equality_tree (conjunctions.out-Conjunction l.conjunction).first) l.equality-items l.equality-index) l.fn.found.items l.found.items
+    AddsReads l.text l.locals (chain_reads l.text And (without_sign equality_tree) (equality_tree (conjunctions.out-Conjunction l.conjunction).first) l.equality-items l.equality-index) l.fn.found.items l.found.items
 
 abbrev pub invariant-add_equality-each : goal.invariant-add_equality-each
 invariant-add_equality-each l =

@@ -15,8 +15,8 @@ use Rattle.resolving.specs.Around.{program_in}
 use Rattle.resolving.specs.Binds.{binds_told}
 use Rattle.resolving.specs.Frames.{staying_model}
 use Rattle.resolving.specs.Reads.{reads}
-use Rattle.resolving.specs.Steps.{IsResolvedPiece, walked}
-use Rattle.resolving.specs.Told.{ResolvedPiece, follow, made as remade, block_told, ended, others_told, awaited_as, awaited_message, awaited_params, cases_told, in_switch, statement_told, statements_told, test_told}
+use Rattle.resolving.specs.Steps.{IsResolvedPiece, pieces_in_order}
+use Rattle.resolving.specs.Told.{ResolvedPiece, follow, map_piece, block_told, block_of, others_told, awaited_as, awaited_message, awaited_params, cases_told, in_switch, statement_told, statements_told, test_told}
 use Rattle.resolving.proofs.BlockLemmas.{block_ends, if_told, made_told, number_is, told_as, test_ends}
 use Rattle.resolving.proofs.BodyLemmas.{sequence_told, walks_all, walks_more}
 use Rattle.resolving.proofs.CaseLemmas.{CasesGo, bound_in, case_ends, cases_end, cases_more, cases_start, first_inside, other_inside, switch_cases}
@@ -35,7 +35,7 @@ tell_statements-loop-statement-preserved t c = λ items own f round h.
     let xs = c.args.statements.now in
     let i = c.loop-statement.statement-index in
     let after = c.tell_statement.new.locals in
-    subst (λ l. IsResolvedPiece text (walked (λ s. statement_told p own stays (statement_tree s)) (take (i + 1) xs) f) (map statement_model l) after) (sym {A = List Statement} c.in_ok-push.ensures.items)
+    subst (λ l. IsResolvedPiece text (pieces_in_order (λ s. statement_told p own stays (statement_tree s)) (take (i + 1) xs) f) (map statement_model l) after) (sym {A = List Statement} c.in_ok-push.ensures.items)
     (walks_more text (λ s. statement_told p own stays (statement_tree s)) statement_model xs i c.statement-item.result f _ c.loop-statement.told.items c.loop-statement.locals after c.loop-statement-test.true c.statement-item.is
     (c.loop-statement.invariant items own f round h) (λ g here. c.in_ok-tell_statement.ensures items own g round here))
 
@@ -56,7 +56,7 @@ tell_tests-loop-test-preserved t c = λ items own f round h.
     let xs = c.args.tests.now in
     let i = c.loop-test.test-index in
     let after = c.tell_test.new.locals in
-    subst (λ l. IsResolvedPiece text (walked (λ s. test_told p own stays (test_tree s)) (take (i + 1) xs) f) (map test_model l) after) (sym {A = List Test} c.in_ok-push.ensures.items)
+    subst (λ l. IsResolvedPiece text (pieces_in_order (λ s. test_told p own stays (test_tree s)) (take (i + 1) xs) f) (map test_model l) after) (sym {A = List Test} c.in_ok-push.ensures.items)
     (walks_more text (λ s. test_told p own stays (test_tree s)) test_model xs i c.test-item.result f _ c.loop-test.told.items c.loop-test.locals after c.loop-test-test.true c.test-item.is
     (c.loop-test.invariant items own f round h) (λ g here. c.in_ok-tell_test.ensures items own g round here))
 
@@ -81,7 +81,7 @@ tell_block-returns t c = λ items own f round h.
     let inner = subst (λ xs. IsResolvedPiece text (statements_told p own stays (statement_sequence (map statement_tree xs)) f) (seen.statement_sequence (map statement_model told.items)) inside) c.deref.ensures.value (c.in_ok-statements.ensures items own f round h) in
     let whole = block_model (made.Block.roll-Block (record { statements = told; forget = c.forget_past-forget.result })) in
     subst (λ b. IsResolvedPiece text (block_told p own stays b f) whole after) (sym (block_is block))
-    (subst (λ (b : BlockModel). IsResolvedPiece text (ended block.close.place f t) b after) (sym (block_made told c.forget_past-forget.result))
+    (subst (λ (b : BlockModel). IsResolvedPiece text (block_of block.close.place f t) b after) (sym (block_made told c.forget_past-forget.result))
     (block_ends text block.close.place f t _ inside after c.len-outer.result c.last-last.result c.last.result c.forget_past-forget.result (kept f t.frame (statements_extend p own stays sequence f))
     (c.len-outer.ensures text f h) (c.last-last.ensures text f h) (c.last.ensures text t.frame inner.frame) c.forget_past-forget.ensures c.leave.ensures inner))
 
@@ -98,7 +98,7 @@ tell_if-returns t c = λ items own f round h.
     (subst (λ (i : IfModel). IsResolvedPiece text (follow seen.If (test_told p own stays (test_tree parts.first) f) (others_told p own stays (trees.other_sequence (map test_tree parts.others.items) (option_map block_tree parts.otherwise)))) (seen.If i.first i.others) last) (sym made_of)
     (if_told p own stays (test_tree parts.first) (map test_tree parts.others.items) (option_map block_tree parts.otherwise) f _ _ _ c.tell_test.new.locals c.tell_tests.new.locals last
     (c.in_ok-first.ensures items own f round h)
-    (λ g here. subst (λ ts. IsResolvedPiece text (walked (test_told p own stays) (map test_tree ts) g) (map test_model c.in_ok-others.others.items) c.tell_tests.new.locals) c.deref.ensures.value (c.in_ok-others.ensures items own g round here))
+    (λ g here. subst (λ ts. IsResolvedPiece text (pieces_in_order (test_told p own stays) (map test_tree ts) g) (map test_model c.in_ok-others.others.items) c.tell_tests.new.locals) c.deref.ensures.value (c.in_ok-others.ensures items own g round here))
     (λ g here. c.in_ok-otherwise.ensures items own g round here)))
 
 pub tell_otherwise-returns-in_ok-block-in-Some : goal.tell_otherwise-returns-in_ok-block-in-Some
@@ -128,7 +128,7 @@ tell_statement-returns-in_ok-told-in-While t c = λ items own f round h.
     let test = c.in_ok-told-in-While.told in
     let after = c.tell_test.new.locals in
     let tree = ap statement_tree c.in-While.is ∙ of_while c.in-While.test ∙ ap (λ t. trees.While (test_tree t)) (sym c.deref-in-While.ensures) in
-    let come = subst (λ stays. IsResolvedPiece text (remade seen.While (test_told p own stays (test_tree c.deref-in-While.result.now) f)) (seen.While (test_model test)) after) (c.here-inside.ensures f (number_is c.last.result f.last (c.last.ensures text f h)))
+    let come = subst (λ stays. IsResolvedPiece text (map_piece seen.While (test_told p own stays (test_tree c.deref-in-While.result.now) f)) (seen.While (test_model test)) after) (c.here-inside.ensures f (number_is c.last.result f.last (c.last.ensures text f h)))
     (made_told text seen.While _ _ after (c.in_ok-told-in-While.ensures items own f round h)) in
     IfOk-weaker c.while_of.result _ _ (λ s is. told_as p own (staying_model c.args.stays) f tree is come) c.while_of.ensures
 
@@ -193,7 +193,7 @@ tell_case-returns t c = λ items own f round h.
     (c.in_ok-statements.ensures items own b.frame round binds.frame) in
     case_ends p own stays c.args.behind f case c.case_endpoint-endpoint.result c.awaited_as.result targets (made.Block.roll-Block (record { statements = told; forget = c.forget_past-forget.result })) after
     (c.case_endpoint-endpoint.ensures items f h) (c.awaited_as.ensures ∙ ap (awaited_as case.message) meant) binds.is
-    (subst (λ (k : BlockModel). IsResolvedPiece text (ended c.args.behind f t) k after) (sym (block_made told c.forget_past-forget.result))
+    (subst (λ (k : BlockModel). IsResolvedPiece text (block_of c.args.behind f t) k after) (sym (block_made told c.forget_past-forget.result))
     (block_ends text c.args.behind f t _ inside after c.len-kept.result c.last-last.result c.last.result c.forget_past-forget.result (kept f t.frame (case_extends p own stays (awaited_params m) case.binds.items sequence f))
     (c.len-kept.ensures text f h) (c.last-last.ensures text f h) (c.last.ensures text t.frame inner.frame) c.forget_past-forget.ensures c.leave.ensures inner))
 

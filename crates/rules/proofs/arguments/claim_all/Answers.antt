@@ -1,7 +1,7 @@
 use Rattle.std.proofs.Common.{refl, sym, ◌∙◌}
 use Rattle.std.proofs.lemmas.List.{at_drop_all}
 use Rattle.rows.specs.Rows.{row_model}
-use Rattle.rules.specs.Arguments.{claimed}
+use Rattle.rules.specs.Arguments.{after_claims}
 use Rattle.rules.proofs.ArgumentLemmas.{claimed_more}
 use Rattle.rules.proofs.arguments.claim_all.Goals as goal
 
@@ -12,4 +12,4 @@ pub loop-argument-preserved : goal.loop-argument-preserved
 loop-argument-preserved c = claimed_more _ _ c.args.arguments.now c.loop-argument.argument-index _ c.loop-argument-test.true c.claim.ensures ∙ c.loop-argument.invariant
 
 pub returns : goal.returns
-returns c = sym (at_drop_all (claimed (row_model c.loop-argument.row)) c.args.arguments.now c.loop-argument.argument-index c.loop-argument-test.false) ∙ c.loop-argument.invariant
+returns c = sym (at_drop_all (after_claims (row_model c.loop-argument.row)) c.args.arguments.now c.loop-argument.argument-index c.loop-argument-test.false) ∙ c.loop-argument.invariant

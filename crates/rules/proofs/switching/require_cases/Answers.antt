@@ -7,7 +7,7 @@ use Rattle.rules.specs.Breaches.{breach_model}
 use Rattle.rules.specs.Mentions.{require_owned}
 use Rattle.rules.specs.Programs.{model_of}
 use Rattle.rows.specs.Rows.{row_model}
-use Rattle.rules.specs.Switches.{covered, is_to_send}
+use Rattle.rules.specs.Switches.{cover_checks, is_to_send}
 use Rattle.rules.specs.Texts.{nothing_to_receive}
 use Rattle.rules.proofs.CallLemmas.{both_stand, first_stands, of_checks, passes, refuses}
 use Rattle.rules.proofs.switching.require_cases.Goals as goal
@@ -44,4 +44,4 @@ returns c =
     let there = of_checks (ap (map (require_owned m row)) c.endpoints.ensures) c.in_ok-require_all_owned.ensures in
     let some_waits : list_all (is_to_send p m row) named ≡ false = ap (list_all (is_to_send p m row)) (sym c.endpoints-2.ensures) ∙ sym c.are_to_send.ensures ∙ c.if-are_to_send.false in
     both_stand says (map (require_owned m row) named) _ c.require_all_covered.result there
-    (passes says (list_all (is_to_send p m row) named) (nothing_to_receive c.args.place) (flat_map (covered p m row cases) named) c.require_all_covered.result some_waits c.require_all_covered.ensures)
+    (passes says (list_all (is_to_send p m row) named) (nothing_to_receive c.args.place) (flat_map (cover_checks p m row cases) named) c.require_all_covered.result some_waits c.require_all_covered.ensures)

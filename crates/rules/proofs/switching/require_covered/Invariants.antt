@@ -5,7 +5,7 @@ use Rattle.rules.specs.Programs.{model_of}
 use Rattle.rows.specs.Rows.{row_model}
 use Rattle.rules.proofs.ArgumentLemmas.{Left}
 use Rattle.rules.proofs.SwitchLemmas.{edge_checks}
-use Rattle.rules.specs.Switches.{awaited_edges, covered}
+use Rattle.rules.specs.Switches.{awaited_edges, cover_checks}
 use Rattle.rules.proofs.switching.require_covered.Given as goal
 
 abbrev pub invariant-loop-edge : goal.invariant-loop-edge
@@ -13,4 +13,4 @@ invariant-loop-edge l =
     let p = model_of l.here.program.now in
     let m = method_model l.here.method.now in
     let row = row_model l.here.row.now in
-    Left (covered p m row (cases_model l.cases) l.fn.endpoint) (edge_checks p m (cases_model l.cases) l.fn.endpoint (drop l.edge-index (awaited_edges p m row l.fn.endpoint)))
+    Left (cover_checks p m row (cases_model l.cases) l.fn.endpoint) (edge_checks p m (cases_model l.cases) l.fn.endpoint (drop l.edge-index (awaited_edges p m row l.fn.endpoint)))

@@ -1,6 +1,6 @@
 use Rattle.std.proofs.Common.{Ok, Err, [], ◌∷◌, ap, ◌∙◌}
 use Rattle.program.specs.Methods.{method_model}
-use Rattle.rules.specs.Arguments.{all_arguments, claimed}
+use Rattle.rules.specs.Arguments.{all_arguments, after_claims}
 use Rattle.rules.specs.Breaches.{breach_model}
 use Rattle.rules.specs.Endpoints.{parameter_types}
 use Rattle.rules.specs.Outcomes.{Goes}
@@ -32,5 +32,5 @@ returns-clause-outcome c =
     let first =
     of_checks (ap (λ xs. all_arguments m row (parameter_types p starting.method.0) xs) c.deref.ensures.value)
     (of_checks (ap (λ ks. all_arguments m row ks c.deref.result.now) c.parameter_types-types.ensures) c.in_ok-require_arguments.ensures) in
-    let after = c.claim_all.ensures ∙ ap (claimed row) c.deref-2.ensures.value in
+    let after = c.claim_all.ensures ∙ ap (after_claims row) c.deref-2.ensures.value in
     ap (λ r. Goes ((starting.next, r) ∷ [])) after ∙ alone says (all_arguments m row (parameter_types p starting.method.0) starting.arguments.items) (Ok tt) _ first

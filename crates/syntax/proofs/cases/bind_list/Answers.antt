@@ -1,6 +1,6 @@
 use Rattle.std.proofs.Common.{[], ◌∷◌, ◌++◌, refl, sym, ap, ◌∙◌}
 use Rattle.source.specs.declared.kind.Kind.TheVariants as kind
-use Rattle.tree.specs.Spelling.{listed}
+use Rattle.tree.specs.Spelling.{comma_list}
 use Rattle.syntax.proofs.pieces.Exits.{exits}
 use Rattle.syntax.proofs.pieces.KindLemmas.{kind_leads, test_leads}
 use Rattle.syntax.specs.Firsts.{opens_type}
@@ -11,7 +11,7 @@ use Rattle.syntax.proofs.CaseRules.{bind_item}
 use Rattle.syntax.proofs.cases.bind_list.Goals as goal
 
 pub returns-in_err-bind : goal.returns-in_err-bind
-returns-in_err-bind c = exits (λ v. v.items) (listed bind) binds_on binds_at _ _ _ _ _ c.from_residual.ensures.1 c.in_err-bind.ensures
+returns-in_err-bind c = exits (λ v. v.items) (comma_list bind) binds_on binds_at _ _ _ _ _ c.from_residual.ensures.1 c.in_err-bind.ensures
     (λ h. open_first_fails bind_item (test_leads opens_type _ refl (ap opens_type (sym c.peek.ensures.kind) ∙ sym c.is_type.ensures ∙ c.if-not-is_type.false)) h)
 
 pub more-init : goal.more-init
@@ -23,7 +23,7 @@ more-preserved c = list_more c.in_ok-comma_bind.field-0 c.more.all.items c.push-
 pub returns-in_err-comma_bind : goal.returns-in_err-comma_bind
 returns-in_err-comma_bind c =
     let kept = c.more.invariant in
-    exits (λ v. v.items) (listed bind) binds_on binds_at _ _ _ _ _ c.from_residual-in_err-comma_bind.ensures.1 c.in_err-comma_bind.ensures
+    exits (λ v. v.items) (comma_list bind) binds_on binds_at _ _ _ _ _ c.from_residual-in_err-comma_bind.ensures.1 c.in_err-comma_bind.ensures
     (λ h. open_more_fails bind_item kept.first kept.others
     (test_leads opens_type _ refl (ap opens_type (sym c.peek.ensures.kind) ∙ sym c.is_type.ensures ∙ c.if-not-is_type.false))
     kept.read

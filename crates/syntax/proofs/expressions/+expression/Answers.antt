@@ -10,7 +10,7 @@ use Rattle.syntax.specs.OperatorReads.{joins, joins_factors, behind_sum, opens_p
 use Rattle.tree.specs.Expressions.{Number, True, False, level, expression, step, atom, target}
 use Rattle.syntax.specs.ExpressionReads.{level_on, level_at, step_at, steps_end, factor_at, factors_end, atom_at, target_at, target_on}
 use Rattle.tree.specs.Factors.{factor}
-use Rattle.tree.specs.ExpressionTrees.{expression_tree, disjunction_tree, conjunction_tree, equality_tree, equality_step_tree, relation_tree, relation_step_tree, sum_tree, factor_tree, factors_tree, unary_tree, prefixed_tree, atom_tree, target_tree, unmarked}
+use Rattle.tree.specs.ExpressionTrees.{expression_tree, disjunction_tree, conjunction_tree, equality_tree, equality_step_tree, relation_tree, relation_step_tree, sum_tree, factor_tree, factors_tree, unary_tree, prefixed_tree, atom_tree, target_tree, without_sign}
 use Rattle.syntax.proofs.pieces.Exits.{exits}
 use Rattle.syntax.proofs.pieces.KindLemmas.{kind_leads, test_leads, test_stops}
 use Rattle.syntax.proofs.pieces.Enclosed.{parens_open_fails, parens_fails, parens_close_fails, brackets_open_fails, brackets_fails, brackets_close_fails}
@@ -43,25 +43,25 @@ disjunction_from-returns-in_err-others-clause-read t c = exits disjunction_tree 
     (λ h. others_fail Or (conjunction_tree c.in_ok-first.first) c.in_ok-first.ensures.read h)
 
 pub disjunction_from-returns-clause-read : goal.disjunction_from-returns-clause-read
-disjunction_from-returns-clause-read t c = chain_is_read Or _ _ _ (conjunction_tree c.in_ok-first.first) (map (unmarked conjunction_tree) c.in_ok-others.others.items) _ (disjunction_made c.in_ok-first.first c.in_ok-others.others) c.in_ok-first.ensures.read c.in_ok-others.ensures
+disjunction_from-returns-clause-read t c = chain_is_read Or _ _ _ (conjunction_tree c.in_ok-first.first) (map (without_sign conjunction_tree) c.in_ok-others.others.items) _ (disjunction_made c.in_ok-first.first c.in_ok-others.others) c.in_ok-first.ensures.read c.in_ok-others.ensures
 
 pub conjunctions-returns-in_err-or_conjunction : goal.conjunctions-returns-in_err-or_conjunction
-conjunctions-returns-in_err-or_conjunction t c = exits (λ v. map (unmarked conjunction_tree) v.items) (flat_map (step Or)) (level_on (Joined Or)) (steps_end Or) _ _ _ _ _ c.from_residual.ensures.1 c.in_err-or_conjunction.ensures
-    (λ h. step_fails Or (map (unmarked conjunction_tree) c.each.all.items) c.each.invariant.read (kind_leads kind.OrOr _ (c.each-test.ensures.is.0 refl)) h)
+conjunctions-returns-in_err-or_conjunction t c = exits (λ v. map (without_sign conjunction_tree) v.items) (flat_map (step Or)) (level_on (Joined Or)) (steps_end Or) _ _ _ _ _ c.from_residual.ensures.1 c.in_err-or_conjunction.ensures
+    (λ h. step_fails Or (map (without_sign conjunction_tree) c.each.all.items) c.each.invariant.read (kind_leads kind.OrOr _ (c.each-test.ensures.is.0 refl)) h)
 
 pub conjunctions-each-preserved : goal.conjunctions-each-preserved
 conjunctions-each-preserved t c = record {
   read = grind (arith, common_steps);
-  ended = last_read (step_at Or) (unmarked conjunction_tree) c.in_ok-or_conjunction.field-0 c.each.all.items c.push.new.all.items _ c.in_ok-push.ensures c.in_ok-or_conjunction.ensures.1;
+  ended = last_read (step_at Or) (without_sign conjunction_tree) c.in_ok-or_conjunction.field-0 c.each.all.items c.push.new.all.items _ c.in_ok-push.ensures c.in_ok-or_conjunction.ensures.1;
   shorter = grind (arith, common_steps);
 }
 
 pub or_conjunction-returns-in_err-expect : goal.or_conjunction-returns-in_err-expect
-or_conjunction-returns-in_err-expect t c = exits (unmarked conjunction_tree) (step Or) (level_on (Joined And)) (step_at Or) _ _ _ _ _ c.from_residual.ensures.1 c.in_err-expect.ensures
+or_conjunction-returns-in_err-expect t c = exits (without_sign conjunction_tree) (step Or) (level_on (Joined And)) (step_at Or) _ _ _ _ _ c.from_residual.ensures.1 c.in_err-expect.ensures
     (λ h. mark_fails Or h)
 
 pub or_conjunction-returns-in_err-sum : goal.or_conjunction-returns-in_err-sum
-or_conjunction-returns-in_err-sum t c = exits (unmarked conjunction_tree) (step Or) (level_on (Joined And)) (step_at Or) _ _ _ _ _ c.from_residual-in_err-sum.ensures.1 c.in_err-sum.ensures
+or_conjunction-returns-in_err-sum t c = exits (without_sign conjunction_tree) (step Or) (level_on (Joined And)) (step_at Or) _ _ _ _ _ c.from_residual-in_err-sum.ensures.1 c.in_err-sum.ensures
     (λ h. behind_fails Or tt c.in_ok-expect.ensures (first_fails And (first_fails Equal (first_fails Compare h))))
 
 pub or_conjunction-returns : goal.or_conjunction-returns
@@ -76,25 +76,25 @@ conjunction_from-returns-in_err-others-clause-read t c = exits conjunction_tree 
     (λ h. others_fail And (equality_tree c.in_ok-first.first) c.in_ok-first.ensures.read h)
 
 pub conjunction_from-returns-clause-read : goal.conjunction_from-returns-clause-read
-conjunction_from-returns-clause-read t c = chain_is_read And _ _ _ (equality_tree c.in_ok-first.first) (map (unmarked equality_tree) c.in_ok-others.others.items) _ (conjunction_made c.in_ok-first.first c.in_ok-others.others) c.in_ok-first.ensures.read c.in_ok-others.ensures
+conjunction_from-returns-clause-read t c = chain_is_read And _ _ _ (equality_tree c.in_ok-first.first) (map (without_sign equality_tree) c.in_ok-others.others.items) _ (conjunction_made c.in_ok-first.first c.in_ok-others.others) c.in_ok-first.ensures.read c.in_ok-others.ensures
 
 pub equalities-returns-in_err-and_equality : goal.equalities-returns-in_err-and_equality
-equalities-returns-in_err-and_equality t c = exits (λ v. map (unmarked equality_tree) v.items) (flat_map (step And)) (level_on (Joined And)) (steps_end And) _ _ _ _ _ c.from_residual.ensures.1 c.in_err-and_equality.ensures
-    (λ h. step_fails And (map (unmarked equality_tree) c.each.all.items) c.each.invariant.read (kind_leads kind.AndAnd _ (c.each-test.ensures.is.0 refl)) h)
+equalities-returns-in_err-and_equality t c = exits (λ v. map (without_sign equality_tree) v.items) (flat_map (step And)) (level_on (Joined And)) (steps_end And) _ _ _ _ _ c.from_residual.ensures.1 c.in_err-and_equality.ensures
+    (λ h. step_fails And (map (without_sign equality_tree) c.each.all.items) c.each.invariant.read (kind_leads kind.AndAnd _ (c.each-test.ensures.is.0 refl)) h)
 
 pub equalities-each-preserved : goal.equalities-each-preserved
 equalities-each-preserved t c = record {
   read = grind (arith, common_steps);
-  ended = last_read (step_at And) (unmarked equality_tree) c.in_ok-and_equality.field-0 c.each.all.items c.push.new.all.items _ c.in_ok-push.ensures c.in_ok-and_equality.ensures.1;
+  ended = last_read (step_at And) (without_sign equality_tree) c.in_ok-and_equality.field-0 c.each.all.items c.push.new.all.items _ c.in_ok-push.ensures c.in_ok-and_equality.ensures.1;
   shorter = grind (arith, common_steps);
 }
 
 pub and_equality-returns-in_err-expect : goal.and_equality-returns-in_err-expect
-and_equality-returns-in_err-expect t c = exits (unmarked equality_tree) (step And) (level_on (Joined Equal)) (step_at And) _ _ _ _ _ c.from_residual.ensures.1 c.in_err-expect.ensures
+and_equality-returns-in_err-expect t c = exits (without_sign equality_tree) (step And) (level_on (Joined Equal)) (step_at And) _ _ _ _ _ c.from_residual.ensures.1 c.in_err-expect.ensures
     (λ h. mark_fails And h)
 
 pub and_equality-returns-in_err-sum : goal.and_equality-returns-in_err-sum
-and_equality-returns-in_err-sum t c = exits (unmarked equality_tree) (step And) (level_on (Joined Equal)) (step_at And) _ _ _ _ _ c.from_residual-in_err-sum.ensures.1 c.in_err-sum.ensures
+and_equality-returns-in_err-sum t c = exits (without_sign equality_tree) (step And) (level_on (Joined Equal)) (step_at And) _ _ _ _ _ c.from_residual-in_err-sum.ensures.1 c.in_err-sum.ensures
     (λ h. behind_fails And tt c.in_ok-expect.ensures (first_fails Equal (first_fails Compare h)))
 
 pub and_equality-returns : goal.and_equality-returns

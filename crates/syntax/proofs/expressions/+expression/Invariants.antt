@@ -5,7 +5,7 @@ use Rattle.tree.specs.Operators.{Or, And, Equal, Compare}
 use Rattle.tree.specs.Expressions.{step}
 use Rattle.syntax.specs.ExpressionReads.{step_at, factor_at}
 use Rattle.tree.specs.Factors.{factor}
-use Rattle.tree.specs.ExpressionTrees.{unmarked, conjunction_tree, equality_tree, equality_step_tree, relation_step_tree, factor_tree}
+use Rattle.tree.specs.ExpressionTrees.{without_sign, conjunction_tree, equality_tree, equality_step_tree, relation_step_tree, factor_tree}
 use Rattle.syntax.proofs.expressions.+expression.Given as goal
 
 abbrev pub decreases-and_equality : goal.decreases-and_equality
@@ -82,8 +82,8 @@ decreases-target_from l = 10 * length l.cursor.now + 1
 
 abbrev pub invariant-conjunctions-each : goal.invariant-conjunctions-each
 invariant-conjunctions-each l = record {
-  read : l.fn.cursor ≡ flat_map (step Or) (map (unmarked conjunction_tree) l.all.items) ++ l.cursor;
-  ended : Stops (last_at (step_at Or) (map (unmarked conjunction_tree) l.all.items)) l.cursor;
+  read : l.fn.cursor ≡ flat_map (step Or) (map (without_sign conjunction_tree) l.all.items) ++ l.cursor;
+  ended : Stops (last_at (step_at Or) (map (without_sign conjunction_tree) l.all.items)) l.cursor;
   shorter : length l.cursor ≤ length l.fn.cursor;
 }
 
@@ -92,8 +92,8 @@ decreases-conjunctions-each l = length l.cursor
 
 abbrev pub invariant-equalities-each : goal.invariant-equalities-each
 invariant-equalities-each l = record {
-  read : l.fn.cursor ≡ flat_map (step And) (map (unmarked equality_tree) l.all.items) ++ l.cursor;
-  ended : Stops (last_at (step_at And) (map (unmarked equality_tree) l.all.items)) l.cursor;
+  read : l.fn.cursor ≡ flat_map (step And) (map (without_sign equality_tree) l.all.items) ++ l.cursor;
+  ended : Stops (last_at (step_at And) (map (without_sign equality_tree) l.all.items)) l.cursor;
   shorter : length l.cursor ≤ length l.fn.cursor;
 }
 

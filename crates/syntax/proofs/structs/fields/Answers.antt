@@ -1,5 +1,5 @@
 use Rattle.std.specs.List.{flat_map}
-use Rattle.tree.specs.Spelling.{braced}
+use Rattle.tree.specs.Spelling.{in_braces}
 use Rattle.syntax.specs.Reading.{never}
 use Rattle.syntax.proofs.pieces.Exits.{exits}
 use Rattle.syntax.proofs.pieces.Enclosed.{braced_open_fails, braced_fails, braced_close_fails}
@@ -8,13 +8,13 @@ use Rattle.syntax.proofs.definitions.StructRules.{fields_inside, field_sequence_
 use Rattle.syntax.proofs.structs.fields.Goals as goal
 
 pub returns-in_err-expect : goal.returns-in_err-expect
-returns-in_err-expect c = exits (λ p. (p.0.items, p.1)) (braced (flat_map field)) never (λ _. never) _ _ _ _ _ c.from_residual.ensures.1 c.in_err-expect.ensures
+returns-in_err-expect c = exits (λ p. (p.0.items, p.1)) (in_braces (flat_map field)) never (λ _. never) _ _ _ _ _ c.from_residual.ensures.1 c.in_err-expect.ensures
     (λ h. braced_open_fails fields_inside field_sequence_piece h)
 
 pub returns-in_err-all : goal.returns-in_err-all
-returns-in_err-all c = exits (λ p. (p.0.items, p.1)) (braced (flat_map field)) never (λ _. never) _ _ _ _ _ c.from_residual-in_err-all.ensures.1 c.in_err-all.ensures
+returns-in_err-all c = exits (λ p. (p.0.items, p.1)) (in_braces (flat_map field)) never (λ _. never) _ _ _ _ _ c.from_residual-in_err-all.ensures.1 c.in_err-all.ensures
     (λ h. braced_fails fields_inside c.in_ok-expect.ensures h)
 
 pub returns-in_err-close : goal.returns-in_err-close
-returns-in_err-close c = exits (λ p. (p.0.items, p.1)) (braced (flat_map field)) never (λ _. never) _ _ _ _ _ c.from_residual-in_err-close.ensures.1 c.in_err-close.ensures
+returns-in_err-close c = exits (λ p. (p.0.items, p.1)) (in_braces (flat_map field)) never (λ _. never) _ _ _ _ _ c.from_residual-in_err-close.ensures.1 c.in_err-close.ensures
     (λ h. braced_close_fails fields_inside c.in_ok-all.all.items field_sequence_piece c.in_ok-expect.ensures c.in_ok-all.ensures h)

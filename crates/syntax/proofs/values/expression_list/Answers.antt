@@ -1,7 +1,7 @@
 use Rattle.std.proofs.Common.{◌∷◌, [], ◌++◌, map, sym, ap, ◌∙◌, refl}
 use Rattle.std.proofs.lemmas.List.{map-append}
 use Rattle.source.specs.declared.kind.Kind.TheVariants as kind
-use Rattle.tree.specs.Spelling.{listed}
+use Rattle.tree.specs.Spelling.{comma_list}
 use Rattle.tree.specs.Expressions.{expression}
 use Rattle.syntax.specs.ExpressionReads.{opens_expression}
 use Rattle.tree.specs.ExpressionTrees.{expression_tree}
@@ -13,7 +13,7 @@ use Rattle.syntax.proofs.ValueRules.{expression_item}
 use Rattle.syntax.proofs.values.expression_list.Goals as goal
 
 pub returns-in_err-read_expression : goal.returns-in_err-read_expression
-returns-in_err-read_expression c = exits (λ v. map expression_tree v.items) (listed expression) expressions_on expressions_at _ _ _ _ _ c.from_residual.ensures.1 c.in_err-read_expression.ensures
+returns-in_err-read_expression c = exits (λ v. map expression_tree v.items) (comma_list expression) expressions_on expressions_at _ _ _ _ _ c.from_residual.ensures.1 c.in_err-read_expression.ensures
     (λ h. open_first_fails expression_item (test_leads opens_expression _ refl (ap opens_expression (sym c.peek.ensures.kind) ∙ sym c.is_expression.ensures ∙ c.if-not-is_expression.false)) h)
 
 pub more-init : goal.more-init
@@ -27,7 +27,7 @@ more-preserved c =
 pub returns-in_err-comma_expression : goal.returns-in_err-comma_expression
 returns-in_err-comma_expression c =
     let kept = c.more.invariant in
-    exits (λ v. map expression_tree v.items) (listed expression) expressions_on expressions_at _ _ _ _ _ c.from_residual-in_err-comma_expression.ensures.1 c.in_err-comma_expression.ensures
+    exits (λ v. map expression_tree v.items) (comma_list expression) expressions_on expressions_at _ _ _ _ _ c.from_residual-in_err-comma_expression.ensures.1 c.in_err-comma_expression.ensures
     (λ h. open_more_fails expression_item kept.first kept.others
     (test_leads opens_expression _ refl (ap opens_expression (sym c.peek.ensures.kind) ∙ sym c.is_expression.ensures ∙ c.if-not-is_expression.false))
     kept.read

@@ -1,15 +1,15 @@
 use Rattle.std.proofs.Common.{◌<◌, length, sym, subst, arith}
 use Rattle.std.specs.Prelude.{All}
 use Rattle.contracts.specs.Graphs.{groups}
-use Rattle.contracts.specs.Positions.{listed}
+use Rattle.contracts.specs.Positions.{numbers_of}
 use Rattle.contracts.proofs.ArcLemmas.{arcs_made, arcs_within, drawn, starts_within}
 use Rattle.contracts.proofs.arcs.SignGraph.new.Goals as goal
 
 pub groups_of-requires : goal.groups_of-requires
 groups_of-requires c = record {
   starts = subst (λ n. All (λ a. a.from < n) c.deref.result.now) (sym c.len.ensures)
-      (subst (All (λ a. a.from < length (listed c.args.states))) (sym c.deref.ensures.value)
-      (starts_within (length (listed c.args.states)) c.in_ok-arcs.arcs.items (arcs_within (listed c.args.states) c.args.edges.now c.args.sign c.in_ok-arcs.arcs.items c.in_ok-arcs.ensures.arcs)));
+      (subst (All (λ a. a.from < length (numbers_of c.args.states))) (sym c.deref.ensures.value)
+      (starts_within (length (numbers_of c.args.states)) c.in_ok-arcs.arcs.items (arcs_within (numbers_of c.args.states) c.args.edges.now c.args.sign c.in_ok-arcs.arcs.items c.in_ok-arcs.ensures.arcs)));
 }
 
 pub first_heights-requires : goal.first_heights-requires
@@ -32,5 +32,5 @@ returns-clause-range c = (arcs_made _ c.args.edges.now _ _ _ _ _ c.in_ok-arcs.en
 
 pub returns-clause-drawn : goal.returns-clause-drawn
 returns-clause-drawn c =
-    drawn (listed c.args.states) c.args.edges.now c.args.sign c.in_ok-arcs.arcs.items (groups c.in_ok-groups.groups) c.in_ok-arcs.ensures.arcs
+    drawn (numbers_of c.args.states) c.args.edges.now c.args.sign c.in_ok-arcs.arcs.items (groups c.in_ok-groups.groups) c.in_ok-arcs.ensures.arcs
     (arcs_made _ c.args.edges.now _ _ _ _ _ c.in_ok-arcs.ensures.arcs c.deref.ensures.value c.len.ensures c.in_ok-groups.ensures.groups)

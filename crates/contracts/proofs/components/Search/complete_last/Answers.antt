@@ -5,7 +5,7 @@ use Rattle.std.proofs.lemmas.List.{length_push, take_rest}
 use Rattle.std.proofs.lemmas.List.Elements.{All-drop}
 use Rattle.contracts.specs.declared.components.VertexStatus.TheVariants.{Complete, New}
 use Rattle.contracts.specs.Graphs.{groups}
-use Rattle.contracts.specs.Searches.{IsSearch, TellsComponent, is_new, status_at, written}
+use Rattle.contracts.specs.Searches.{IsSearch, TellsComponent, is_new, status_at, set_at_each}
 use Rattle.contracts.proofs.RisingLemmas.{but_last}
 use Rattle.contracts.proofs.ComponentLemmas.{found_same, pending_within, room_same, search_same}
 use Rattle.contracts.proofs.CompletionLemmas.{completed_found, completed_met, completed_new, completed_room, completed_search}
@@ -36,7 +36,7 @@ pub write_each-requires-2 : goal.write_each-requires-2
 write_each-requires-2 c = part_within (goal.at.write_each-requires-2 c).After-deref (length c.deref_mut-2.result.now) (ap length c.deref_mut-2.ensures.value ∙ c.requires.kept.found.long)
 
 -- what the fields are
-statuses_are : (c : After-pop) → (with_items c.args.self.now.statuses c.write_each.new.items).items ≡ written c.args.self.now.statuses.items (drop c.args.bound c.args.self.now.pending.items) Complete
+statuses_are : (c : After-pop) → (with_items c.args.self.now.statuses c.write_each.new.items).items ≡ set_at_each c.args.self.now.statuses.items (drop c.args.bound c.args.self.now.pending.items) Complete
 statuses_are c = vec_written c.args.self.now.statuses c.deref_mut.result.now c.write_each.new.items
     (take (length c.deref.result.now - c.args.bound) (drop c.args.bound c.deref.result.now)) (drop c.args.bound c.args.self.now.pending.items)
     Complete c.write_each.ensures c.deref_mut.ensures.value (take_rest c.deref.result.now c.args.bound ∙ ap (drop c.args.bound) c.deref.ensures.value)
@@ -59,21 +59,21 @@ returns-clause-kept c =
     let statuses = old.statuses.items in
     let pending = old.pending.items in
     let arcs = old.arcs.items in
-    let place = c.args.bound in
-    let part = drop place pending in
+    let index = c.args.bound in
+    let part = drop index pending in
     let rest = c.requires.last.0 in
     let at = (goal.at.returns-clause-kept c).After-pop in
     let on_ring = c.are_on_ring-on_ring.result in
-    let parts = take_rest c.deref.result.now place ∙ ap (drop place) c.deref.ensures.value in
+    let parts = take_rest c.deref.result.now index ∙ ap (drop index) c.deref.ensures.value in
     let rings = vec_written old.rings c.deref_mut-2.result.now c.write_each-2.new.items _ part on_ring c.write_each-2.ensures c.deref_mut-2.ensures.value parts in
     let order = c.in_ok-extend_from_slice.ensures.items ∙ ap (λ l. old.order.items ++ l) parts in
     record {
-      search = search_same graph (written statuses part Complete) _ (take place pending) _ rest _ arcs _ (statuses_are at) c.truncate.ensures.items (bounds_are at) refl
-          (completed_search graph statuses pending rest arcs old.rings.items old.order.items place on_ring c.requires.none (told_is at) (search_is at) c.requires.kept.found);
-      found = found_same graph (written statuses part Complete) _ (written old.rings.items part on_ring) _ (old.order.items ++ part) _ (statuses_are at) rings order
-          (completed_found graph statuses pending rest arcs old.rings.items old.order.items place on_ring c.requires.none (told_is at) (search_is at) c.requires.kept.found);
-      room = room_same (length graph) (written statuses part Complete) _ (take place pending) _ (old.order.items ++ part) _ (statuses_are at) c.truncate.ensures.items order
-          (completed_room graph statuses pending rest arcs old.rings.items old.order.items place on_ring c.requires.none (told_is at) (search_is at) c.requires.kept.found (length graph) c.requires.kept.room);
+      search = search_same graph (set_at_each statuses part Complete) _ (take index pending) _ rest _ arcs _ (statuses_are at) c.truncate.ensures.items (bounds_are at) refl
+          (completed_search graph statuses pending rest arcs old.rings.items old.order.items index on_ring c.requires.none (told_is at) (search_is at) c.requires.kept.found);
+      found = found_same graph (set_at_each statuses part Complete) _ (set_at_each old.rings.items part on_ring) _ (old.order.items ++ part) _ (statuses_are at) rings order
+          (completed_found graph statuses pending rest arcs old.rings.items old.order.items index on_ring c.requires.none (told_is at) (search_is at) c.requires.kept.found);
+      room = room_same (length graph) (set_at_each statuses part Complete) _ (take index pending) _ (old.order.items ++ part) _ (statuses_are at) c.truncate.ensures.items order
+          (completed_room graph statuses pending rest arcs old.rings.items old.order.items index on_ring c.requires.none (told_is at) (search_is at) c.requires.kept.found (length graph) c.requires.kept.room);
     }
 
 pub returns-clause-met : goal.returns-clause-met

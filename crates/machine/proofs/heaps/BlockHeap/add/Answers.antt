@@ -1,8 +1,8 @@
 use Rattle.std.proofs.Common.{◌≡◌, ◌∷◌, [], ◌++◌, ◌∙◌, List, length, sym, subst}
 use Rattle.machine.specs.BlockViews.{blocks_model}
-use Rattle.machine.specs.Blocks.{handed, new_block}
+use Rattle.machine.specs.Blocks.{with_new_owner, new_block}
 use Rattle.machine.specs.Heaps.{QueuesBring, IsCounted, FieldsHold}
-use Rattle.machine.specs.World.{Block, changed}
+use Rattle.machine.specs.World.{Block, change_each}
 use Rattle.machine.specs.declared.worlds.Owner.TheVariants.{Inside}
 use Rattle.machine.proofs.ChangeLemmas.{seen_length}
 use Rattle.machine.proofs.CountLemmas.{counted_added, room_for}
@@ -32,7 +32,7 @@ invariant_of-self-2 c =
     let made = new_block c.args.ty c.args.process 0 0 given in
     let long : c.len-address.result ≡ length bs =
     c.len-address.ensures ∙ (c.args.self.now.blocks.ok.0 ∙ sym (seen_length c.args.self.now.blocks.items)) in
-    let grown : blocks_model c.hand.new.blocks.items ≡ changed (handed (Inside (length bs)) given) bs ++ made ∷ [] =
+    let grown : blocks_model c.hand.new.blocks.items ≡ change_each (with_new_owner (Inside (length bs)) given) bs ++ made ∷ [] =
     grown_is bs c.args.process given c.args.ty kept.held c.requires.owned.own c.requires.once.once c.len-address.result
     (blocks_model c.list.new.self.blocks.items) (blocks_model c.push.new.self.items) (blocks_model c.hand.new.blocks.items) long
     c.list.ensures.same

@@ -1,8 +1,8 @@
 use Rattle.std.proofs.Common.{◌≡◌, ◌∷◌, [], ◌∙◌, List, Some, ap, refl, sym, subst}
 use Rattle.std.specs.Prelude.{slice_get}
-use Rattle.machine.specs.Blocks.{exchanged_block, handed}
+use Rattle.machine.specs.Blocks.{exchanged_block, with_new_owner}
 use Rattle.machine.specs.Heaps.{QueuesBring, IsCounted, FieldsHold}
-use Rattle.machine.specs.World.{Block, block_at, changed}
+use Rattle.machine.specs.World.{Block, block_at, change_each}
 use Rattle.machine.specs.declared.worlds.Owner.TheVariants.{Process, Inside}
 use Rattle.machine.specs.declared.worlds.Block as made_block
 use Rattle.machine.specs.Answers.{with_field}
@@ -30,9 +30,9 @@ invariant_of-self c =
     (sym c.deref.ensures.value)
     ∙ (sym c.field_of.ensures ∙ c.in_ok-held.was) in
     let now : blocks_model c.hand_one-2.new.blocks.items
-    ≡ changed (exchanged_block c.args.process c.args.at c.args.field c.args.given c.in_ok-held.held) old =
-    c.hand_one-2.ensures.handed ∙ (ap (changed (handed (Inside c.args.at) (c.args.given ∷ []))) (c.hand_one.ensures.handed
-    ∙ ap (changed (handed (Process c.args.process) (c.in_ok-held.held ∷ []))) c.set_field.ensures)
+    ≡ change_each (exchanged_block c.args.process c.args.at c.args.field c.args.given c.in_ok-held.held) old =
+    c.hand_one-2.ensures.handed ∙ (ap (change_each (with_new_owner (Inside c.args.at) (c.args.given ∷ []))) (c.hand_one.ensures.handed
+    ∙ ap (change_each (with_new_owner (Process c.args.process) (c.in_ok-held.held ∷ []))) c.set_field.ensures)
     ∙ exchanged_is c.args.process c.args.at c.args.field c.args.given c.in_ok-held.held old) in
     record {
       kept = record {
@@ -47,6 +47,6 @@ invariant_of-self c =
 pub returns-clause-exchanged : goal.returns-clause-exchanged
 returns-clause-exchanged c =
     let old = blocks_model c.args.self.now.blocks.items in
-    c.hand_one-2.ensures.handed ∙ (ap (changed (handed (Inside c.args.at) (c.args.given ∷ []))) (c.hand_one.ensures.handed
-    ∙ ap (changed (handed (Process c.args.process) (c.in_ok-held.held ∷ []))) c.set_field.ensures)
+    c.hand_one-2.ensures.handed ∙ (ap (change_each (with_new_owner (Inside c.args.at) (c.args.given ∷ []))) (c.hand_one.ensures.handed
+    ∙ ap (change_each (with_new_owner (Process c.args.process) (c.in_ok-held.held ∷ []))) c.set_field.ensures)
     ∙ exchanged_is c.args.process c.args.at c.args.field c.args.given c.in_ok-held.held old)

@@ -3,9 +3,9 @@ use Rattle.std.specs.Prelude.{option_map}
 use Rattle.std.specs.Option.{option_map_or}
 use Rattle.machine.specs.Answers.{in_state, left_in}
 use Rattle.machine.specs.BlockViews.{blocks_model, held_model}
-use Rattle.machine.specs.Blocks.{handed, received_block}
+use Rattle.machine.specs.Blocks.{with_new_owner, received_block}
 use Rattle.machine.specs.Heaps.{QueuesBring, IsCounted, FieldsHold}
-use Rattle.machine.specs.World.{MessageHeld, block_at, changed}
+use Rattle.machine.specs.World.{MessageHeld, block_at, change_each}
 use Rattle.machine.specs.declared.worlds.Owner.TheVariants.{Process}
 use Rattle.machine.proofs.ChangeLemmas.{received_is}
 use Rattle.machine.proofs.CountLemmas.{counted_kept, listed_own}
@@ -36,9 +36,9 @@ returns-clause-received c = λ m ms is.
     let old = blocks_model c.args.self.now.blocks.items in
     let brings : c.deref.result.now ≡ m.payload = c.deref.ensures.value ∙ ap (λ o. option_map_or (λ h. h.payload) o []) (c.in-Some.ensures.taken m ms is) in
     c.set_state.ensures
-    ∙ (ap (changed (in_state c.args.at c.args.state.0)) (c.hand.ensures.handed
-    ∙ (ap (changed (handed (Process c.args.process) c.deref.result.now)) (c.in-Some.ensures.left m ms is)
-    ∙ ap (λ xs. changed (handed (Process c.args.process) xs) (changed (left_in c.args.at ms) old)) brings))
+    ∙ (ap (change_each (in_state c.args.at c.args.state.0)) (c.hand.ensures.handed
+    ∙ (ap (change_each (with_new_owner (Process c.args.process) c.deref.result.now)) (c.in-Some.ensures.left m ms is)
+    ∙ ap (λ xs. change_each (with_new_owner (Process c.args.process) xs) (change_each (left_in c.args.at ms) old)) brings))
     ∙ received_is c.args.process c.args.at c.args.state.0 m ms old)
 
 pub invariant_of-self : goal.invariant_of-self
@@ -49,11 +49,11 @@ invariant_of-self c =
     let ms = front.1 in
     let state = in_state c.args.at c.args.state.0 in
     let brings : c.deref.result.now ≡ m.payload = c.deref.ensures.value ∙ ap (λ o. option_map_or (λ h. h.payload) o []) (c.in-Some.ensures.taken m ms front.2) in
-    let received : blocks_model c.set_state.new.blocks.items ≡ changed (received_block c.args.process c.args.at c.args.state.0 m ms) old =
+    let received : blocks_model c.set_state.new.blocks.items ≡ change_each (received_block c.args.process c.args.at c.args.state.0 m ms) old =
     c.set_state.ensures
-    ∙ (ap (changed state) (c.hand.ensures.handed
-    ∙ (ap (changed (handed (Process c.args.process) c.deref.result.now)) (c.in-Some.ensures.left m ms front.2)
-    ∙ ap (λ xs. changed (handed (Process c.args.process) xs) (changed (left_in c.args.at ms) old)) brings))
+    ∙ (ap (change_each state) (c.hand.ensures.handed
+    ∙ (ap (change_each (with_new_owner (Process c.args.process) c.deref.result.now)) (c.in-Some.ensures.left m ms front.2)
+    ∙ ap (λ xs. change_each (with_new_owner (Process c.args.process) xs) (change_each (left_in c.args.at ms) old)) brings))
     ∙ received_is c.args.process c.args.at c.args.state.0 m ms old) in
     record {
       kept = record {

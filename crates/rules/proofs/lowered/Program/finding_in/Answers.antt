@@ -1,7 +1,7 @@
 use Rattle.std.proofs.Common.{ap, sym, ◌∙◌}
 use Rattle.std.proofs.lemmas.Result.{IfOk-weaker}
 use Rattle.program.specs.Methods.{method_model}
-use Rattle.rules.specs.Breaches.{told}
+use Rattle.rules.specs.Breaches.{finding_for_reason}
 use Rattle.rules.specs.Mentions.{name_of}
 use Rattle.rules.specs.Programs.{model_of}
 use Rattle.rules.specs.Texts.{wrong_for}
@@ -17,4 +17,4 @@ returns-in-WrongFor c =
     (λ finding h. (λ i. record { place = h.place i; code = h.code i; text = h.text i })
     ∙ ap (λ name. wrong_for name c.name_along-message-in-WrongFor.result.now place) c.name_of-in-WrongFor.ensures
     ∙ ap (λ message. wrong_for (name_of m arm.variable.0) message place) c.name_along-message-in-WrongFor.ensures
-    ∙ ap (told p m place) (sym arm.is)) c.in_a_wrong_state_for.ensures
+    ∙ ap (finding_for_reason p m place) (sym arm.is)) c.in_a_wrong_state_for.ensures

@@ -17,7 +17,7 @@ use Rattle.analyse.specs.Workers.{own_of, view_of}
 use Rattle.analyse.proofs.ZipLemmas.{zip_long}
 use Rattle.traces.specs.Explained.{trace_lines}
 use Rattle.traces.specs.Lines.{line_model, path_lines, start_lines}
-use Rattle.traces.specs.Watched.{watched}
+use Rattle.traces.specs.Watched.{variables_of_reason}
 use Rattle.traces.proofs.LineLemmas.{all_inside, first_seen, one_pair}
 use Rattle.traces.proofs.NameLemmas.{method_at}
 use Rattle.traces.proofs.explaining.ExplainingSite.trace_lines.Goals as goal
@@ -45,8 +45,8 @@ path_lines-requires-clause-there c =
     let t = c.requires.trails in
     let way = c.in_ok-places.ensures _ _ t.0 t.2 in
     let long = zip_long (NamesPair (view_of w) (own_of w) w.alone) (pairs_of w.seen) t.0 (c.read_pair.ensures.seen t.0 t.1) in
-    subst (All (λ place. place < length (pairs_of w.seen))) (sym c.deref-2.ensures.value)
-    (subst (λ n. All (λ place. place < n) c.in_ok-places.places.items) long (all_inside t.0 c.in_ok-places.places.items way.0.steps way.0.named))
+    subst (All (λ index. index < length (pairs_of w.seen))) (sym c.deref-2.ensures.value)
+    (subst (λ n. All (λ index. index < n) c.in_ok-places.places.items) long (all_inside t.0 c.in_ok-places.places.items way.0.steps way.0.named))
 
 pub returns-clause-trace : goal.returns-clause-trace
 returns-clause-trace c =
@@ -60,13 +60,13 @@ returns-clause-trace c =
     let trace : IsTrace (outcome p n) (entry_of p n) (breach_in p n breach) by.steps = by.trace in
     let seen = c.read_pair.ensures.seen t.0 t.1 in
     let here = one_pair by.trace.at _ (sym way.1 ∙ c.in_ok-point.ensures.pair t.0 t.1) in
-    let about : map (λ (v : VarId). v.0) c.in_ok-about.about.items ≡ watched breach.reason (slice_get (graph_of m).instructions by.trace.at.0)
-    = c.in_ok-about.ensures ∙ ap (watched breach.reason) (c.instruction_at-at.ensures ∙ ap (λ x. slice_get (graph_of m).instructions x.0) (sym here)) in
+    let about : map (λ (v : VarId). v.0) c.in_ok-about.about.items ≡ variables_of_reason breach.reason (slice_get (graph_of m).instructions by.trace.at.0)
+    = c.in_ok-about.ensures ∙ ap (variables_of_reason breach.reason) (c.instruction_at-at.ensures ∙ ap (λ x. slice_get (graph_of m).instructions x.0) (sym here)) in
     let there = method_at c.methods.result.now p.methods n c.index-methods-self.result c.methods.ensures c.requires.there c.index-methods-self.is in
     let first : slice_get t.0 0 ≡ Some (entry_of p n) = first_seen p n t.0 c.args.trails.now t.2 in
     IfOk-weaker c.path_lines.result _ _ (λ lines told.
     let is : map line_model lines.items ≡ trace_lines p m breach (entry_of p n) by.steps trace.at
-    = told t.0 by.steps (entry_of p n) seen first (subst (λ ps. AllZip (λ place x. slice_get t.0 place ≡ Some x) ps by.steps) (sym c.deref-2.ensures.value) by.named)
+    = told t.0 by.steps (entry_of p n) seen first (subst (λ ps. AllZip (λ index x. slice_get t.0 index ≡ Some x) ps by.steps) (sym c.deref-2.ensures.value) by.named)
     ∙ ap (λ vs. start_lines p m vs (entry_of p n).1 ++ path_lines p m vs (entry_of p n ∷ by.steps)) (ap (map (λ (v : VarId). v.0)) c.deref.ensures.value ∙ about) in
     record {
       breach = breach;

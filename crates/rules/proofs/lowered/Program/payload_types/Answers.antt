@@ -9,7 +9,7 @@ use Rattle.rules.specs.Endpoints.{declared_leaf}
 use Rattle.rows.specs.Leaves.{IsNumbered}
 use Rattle.rules.specs.Programs.{model_of}
 use Rattle.rules.proofs.EndLemmas.{each_at, types_numbered}
-use Rattle.rules.proofs.lowered.Program.brought.Goals as goal
+use Rattle.rules.proofs.lowered.Program.payload_types.Goals as goal
 
 pub returns-in-Some-clause-numbered : goal.returns-in-Some-clause-numbered
 returns-in-Some-clause-numbered c =
