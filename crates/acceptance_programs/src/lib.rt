@@ -17,3 +17,5 @@ mod numbers;
 mod resolution;
 #[cfg(test)]
 mod sounds;
+#[cfg(test)]
+mod written_types;
