@@ -44,6 +44,7 @@ told_alone X r x tests outcome o after e h is = subst (λ t. Tells t o after) (s
   where
     at : (y : Refusal) → IsRefusal y tests → Tells {X = X} (Err y) o after
     at (refusal.Fault fault) h = refused_alone tests fault outcome o h is
+    at refusal.Ended h = absurd h
     at refusal.Waits h = absurd h
     at refusal.Memory h = absurd h
 

@@ -1,9 +1,9 @@
 -- For proofs within the crate: what the code answers, in words of the definitions.
-use Rattle.std.specs.Prelude.{◌≡◌, ℕ, ◌==◌, Bool, true, false, List, [], ◌∷◌, ◌++◌, set, if◌then◌else◌}
+use Rattle.std.specs.Prelude.{◌≡◌, ℕ, ◌==◌, List, [], ◌∷◌, ◌++◌, set, if◌then◌else◌}
 use Rattle.std.specs.Prelude.{Option, Result, Ok, Err, Some, None}
 use Rattle.source.specs.declared.place.Place.{Place}
 use Rattle.program.specs.Programs.{ProgramModel}
-use Rattle.flow.specs.Graphs.{Instruction, New, NewChannel, Delete, Exchange, Send, Switch, Call, Start, Return, Stop}
+use Rattle.flow.specs.Graphs.{Instruction}
 use Rattle.program.specs.declared.call.Argument.{Argument}
 use Rattle.program.specs.declared.statement.Mention.{Mention}
 use Rattle.machine.specs.Frames.{address, put}
@@ -19,12 +19,14 @@ use Rattle.machine.specs.declared.halts.Refusal.TheVariants as refusal
 -- An answer of an instruction tells the outcome. Memory comes only if the instruction would change the world.
 abbrev pub Tells : {X : Type 0} → Result X Refusal → Outcome → World → Type 0
 Tells (Ok x) outcome after = outcome ≡ Moved after
+Tells (Err refusal.Ended) outcome after = outcome ≡ NoProcess
 Tells (Err (refusal.Fault fault)) outcome after = outcome ≡ Faulty fault
 Tells (Err refusal.Waits) outcome after = outcome ≡ Waits
 Tells (Err refusal.Memory) outcome after = (v : World) × (outcome ≡ Moved v)
 
 -- why no step was taken, where an instruction at a place was refused
 abbrev pub halt_of : Refusal → Place → Halt
+halt_of refusal.Ended place = halt.NoSuchProcess
 halt_of (refusal.Fault fault) place = halt.Fault fault place
 halt_of refusal.Waits place = halt.Waits
 halt_of refusal.Memory place = halt.Memory
@@ -63,33 +65,6 @@ abbrev pub went_on : List Argument → ℕ → List Frame → List Frame
 went_on arguments next [] = []
 went_on arguments next (f ∷ rest) = record { method = f.method; point = next; variables = let_go f.variables arguments } ∷ rest
 
--- instructions that change the innermost frame of a process and blocks, and nothing else
-abbrev pub is_of_frame : Instruction → Bool
-is_of_frame (Call place method arguments target next) = false
-is_of_frame (Start place method arguments next) = false
-is_of_frame (Return place value scope) = false
-is_of_frame (Stop place) = false
-is_of_frame _ = true
-
--- of these, those that make or free blocks, or change what is inside one
-abbrev pub is_of_heap : Instruction → Bool
-is_of_heap (New v arguments next) = true
-is_of_heap (NewChannel c next) = true
-is_of_heap (Delete v next) = true
-is_of_heap (Exchange e next) = true
-is_of_heap _ = false
-
--- and those that send or receive
-abbrev pub is_of_channel : Instruction → Bool
-is_of_channel (Send place e message payloads next) = true
-is_of_channel (Switch place cases) = true
-is_of_channel _ = false
-
--- and those that change no other process
-abbrev pub is_of_process : Instruction → Bool
-is_of_process (Start place method arguments next) = false
-is_of_process _ = true
-
 -- a process's stack is another
 abbrev pub with_stack : World → ℕ → List Frame → List Block → World
 with_stack w self stack blocks = record { processes = set w.processes self stack; blocks = blocks }
@@ -103,9 +78,10 @@ abbrev pub IsFirstFault : Option Fault → List FaultTest → Type 0
 IsFirstFault None tests = Pass tests
 IsFirstFault (Some fault) tests = (more : List FaultTest) (outcome : Outcome) → after_tests (tests ++ more) outcome ≡ Faulty fault
 
--- The first of these tests that fails has this fault. No test waits or takes memory.
+-- The first of these tests that fails has this fault. No test waits or takes memory, and no process that has ended is tested.
 abbrev pub IsRefusal : Refusal → List FaultTest → Type 0
 IsRefusal (refusal.Fault fault) tests = IsFirstFault (Some fault) tests
+IsRefusal refusal.Ended tests = ⊥
 IsRefusal refusal.Memory tests = ⊥
 IsRefusal refusal.Waits tests = ⊥
 

@@ -1,6 +1,6 @@
 //! Calls.
 
-ghost use Rattle.std.specs.Prelude.{◌≡◌, IfErr, IfOk, IsSome, OnErr, OnOk, map};
+ghost use Rattle.std.specs.Prelude.{◌≡◌, IfErr, IfOk, OnErr, OnOk, map};
 ghost use Rattle.flow.specs.Graphs.{instruction_model};
 ghost use Rattle.flow.specs.declared.graph.Instr.{Instr};
 ghost use Rattle.program.specs.Methods.{variable_model};
@@ -15,6 +15,7 @@ ghost use Rattle.machine.specs.World.{read};
 
 use crate::giving::first_fault;
 use crate::halts::Refusal;
+use crate::instructing::Turn;
 use crate::mentions::lets_go;
 use crate::variables::Variables;
 use crate::worlds::{Block, Frame, Process};
@@ -102,26 +103,29 @@ fn push_frame(stack: &mut Process, begun: Frame, arguments: &[Argument]) -> Resu
 
 /// A method is called. Its arguments are tested before the frame that begins takes memory.
 pub(crate) fn call(
-    alloc: Global,
-    program: &Program,
+    turn: &Turn<'_>,
     stack: &mut Process,
     blocks: &[Block],
-    process: usize,
     calling: &Calling,
 ) -> Result<(), Refusal>
-    requires top { IsSome stack.old.top }
     ensures tells { (bound : QueueBounds) (w : seen.World) → w.blocks ≡ blocks_model blocks.now →
-        Tells result (on_stack (model_of program.now) bound w process (instruction_model (Instr.Call calling.now)) 0
+        Tells result (on_stack (model_of turn.now.program.now) bound w turn.now.process (instruction_model (Instr.Call calling.now)) 0
         (stack_model stack.old))
-        (with_stack w process (stack_model stack.new) (blocks_model blocks.now)) }
+        (with_stack w turn.now.process (stack_model stack.new) (blocks_model blocks.now)) }
     ensures same { OnErr result (stack_model stack.new ≡ stack_model stack.old) }
 {
     let Some(frame) = &stack.top else {
-        unreachable!()
+        return Err(Refusal::Ended);
     };
-    if let Some(fault) = first_fault(alloc, frame, blocks, process, &calling.arguments) {
+    if let Some(fault) = first_fault(turn.alloc, frame, blocks, turn.process, &calling.arguments) {
         return Err(Refusal::Fault(fault));
     }
-    let begun = enter(alloc, program, frame, calling.method, &calling.arguments)?;
+    let begun = enter(
+        turn.alloc,
+        turn.program,
+        frame,
+        calling.method,
+        &calling.arguments,
+    )?;
     push_frame(stack, begun, &calling.arguments)
 }

@@ -48,6 +48,8 @@ pub enum Halt {
 /// Why an instruction was not done.
 #[derive(Clone, Copy)]
 pub(crate) enum Refusal {
+    /// The process has ended.
+    Ended,
     Fault(Fault),
     Waits,
     Memory,

@@ -7,7 +7,7 @@ ghost use Rattle.program.specs.declared.types.Side.TheVariants.{Imp, Exp};
 ghost use Rattle.rules.specs.Programs.{model_of};
 ghost use Rattle.machine.specs.Answers.{Tells, on_top};
 ghost use Rattle.machine.specs.Blocks.{end_type, is_imp, new_block};
-ghost use Rattle.machine.specs.Frames.{type_at, variables_of};
+ghost use Rattle.machine.specs.Frames.{type_at};
 ghost use Rattle.machine.specs.Machine.{outcome_from};
 ghost use Rattle.machine.specs.Outcomes.{QueueBounds};
 ghost use Rattle.machine.specs.Views.{block_model, blocks_model, frame_model};
@@ -15,86 +15,69 @@ ghost use Rattle.machine.specs.World as seen;
 
 use crate::halts::{Fault, Refusal};
 use crate::heaps::BlockHeap;
+use crate::instructing::Turn;
 use crate::mentions::type_at;
 use crate::payloads::{are_unsent, lets_payloads_go, payload_addresses};
 use crate::reading::own;
 use crate::worlds::{Block, Frame, Owner};
 use program::{Channel, HeapType, Mention, Side, StateId};
-use rules::Program;
 use std::alloc::Global;
 use std::collections::VecDeque;
 
-/// Who runs an instruction, and the point at which it goes on.
-#[derive(Clone, Copy)]
-pub(crate) struct Turn {
-    pub(crate) process: usize,
-    pub(crate) next: usize,
-}
-
-/// What takes a new block, and what is given for its fields, in order.
-#[derive(Clone, Copy)]
-pub(crate) struct Making<'a> {
-    pub(crate) target: Mention,
-    pub(crate) arguments: &'a [Mention],
-}
-
 /// The target takes a new block, whose fields hold what is given. Every test comes before the first growth of memory.
 pub(crate) fn new(
-    alloc: Global,
-    program: &Program,
+    turn: &Turn<'_>,
     frame: &mut Frame,
     heap: &mut BlockHeap,
-    turn: Turn,
-    making: &Making<'_>,
+    target: Mention,
+    arguments: &[Mention],
+    next: usize,
 ) -> Result<(), Refusal>
     ensures tells { (bound : QueueBounds) (w : seen.World) (rest : List seen.Frame) → w.blocks ≡ blocks_model heap.old.blocks.items →
-        Tells result (outcome_from (model_of program.now) bound w turn.process (frame_model frame.old) rest
-        (New making.now.target making.now.arguments.now turn.next) 0)
-        (on_top w.processes turn.process rest (frame_model frame.new) (blocks_model heap.new.blocks.items)) }
+        Tells result (outcome_from (model_of turn.now.program.now) bound w turn.now.process (frame_model frame.old) rest
+        (New target arguments.now next) 0)
+        (on_top w.processes turn.now.process rest (frame_model frame.new) (blocks_model heap.new.blocks.items)) }
     ensures same { OnErr result (frame_model frame.new ≡ frame_model frame.old) }
     ensures same_blocks { OnErr result (blocks_model heap.new.blocks.items ≡ blocks_model heap.old.blocks.items) }
 {
-    if making.arguments.is_empty() {
-        return new_alone(alloc, program, frame, heap, turn, making.target);
+    if arguments.is_empty() {
+        return new_alone(turn, frame, heap, target, next);
     }
-    if !are_unsent(frame, heap.blocks(), turn.process, making.arguments) {
+    if !are_unsent(frame, heap.blocks(), turn.process, arguments) {
         return Err(Refusal::Fault(Fault::F3));
     }
-    let given = payload_addresses(alloc, frame, making.arguments)?;
+    let given = payload_addresses(turn.alloc, frame, arguments)?;
     let address = heap.blocks().len();
-    let ty = type_at(program, frame.method, making.target.variable);
-    frame.list(making.target)?;
-    heap.add(alloc, turn.process, ty, &given)?;
-    lets_payloads_go(&mut frame.variables, making.arguments);
-    frame.put(making.target, Some(address));
-    frame.point = turn.next;
+    let ty = type_at(turn.program, frame.method, target.variable);
+    frame.list(target)?;
+    heap.add(turn.alloc, turn.process, ty, &given)?;
+    lets_payloads_go(&mut frame.variables, arguments);
+    frame.put(target, Some(address));
+    frame.point = next;
     Ok(())
 }
 
-/// The target takes a new block without owning fields. Nothing is given for it, so nothing is tested or listed.
+/// The variable takes a new block without owning fields. Nothing is given for it, so nothing is tested or listed.
 fn new_alone(
-    alloc: Global,
-    program: &Program,
+    turn: &Turn<'_>,
     frame: &mut Frame,
     heap: &mut BlockHeap,
-    turn: Turn,
-    target: Mention,
+    at: Mention,
+    next: usize,
 ) -> Result<(), Refusal>
     ensures tells { (bound : QueueBounds) (w : seen.World) (rest : List seen.Frame) → w.blocks ≡ blocks_model heap.old.blocks.items →
-        Tells result (outcome_from (model_of program.now) bound w turn.process (frame_model frame.old) rest (New target [] turn.next) 0)
-        (on_top w.processes turn.process rest (frame_model frame.new) (blocks_model heap.new.blocks.items)) }
+        Tells result (outcome_from (model_of turn.now.program.now) bound w turn.now.process (frame_model frame.old) rest (New at [] next) 0)
+        (on_top w.processes turn.now.process rest (frame_model frame.new) (blocks_model heap.new.blocks.items)) }
     ensures same { OnErr result (frame_model frame.new ≡ frame_model frame.old) }
     ensures same_blocks { OnErr result (blocks_model heap.new.blocks.items ≡ blocks_model heap.old.blocks.items) }
 {
     let address = heap.blocks().len();
-    let ty = type_at(program, frame.method, target.variable);
-    frame.list(target)?;
-    heap.add_alone(
-        turn.process,
-        new_block(alloc, turn.process, ty, 0, StateId(0)),
-    )?;
-    frame.put(target, Some(address));
-    frame.point = turn.next;
+    let ty = type_at(turn.program, frame.method, at.variable);
+    frame.list(at)?;
+    let made = new_block(turn.alloc, turn.process, ty, 0, StateId(0));
+    heap.add_alone(turn.process, made)?;
+    frame.put(at, Some(address));
+    frame.point = next;
     Ok(())
 }
 
@@ -189,26 +172,25 @@ fn open(
 
 /// Two variables take the two ends of a new channel.
 pub(crate) fn new_channel(
-    alloc: Global,
-    program: &Program,
+    turn: &Turn<'_>,
     frame: &mut Frame,
     heap: &mut BlockHeap,
-    turn: Turn,
     channel: Channel,
+    next: usize,
 ) -> Result<(), Refusal>
     ensures tells { (bound : QueueBounds) (w : seen.World) (rest : List seen.Frame) → w.blocks ≡ blocks_model heap.old.blocks.items →
-        Tells result (outcome_from (model_of program.now) bound w turn.process (frame_model frame.old) rest
-        (NewChannel channel turn.next) 0)
-        (on_top w.processes turn.process rest (frame_model frame.new) (blocks_model heap.new.blocks.items)) }
+        Tells result (outcome_from (model_of turn.now.program.now) bound w turn.now.process (frame_model frame.old) rest
+        (NewChannel channel next) 0)
+        (on_top w.processes turn.now.process rest (frame_model frame.new) (blocks_model heap.new.blocks.items)) }
     ensures same { OnErr result (frame_model frame.new ≡ frame_model frame.old) }
     ensures same_blocks { OnErr result (blocks_model heap.new.blocks.items ≡ blocks_model heap.old.blocks.items) }
 {
     let address = heap.blocks().len();
-    let state = program.first_state(channel.contract);
-    let first_is_imp = is_imp(type_at(program, frame.method, channel.first.variable));
+    let state = turn.program.first_state(channel.contract);
+    let first_is_imp = is_imp(type_at(turn.program, frame.method, channel.first.variable));
     frame.list(channel.first)?;
     frame.list(channel.second)?;
-    open(alloc, heap, turn.process, channel, state)?;
+    open(turn.alloc, heap, turn.process, channel, state)?;
     let (first, second) = if first_is_imp {
         (address, address + 1)
     } else {
@@ -216,6 +198,6 @@ pub(crate) fn new_channel(
     };
     frame.put(channel.first, Some(first));
     frame.put(channel.second, Some(second));
-    frame.point = turn.next;
+    frame.point = next;
     Ok(())
 }

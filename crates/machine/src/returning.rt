@@ -14,11 +14,11 @@ ghost use Rattle.machine.specs.declared.halts.Fault.TheVariants.{F3};
 
 use crate::halts::{Fault, Refusal};
 use crate::heaps::BlockHeap;
+use crate::instructing::Turn;
 use crate::reading::own;
 use crate::standing::behind_call;
 use crate::worlds::{Block, Frame, Process};
 use program::Mention;
-use rules::Program;
 
 /// Whether the innermost frame may give what a variable has, if there is one.
 fn can_give(stack: &Process, blocks: &[Block], process: usize, value: Option<Mention>) -> bool
@@ -57,27 +57,26 @@ fn give_back(
 /// The innermost frame ends, and gives what this variable has, if there is one. The frame that waits for it goes on; where none waits,
 /// the process ends, and then it is to own nothing.
 pub(crate) fn end(
-    program: &Program,
+    turn: &Turn<'_>,
     stack: &mut Process,
     heap: &BlockHeap,
-    process: usize,
     value: Option<Mention>,
 ) -> Result<(), Refusal>
     requires top { IsSome stack.old.top }
     ensures tells { (bound : QueueBounds) (w : seen.World) → w.blocks ≡ blocks_model heap.now.blocks.items →
-        Tells result (outcome_of_end (model_of program.now) bound w process value (stack_model stack.old))
-        (with_stack w process (stack_model stack.new) (blocks_model heap.now.blocks.items)) }
+        Tells result (outcome_of_end (model_of turn.now.program.now) bound w turn.now.process value (stack_model stack.old))
+        (with_stack w turn.now.process (stack_model stack.new) (blocks_model heap.now.blocks.items)) }
     ensures same { OnErr result (stack_model stack.new ≡ stack_model stack.old) }
 {
     let Some(last) = stack.waiting.len().checked_sub(1) else {
-        if !heap.owns_none(process) {
+        if !heap.owns_none(turn.process) {
             return Err(Refusal::Fault(Fault::F7));
         }
         stack.top = None;
         return Ok(());
     };
     let caller = &mut stack.waiting[last];
-    let behind = behind_call(program, caller);
+    let behind = behind_call(turn.program, caller);
     give_back(&stack.top, value, behind.target, caller)?;
     caller.point = behind.next;
     stack.top = stack.waiting.pop();
@@ -86,21 +85,21 @@ pub(crate) fn end(
 
 /// A method ends.
 pub(crate) fn return_(
-    program: &Program,
+    turn: &Turn<'_>,
     stack: &mut Process,
     heap: &BlockHeap,
-    process: usize,
     value: Option<Mention>,
 ) -> Result<(), Refusal>
     requires top { IsSome stack.old.top }
     ensures tells { (bound : QueueBounds) (w : seen.World) (place : Place) (scope : Option VarId) →
         w.blocks ≡ blocks_model heap.now.blocks.items →
-        Tells result (on_stack (model_of program.now) bound w process (Return place value scope) 0 (stack_model stack.old))
-        (with_stack w process (stack_model stack.new) (blocks_model heap.now.blocks.items)) }
+        Tells result (on_stack (model_of turn.now.program.now) bound w turn.now.process (Return place value scope) 0
+        (stack_model stack.old))
+        (with_stack w turn.now.process (stack_model stack.new) (blocks_model heap.now.blocks.items)) }
     ensures same { OnErr result (stack_model stack.new ≡ stack_model stack.old) }
 {
-    if !can_give(stack, heap.blocks(), process, value) {
+    if !can_give(stack, heap.blocks(), turn.process, value) {
         return Err(Refusal::Fault(Fault::F3));
     }
-    end(program, stack, heap, process, value)
+    end(turn, stack, heap, value)
 }

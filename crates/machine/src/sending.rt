@@ -14,39 +14,36 @@ ghost use Rattle.machine.specs.World as seen;
 use crate::edges::way_out;
 use crate::halts::{Fault, Refusal};
 use crate::heaps::BlockHeap;
+use crate::instructing::Turn;
 use crate::payloads::{are_unsent, lets_payloads_go, payload_addresses};
 use crate::reading::own;
 use crate::worlds::Frame;
 use flow::Sending;
-use rules::Program;
-use std::alloc::Global;
 
 /// An endpoint sends a message, and what is given with it. Every test comes before the first growth of memory.
 pub(crate) fn send(
-    alloc: Global,
-    program: &Program,
+    turn: &Turn<'_>,
     frame: &mut Frame,
     heap: &mut BlockHeap,
-    process: usize,
     sending: &Sending,
 ) -> Result<(), Refusal>
-    ensures tells { (bound : QueueBounds) (w : seen.World) (rest : List seen.Frame) → AreBounds (model_of program.now) bound →
+    ensures tells { (bound : QueueBounds) (w : seen.World) (rest : List seen.Frame) → AreBounds (model_of turn.now.program.now) bound →
         w.blocks ≡ blocks_model heap.old.blocks.items →
-        Tells result (outcome_from (model_of program.now) bound w process (frame_model frame.old) rest
+        Tells result (outcome_from (model_of turn.now.program.now) bound w turn.now.process (frame_model frame.old) rest
         (instruction_model (Instr.Send sending.now)) 0)
-        (on_top w.processes process rest (frame_model frame.new) (blocks_model heap.new.blocks.items)) }
+        (on_top w.processes turn.now.process rest (frame_model frame.new) (blocks_model heap.new.blocks.items)) }
     ensures same { OnErr result (frame_model frame.new ≡ frame_model frame.old) }
     ensures same_blocks { OnErr result (blocks_model heap.new.blocks.items ≡ blocks_model heap.old.blocks.items) }
 {
-    let Some(at) = own(heap.blocks(), process, frame.has(sending.endpoint)) else {
+    let Some(at) = own(heap.blocks(), turn.process, frame.has(sending.endpoint)) else {
         return Err(Refusal::Fault(Fault::F1));
     };
-    if !are_unsent(frame, heap.blocks(), process, &sending.payloads) {
+    if !are_unsent(frame, heap.blocks(), turn.process, &sending.payloads) {
         return Err(Refusal::Fault(Fault::F3));
     }
-    let way = way_out(program, heap.blocks(), at, sending.message)?;
-    let payload = payload_addresses(alloc, frame, &sending.payloads)?;
-    if !heap.send(alloc, way, sending.message, &payload) {
+    let way = way_out(turn.program, heap.blocks(), at, sending.message)?;
+    let payload = payload_addresses(turn.alloc, frame, &sending.payloads)?;
+    if !heap.send(turn.alloc, way, sending.message, &payload) {
         return Err(Refusal::Memory);
     }
     lets_payloads_go(&mut frame.variables, &sending.payloads);

@@ -1,6 +1,6 @@
 //! Starts of processes.
 
-ghost use Rattle.std.specs.Prelude.{◌≡◌, ◌<◌, IsSome, OnErr, get_or, length};
+ghost use Rattle.std.specs.Prelude.{◌≡◌, ◌<◌, OnErr, length};
 ghost use Rattle.flow.specs.Graphs.{instruction_model};
 ghost use Rattle.flow.specs.declared.graph.Instr.{Instr};
 ghost use Rattle.rules.specs.Programs.{model_of};
@@ -8,17 +8,15 @@ ghost use Rattle.machine.specs.Answers.{Tells, on_stack, went_on};
 ghost use Rattle.machine.specs.Outcomes.{QueueBounds};
 ghost use Rattle.machine.specs.Views.{stack_model, world_model};
 ghost use Rattle.machine.specs.World.{stack_at};
-ghost use Rattle.machine.specs.declared.worlds.Process.{Process};
 
 use crate::calling::enter;
 use crate::giving::{addresses, first_fault};
 use crate::halts::Refusal;
+use crate::instructing::Turn;
 use crate::mentions::lets_go;
 use crate::worlds::{Process, World};
 use flow::Starting;
 use program::Argument;
-use rules::Program;
-use std::alloc::Global;
 
 /// The innermost frame lets go what is claimed of arguments, and goes on at a point.
 fn go_on(stack: &mut Process, arguments: &[Argument], next: usize)
@@ -31,44 +29,43 @@ fn go_on(stack: &mut Process, arguments: &[Argument], next: usize)
 }
 
 /// A method is started as a process of its own, which owns what is given.
-pub(crate) fn start(
-    alloc: Global,
-    program: &Program,
-    world: &mut World,
-    process: usize,
-    starting: &Starting,
-) -> Result<(), Refusal>
-    requires there { process < length world.old.processes.items }
-    requires top { (d : Process) → IsSome (get_or world.old.processes.items process d).top }
+pub(crate) fn start(turn: &Turn<'_>, world: &mut World, starting: &Starting) -> Result<(), Refusal>
+    requires there { turn.now.process < length world.old.processes.items }
     ensures tells { (bound : QueueBounds) →
-        Tells result (on_stack (model_of program.now) bound (world_model world.old) process (instruction_model (Instr.Start starting.now)) 0
-        (stack_at (world_model world.old).processes process))
+        Tells result (on_stack (model_of turn.now.program.now) bound (world_model world.old) turn.now.process
+        (instruction_model (Instr.Start starting.now)) 0 (stack_at (world_model world.old).processes turn.now.process))
         (world_model world.new) }
     ensures same { OnErr result (world_model world.new ≡ world_model world.old) }
 {
-    let Some(frame) = &world.processes[process].top else {
-        unreachable!()
+    let Some(frame) = &world.processes[turn.process].top else {
+        return Err(Refusal::Ended);
     };
     if let Some(fault) = first_fault(
-        alloc,
+        turn.alloc,
         frame,
         world.heap.blocks(),
-        process,
+        turn.process,
         &starting.arguments,
     ) {
         return Err(Refusal::Fault(fault));
     }
-    let owned = addresses(alloc, frame, &starting.arguments)?;
-    let begun = enter(alloc, program, frame, starting.method, &starting.arguments)?;
+    let owned = addresses(turn.alloc, frame, &starting.arguments)?;
+    let begun = enter(
+        turn.alloc,
+        turn.program,
+        frame,
+        starting.method,
+        &starting.arguments,
+    )?;
     let number = world.processes.len();
     world.heap.list(number)?;
     world.processes.push(Process {
         top: Some(begun),
-        waiting: Vec::new(alloc),
+        waiting: Vec::new(turn.alloc),
     })?;
     world.heap.hand_over(&owned, number);
     go_on(
-        &mut world.processes[process],
+        &mut world.processes[turn.process],
         &starting.arguments,
         starting.next,
     );

@@ -1,6 +1,6 @@
 //! One event of a world.
 
-ghost use Rattle.std.specs.Prelude.{◌≡◌, ◌<◌, ◌∷◌, [], IfNone, IfOk, IfSome, IsSome, OnErr, drop, get_or, length};
+ghost use Rattle.std.specs.Prelude.{◌≡◌, ◌<◌, ◌∷◌, [], IfNone, IfOk, IfSome, OnErr, drop, length};
 ghost use Rattle.rules.specs.Programs.{model_of};
 ghost use Rattle.machine.specs.Answers as answers;
 ghost use Rattle.machine.specs.Machine.{event_outcome};
@@ -9,12 +9,11 @@ ghost use Rattle.machine.specs.Places.{process_place};
 ghost use Rattle.machine.specs.Runs.{AreBounds, start_of};
 ghost use Rattle.machine.specs.Views.{frame_model, world_model};
 ghost use Rattle.machine.specs.World.{stack_at};
-ghost use Rattle.machine.specs.declared.worlds.Process.{Process};
 
 use crate::calling::enter;
 use crate::halts::{Event, Halt, Refusal};
 use crate::heaps::BlockHeap;
-use crate::instructing::{Chosen, choices};
+use crate::instructing::{Turn, choices};
 use crate::placing::place_of;
 use crate::standing::instruction_at;
 use crate::variables::Variables;
@@ -29,6 +28,7 @@ fn halt_of(refusal: Refusal, place: Place) -> Halt
     ensures { result ≡ answers.halt_of refusal place }
 {
     match refusal {
+        Refusal::Ended => Halt::NoSuchProcess,
         Refusal::Fault(fault) => Halt::Fault(fault, place),
         Refusal::Waits => Halt::Waits,
         Refusal::Memory => Halt::Memory,
@@ -39,7 +39,6 @@ impl World {
     /// The frame in which a process stands, if there is such a process and it has not ended.
     fn innermost(&self, process: usize) -> Option<&Frame>
         ensures there { IfSome result (λ f. process < length self.now.processes.items) }
-        ensures top { IfSome result (λ f. (d : Process) → IsSome (get_or self.now.processes.items process d).top) }
         ensures stands { IfSome result (λ f. stack_at (world_model self.now).processes process
             ≡ frame_model f.now ∷ drop 1 (stack_at (world_model self.now).processes process)) }
         ensures ended { IfNone result (stack_at (world_model self.now).processes process ≡ []) }
@@ -87,20 +86,22 @@ impl World {
             (process_place (model_of program.now) (world_model self.old) event.process) (world_model self.new) }
         ensures same { OnErr result (world_model self.new ≡ world_model self.old) }
     {
-        let chosen = Chosen {
+        let turn = Turn {
+            alloc,
+            program,
             process: event.process as usize,
-            choice: event.choice as usize,
         };
-        let Some(frame) = self.innermost(chosen.process) else {
+        let choice = event.choice as usize;
+        let Some(frame) = self.innermost(turn.process) else {
             return Err(Halt::NoSuchProcess);
         };
         let Some(instr) = instruction_at(program, frame) else {
             return Err(Halt::NoSuchChoice);
         };
-        if chosen.choice >= choices(instr) {
+        if choice >= choices(instr) {
             return Err(Halt::NoSuchChoice);
         }
-        match self.run(alloc, program, chosen, instr) {
+        match self.run(&turn, instr, choice) {
             Ok(()) => Ok(()),
             Err(refusal) => Err(halt_of(refusal, place_of(instr))),
         }

@@ -19,6 +19,7 @@ ghost use Rattle.machine.specs.declared.halts.Fault.TheVariants.{F1};
 use crate::edges::state_received;
 use crate::halts::{Fault, Refusal};
 use crate::heaps::BlockHeap;
+use crate::instructing::Turn;
 use crate::mentions::{bind, list_bound};
 use crate::reading::{front, is_freed, own, peer_of};
 use crate::worlds::{Block, Frame};
@@ -143,29 +144,28 @@ fn deliver(
 
 /// A switch receives at the endpoint of this number among those that it names.
 pub(crate) fn switch(
-    program: &Program,
+    turn: &Turn<'_>,
     frame: &mut Frame,
     heap: &mut BlockHeap,
-    process: usize,
     cases: &Cases,
     choice: usize,
 ) -> Result<(), Refusal>
     requires there { choice < length (first_mentions [] (cases_model cases.now)) }
     ensures tells { (bound : QueueBounds) (w : seen.World) (rest : List seen.Frame) (place : Place) →
         w.blocks ≡ blocks_model heap.old.blocks.items →
-        Tells result (outcome_from (model_of program.now) bound w process (frame_model frame.old) rest
+        Tells result (outcome_from (model_of turn.now.program.now) bound w turn.now.process (frame_model frame.old) rest
         (graphs.Switch place (cases_model cases.now)) choice)
-        (on_top w.processes process rest (frame_model frame.new) (blocks_model heap.new.blocks.items)) }
+        (on_top w.processes turn.now.process rest (frame_model frame.new) (blocks_model heap.new.blocks.items)) }
     ensures same { OnErr result (frame_model frame.new ≡ frame_model frame.old) }
     ensures same_blocks { OnErr result (blocks_model heap.new.blocks.items ≡ blocks_model heap.old.blocks.items) }
 {
     let endpoints = cases.endpoints();
-    are_own(frame, heap.blocks(), process, endpoints)?;
+    are_own(frame, heap.blocks(), turn.process, endpoints)?;
     let endpoint = endpoints[choice];
     let at = frame.address(endpoint);
     let listener = Listener {
         variable: endpoint.variable,
         at,
     };
-    deliver(program, frame, heap, process, cases, listener)
+    deliver(turn.program, frame, heap, turn.process, cases, listener)
 }

@@ -15,13 +15,13 @@ returns-clause-tells c = λ bound w rest is.
     let items = c.args.heap.now.blocks.items in
     let has = variables_model c.list.new.self.variables in
     let address = length c.blocks-address.result.now in
-    let made = new_block c.type_at-ty.result c.args.turn.process 0 0 [] in
-    ap Moved (world_with w.processes c.args.turn.process rest f (frame_model c.put.new.self) c.args.turn.next
-    c.args.target.variable.0 address w.blocks (blocks_model c.add_alone.new.self.blocks.items) [] [] [] has _ c.type_at-ty.result refl refl
+    let made = new_block c.type_at-ty.result c.args.turn.now.process 0 0 [] in
+    ap Moved (world_with w.processes c.args.turn.now.process rest f (frame_model c.put.new.self) c.args.next
+    c.args.at.variable.0 address w.blocks (blocks_model c.add_alone.new.self.blocks.items) [] [] [] has _ c.type_at-ty.result refl refl
     (ap length c.blocks-address.ensures ∙ (sym (seen_length items) ∙ ap length (sym is))) c.type_at-ty.ensures
     (ap (λ (x : Frame). x.variables) c.list.ensures.same)
-    (c.put.ensures.put ∙ ap (λ (x : Frame). with_variables x (set has c.args.target.variable.0 (Some address))) c.list.ensures.same)
-    (c.in_ok-add_alone.ensures.added ∙ (ap (λ (b : Block). blocks_model items ++ b ∷ []) c.new_block.ensures
+    (c.put.ensures.put ∙ ap (λ (x : Frame). with_variables x (set has c.args.at.variable.0 (Some address))) c.list.ensures.same)
+    (c.in_ok-add_alone.ensures.added ∙ (ap (λ (b : Block). blocks_model items ++ b ∷ []) c.new_block-made.ensures
     ∙ ap (λ (bs : List Block). bs ++ made ∷ []) (sym (handed_nothing (Inside (length w.blocks)) w.blocks ∙ is)))))
 
 pub put-requires : goal.put-requires

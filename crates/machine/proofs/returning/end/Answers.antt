@@ -25,6 +25,6 @@ returns-clause-tells c = λ bound w is.
     c.pop.ensures.value d (omega (arith, c.args.stack.now.waiting.ok))
     ∙ (ap (λ (k : ℕ). Some (get_or (set ws n d) k d)) size ∙ ap (λ (x : Frame). Some x) (get_or-set_same ws n d d (omega arith))) in
     let left : c.pop.new.self.items ≡ take n (set ws n d) = c.pop.ensures.rest ∙ ap (λ (k : ℕ). take k (set ws n d)) size in
-    goes_back (model_of c.args.program.now) bound w c.args.process c.args.value c.behind_call-behind.result.target c.args.stack.now.top c.pop.result ws c.pop.new.self.items n
+    goes_back (model_of c.args.turn.now.program.now) bound w c.args.turn.now.process c.args.value c.behind_call-behind.result.target c.args.stack.now.top c.pop.result ws c.pop.new.self.items n
     c.behind_call-behind.result.next c.index_mut-caller.result.now h d _ c.requires.top many c.index_mut-caller.ensures.value
     c.in_ok-give_back.ensures.given c.behind_call-behind.ensures.target c.behind_call-behind.ensures.next refl left now is

@@ -12,7 +12,7 @@ pub returns-then-not-send-clause-tells : goal.returns-then-not-send-clause-tells
 returns-then-not-send-clause-tells c = λ bound w rest are is.
     let sending = c.args.sending.now in (
       _,
-      send_moves (model_of c.args.program.now) bound w.blocks (blocks_model c.blocks-2.result.now) (blocks_model c.blocks-3.result.now) (blocks_model c.blocks-4.result.now) c.args.process (variables_model c.args.frame.now.variables)
+      send_moves (model_of c.args.turn.now.program.now) bound w.blocks (blocks_model c.blocks-2.result.now) (blocks_model c.blocks-3.result.now) (blocks_model c.blocks-4.result.now) c.args.turn.now.process (variables_model c.args.frame.now.variables)
           sending.endpoint.variable.0 c.has.result c.in-Some.at sending.message.0 sending.payloads.items c.deref.result.now _
           (is ∙ ap blocks_model (sym c.blocks-2.ensures)) (is ∙ ap blocks_model (sym c.blocks-3.ensures)) (is ∙ ap blocks_model (sym c.blocks-4.ensures)) c.deref.ensures.value
           c.has.ensures c.in-Some.ensures.some c.in-Some.ensures.own (c.are_unsent.ensures.pass c.if-not-are_unsent.false) (c.in_ok-way.ensures.pass bound are),
@@ -27,7 +27,7 @@ send-requires-clause-owned c =
     c.deref-3.ensures.value ∙ (c.in_ok-payload.ensures.value
     ∙ ap (λ l. addresses variables (payloads_claimed l)) (c.deref-2.ensures.value ∙ sym c.deref.ensures.value)) in
     subst (λ l. AreOwned (blocks_model l) c.deref-3.result.now) c.blocks-3.ensures
-    (subst (AreOwned blocks) (sym given) (pass_owned blocks c.args.process variables [] (payloads_claimed payloads) (c.are_unsent.ensures.pass c.if-not-are_unsent.false)))
+    (subst (AreOwned blocks) (sym given) (pass_owned blocks c.args.turn.now.process variables [] (payloads_claimed payloads) (c.are_unsent.ensures.pass c.if-not-are_unsent.false)))
 
 pub send-requires-clause-once : goal.send-requires-clause-once
 send-requires-clause-once c =
@@ -37,7 +37,7 @@ send-requires-clause-once c =
     let given : c.deref-3.result.now ≡ addresses variables (payloads_claimed payloads) =
     c.deref-3.ensures.value ∙ (c.in_ok-payload.ensures.value
     ∙ ap (λ l. addresses variables (payloads_claimed l)) (c.deref-2.ensures.value ∙ sym c.deref.ensures.value)) in
-    subst AreOnce (sym given) (pass_once blocks c.args.process variables payloads (c.are_unsent.ensures.pass c.if-not-are_unsent.false))
+    subst AreOnce (sym given) (pass_once blocks c.args.turn.now.process variables payloads (c.are_unsent.ensures.pass c.if-not-are_unsent.false))
 
 pub send-requires-clause-there : goal.send-requires-clause-there
 send-requires-clause-there c = λ here. subst (λ l. c.in_ok-way.way.peer < length (blocks_model l)) c.blocks-4.ensures (c.in_ok-way.ensures.there here)
