@@ -11,6 +11,7 @@ pub mod Reasons
 pub mod Repeats
 pub mod RuleTable
 pub mod Scopes
+pub mod Sites
 pub mod Steps
 pub mod Switches
 pub mod Takers

@@ -1,18 +1,15 @@
 //! The checks of calls and starts, and what their arguments leave behind.
 
 ghost use Rattle.std.specs.Prelude.{◌≡◌, ◌&&◌, [], ◌∷◌, IfSome};
-ghost use Rattle.program.specs.Methods.{method_model};
 ghost use Rattle.rules.specs.Arguments.{all_arguments, argument_checks, after_claims, given_leaf, target_checks};
-ghost use Rattle.rules.specs.Breaches.{breach_model};
-ghost use Rattle.rules.specs.Checks.{StandsFor, check_model};
 ghost use Rattle.rules.specs.Endpoints.{declared_leaf, is_wrong};
 ghost use Rattle.rules.specs.Mentions.{is_lent, name_of};
 ghost use Rattle.rules.specs.Outcomes.{refuse_if};
-ghost use Rattle.rules.specs.Programs.{model_of};
 ghost use Rattle.rules.specs.Repeats.{first_again};
 ghost use Rattle.rules.specs.Texts.{lent, wrong_for_call};
 ghost use Rattle.rows.specs.Leaves.{IsNumbered};
 ghost use Rattle.rows.specs.Rows.{leaf_at, row_model};
+ghost use Rattle.rules.specs.Sites.{Answers, AnswersAll, method_of, row_of};
 
 use crate::breach::{Breach, Reason};
 use crate::checks::{require_empty, require_none_again, require_not_lent, require_owned};
@@ -23,9 +20,9 @@ use rows::{Leaf, Row};
 
 /// That what is claimed of an argument is not lent.
 fn require_claimable(here: &Here<'_>, argument: Argument) -> Result<(), Breach>
-    ensures { check_model (breach_model (model_of here.now.program.now) (method_model here.now.method.now)) result ≡ refuse_if
-        (argument.claimed && is_lent (method_model here.now.method.now) argument.mention.variable.0)
-        (lent (name_of (method_model here.now.method.now) argument.mention.variable.0) argument.mention.place) }
+    ensures { Answers here.now result (refuse_if
+        (argument.claimed && is_lent (method_of here.now) argument.mention.variable.0)
+        (lent (name_of (method_of here.now) argument.mention.variable.0) argument.mention.place)) }
 {
     if !argument.claimed {
         return Ok(());
@@ -35,9 +32,9 @@ fn require_claimable(here: &Here<'_>, argument: Argument) -> Result<(), Breach>
 
 /// That what is given for a parameter of this type is in its state.
 fn require_state(here: &Here<'_>, ty: HeapType, mention: Mention) -> Result<(), Breach>
-    ensures { check_model (breach_model (model_of here.now.program.now) (method_model here.now.method.now)) result ≡ refuse_if
-        (is_wrong ty (leaf_at (row_model here.now.row.now) mention.variable.0))
-        (wrong_for_call (name_of (method_model here.now.method.now) mention.variable.0) mention.place) }
+    ensures { Answers here.now result (refuse_if
+        (is_wrong ty (leaf_at (row_of here.now) mention.variable.0))
+        (wrong_for_call (name_of (method_of here.now) mention.variable.0) mention.place)) }
 {
     if !is_wrong(ty, here.row.leaf(mention.variable)) {
         return Ok(());
@@ -47,8 +44,8 @@ fn require_state(here: &Here<'_>, ty: HeapType, mention: Mention) -> Result<(), 
 
 /// That what an argument gives is there, not lent where it is claimed, and in the state that the parameter asks.
 fn require_argument(here: &Here<'_>, ty: HeapType, argument: Argument) -> Result<(), Breach>
-    ensures { StandsFor (breach_model (model_of here.now.program.now) (method_model here.now.method.now)) result
-        (argument_checks (method_model here.now.method.now) (row_model here.now.row.now) ty argument) }
+    ensures { AnswersAll here.now result
+        (argument_checks (method_of here.now) (row_of here.now) ty argument) }
 {
     require_owned(here, argument.mention)?;
     require_claimable(here, argument)?;
@@ -63,8 +60,8 @@ pub(crate) fn require_arguments(
     arguments: &[Argument],
 ) -> Result<(), Breach>
     requires { again ≡ first_again [] arguments.now }
-    ensures { StandsFor (breach_model (model_of here.now.program.now) (method_model here.now.method.now)) result
-        (all_arguments (method_model here.now.method.now) (row_model here.now.row.now) types.now arguments.now) }
+    ensures { AnswersAll here.now result
+        (all_arguments (method_of here.now) (row_of here.now) types.now arguments.now) }
 {
     require_none_again(here, again)?;
     for number in 0..types.len().min(arguments.len()) {
@@ -75,8 +72,8 @@ pub(crate) fn require_arguments(
 
 /// That what takes a block, if something does, is not lent and has nothing.
 pub(crate) fn require_target(here: &Here<'_>, target: Option<Mention>) -> Result<(), Breach>
-    ensures { StandsFor (breach_model (model_of here.now.program.now) (method_model here.now.method.now)) result
-        (target_checks (method_model here.now.method.now) (row_model here.now.row.now) target) }
+    ensures { AnswersAll here.now result
+        (target_checks (method_of here.now) (row_of here.now) target) }
 {
     let Some(target) = target else {
         return Ok(());

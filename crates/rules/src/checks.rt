@@ -2,12 +2,9 @@
 
 ghost use Rattle.std.specs.Prelude.{◌≡◌};
 ghost use Rattle.program.specs.Methods.{method_model};
-ghost use Rattle.rules.specs.Breaches.{breach_model};
-ghost use Rattle.rules.specs.Checks.{check_model};
-ghost use Rattle.rules.specs.Programs.{model_of};
-ghost use Rattle.rows.specs.Rows.{row_model};
 ghost use Rattle.rules.specs.Mentions as table;
 ghost use Rattle.rules.specs.Repeats.{require_none_again};
+ghost use Rattle.rules.specs.Sites.{Answers, method_of, row_of};
 
 use crate::breach::{Breach, Reason};
 use crate::here::Here;
@@ -45,8 +42,8 @@ pub(crate) fn lends(method: &Method, variable: VarId) -> bool
 
 /// That the variable has something.
 pub(crate) fn require_owned(here: &Here<'_>, mention: Mention) -> Result<(), Breach>
-    ensures { check_model (breach_model (model_of here.now.program.now) (method_model here.now.method.now)) result
-        ≡ table.require_owned (method_model here.now.method.now) (row_model here.now.row.now) mention }
+    ensures { Answers here.now result
+        (table.require_owned (method_of here.now) (row_of here.now) mention) }
 {
     if here.row.owns(mention.variable) {
         return Ok(());
@@ -56,8 +53,8 @@ pub(crate) fn require_owned(here: &Here<'_>, mention: Mention) -> Result<(), Bre
 
 /// That the variable has nothing.
 pub(crate) fn require_empty(here: &Here<'_>, mention: Mention) -> Result<(), Breach>
-    ensures { check_model (breach_model (model_of here.now.program.now) (method_model here.now.method.now)) result
-        ≡ table.require_empty (method_model here.now.method.now) (row_model here.now.row.now) mention }
+    ensures { Answers here.now result
+        (table.require_empty (method_of here.now) (row_of here.now) mention) }
 {
     if !here.row.owns(mention.variable) {
         return Ok(());
@@ -67,10 +64,9 @@ pub(crate) fn require_empty(here: &Here<'_>, mention: Mention) -> Result<(), Bre
 
 /// That the variable is not lent.
 pub(crate) fn require_not_lent(here: &Here<'_>, mention: Mention) -> Result<(), Breach>
-    ensures { check_model (breach_model (model_of here.now.program.now) (method_model here.now.method.now)) result
-        ≡ table.require_not_lent (method_model here.now.method.now) mention }
+    ensures { Answers here.now result (table.require_not_lent (method_of here.now) mention) }
 {
-    if !lends(here.method, mention.variable) {
+    if !lends(here.site.method, mention.variable) {
         return Ok(());
     }
     Err(Breach::at(mention.place, Reason::Lent(mention.variable)))
@@ -78,8 +74,7 @@ pub(crate) fn require_not_lent(here: &Here<'_>, mention: Mention) -> Result<(), 
 
 /// That nothing is given a second time. This is the first mention that gives something again, if one does.
 pub(crate) fn require_none_again(here: &Here<'_>, again: Option<Mention>) -> Result<(), Breach>
-    ensures { check_model (breach_model (model_of here.now.program.now) (method_model here.now.method.now)) result
-        ≡ require_none_again (method_model here.now.method.now) again }
+    ensures { Answers here.now result (require_none_again (method_of here.now) again) }
 {
     match again {
         Some(again) => Err(Breach::at(again.place, Reason::Twice(again.variable))),
@@ -93,8 +88,7 @@ pub(crate) fn require_another(
     target: Mention,
     source: Mention,
 ) -> Result<(), Breach>
-    ensures { check_model (breach_model (model_of here.now.program.now) (method_model here.now.method.now)) result
-        ≡ table.require_another (method_model here.now.method.now) target source }
+    ensures { Answers here.now result (table.require_another (method_of here.now) target source) }
 {
     if target.variable.0 != source.variable.0 {
         return Ok(());

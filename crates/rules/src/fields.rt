@@ -4,17 +4,13 @@ ghost use Rattle.std.specs.Prelude.{◌≡◌, [], IfSome};
 ghost use Rattle.std.specs.Option.{option_map_or};
 ghost use Rattle.flow.specs.Graphs as graphs;
 ghost use Rattle.flow.specs.Graphs.{New};
-ghost use Rattle.program.specs.Methods.{method_model};
 ghost use Rattle.rules.specs.Arguments.{field_checks, payload};
-ghost use Rattle.rules.specs.Breaches.{breach_model};
-ghost use Rattle.rules.specs.Checks.{StandsFor};
 ghost use Rattle.rules.specs.Endpoints as table;
 ghost use Rattle.rows.specs.Leaves.{IsNumbered};
-ghost use Rattle.rules.specs.Onwards.{KeepsRow, onward_model, onward_of};
-ghost use Rattle.rules.specs.Programs.{model_of};
+ghost use Rattle.rules.specs.Onwards.{KeepsRow, onward_of};
 ghost use Rattle.rows.specs.Rows.{row_model};
-ghost use Rattle.rules.specs.RuleTable.{instruction_outcome};
 ghost use Rattle.rows.specs.declared.row.Leaf.TheVariants.{Nothing};
+ghost use Rattle.rules.specs.Sites.{AnswersAll, Follows, method_of, row_of};
 
 use crate::arguments::require_target;
 use crate::breach::Breach;
@@ -34,25 +30,14 @@ pub(crate) fn new(
     arguments: &[Mention],
     next: usize,
 ) -> Result<Onward, Breach>
-    ensures outcome { onward_model (breach_model (model_of site.now.program.now) (method_model site.now.method.now)) (onward_of result)
-        (row_model row.new)
-        ≡ instruction_outcome (model_of site.now.program.now) (method_model site.now.method.now) (New target arguments.now next)
-        (row_model row.old) }
+    ensures outcome { Follows site.now (New target arguments.now next) row.old row.new result }
     ensures kept { KeepsRow (onward_of result) (row_model row.old) (row_model row.new) }
 {
-    let here = Here {
-        program: site.program,
-        method: site.method,
-        row,
-    };
+    let here = Here { site: *site, row };
     let types = site.program.fields_of(site.method, target.variable);
     require_payloads(&here, Taker::Field, types, arguments)?;
     claim_payloads(row, arguments);
-    let behind = Here {
-        program: site.program,
-        method: site.method,
-        row,
-    };
+    let behind = Here { site: *site, row };
     require_target(&behind, Some(target))?;
     row.set(target.variable, Leaf::Block);
     Ok(Onward::Changed(next))
@@ -60,9 +45,9 @@ pub(crate) fn new(
 
 /// That what is given for a field, if there is such a field, is not lent, there, and in the state that the field asks.
 fn require_field(here: &Here<'_>, field: Option<HeapType>, given: Mention) -> Result<(), Breach>
-    ensures { StandsFor (breach_model (model_of here.now.program.now) (method_model here.now.method.now)) result
-        (option_map_or (λ ty. field_checks (method_model here.now.method.now) (row_model here.now.row.now) ty (payload given))
-        field []) }
+    ensures { AnswersAll here.now result
+        (option_map_or
+        (λ ty. field_checks (method_of here.now) (row_of here.now) ty (payload given)) field []) }
 {
     match field {
         Some(ty) => require_payload(here, Taker::Field, ty, given),
@@ -89,17 +74,10 @@ pub(crate) fn exchange(
     exchange: Exchange,
     next: usize,
 ) -> Result<Onward, Breach>
-    ensures outcome { onward_model (breach_model (model_of site.now.program.now) (method_model site.now.method.now)) (onward_of result)
-        (row_model row.new)
-        ≡ instruction_outcome (model_of site.now.program.now) (method_model site.now.method.now) (graphs.Exchange exchange next)
-        (row_model row.old) }
+    ensures outcome { Follows site.now (graphs.Exchange exchange next) row.old row.new result }
     ensures kept { KeepsRow (onward_of result) (row_model row.old) (row_model row.new) }
 {
-    let here = Here {
-        program: site.program,
-        method: site.method,
-        row,
-    };
+    let here = Here { site: *site, row };
     require_another(&here, exchange.holder, exchange.given)?;
     require_owned(&here, exchange.holder)?;
     let field = site

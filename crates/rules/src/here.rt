@@ -14,10 +14,9 @@ pub(crate) struct Site<'a> {
     pub(crate) repeats: &'a Repeats,
 }
 
-/// Where a step is taken: the program, the method and what its variables have.
+/// Where a step is taken, and what the variables of the method have there.
 #[derive(Clone, Copy)]
 pub(crate) struct Here<'a> {
-    pub(crate) program: &'a Program,
-    pub(crate) method: &'a Method,
+    pub(crate) site: Site<'a>,
     pub(crate) row: &'a Row,
 }

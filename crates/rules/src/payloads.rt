@@ -1,22 +1,21 @@
 //! The checks of what goes into a message or into the fields of a block, and what that leaves behind. It is little, so each is compared
 //! with those before it.
 
-ghost use Rattle.std.specs.Prelude.{◌≡◌, ◌==◌, ◌||◌, ℕ, map};
+ghost use Rattle.std.specs.Prelude.{◌≡◌, ◌==◌, ◌||◌, map};
 ghost use Rattle.std.specs.List.{list_any};
 ghost use Rattle.program.specs.Lists.{is_among};
-ghost use Rattle.program.specs.Methods.{MethodModel, method_model};
+ghost use Rattle.program.specs.Methods.{MethodModel};
 ghost use Rattle.program.specs.Programs.{ProgramModel};
 ghost use Rattle.source.specs.declared.place.Place.{Place};
 ghost use Rattle.rules.specs.Arguments.{all_taken, after_claims, payload, taken_checks};
 ghost use Rattle.rules.specs.Breaches.{breach_model};
-ghost use Rattle.rules.specs.Checks.{StandsFor, check_model};
 ghost use Rattle.rules.specs.Endpoints.{is_wrong};
 ghost use Rattle.rules.specs.Mentions.{name_of};
 ghost use Rattle.rules.specs.Outcomes.{refuse_if};
-ghost use Rattle.rules.specs.Programs.{model_of};
 ghost use Rattle.rules.specs.Repeats.{first_again};
 ghost use Rattle.rows.specs.Rows.{leaf_at, row_model};
 ghost use Rattle.rules.specs.Takers.{besides, wrong_in};
+ghost use Rattle.rules.specs.Sites.{Answers, AnswersAll, method_of, program_of, row_of};
 
 use crate::breach::{Breach, Reason};
 use crate::checks::{require_none_again, require_not_lent, require_owned};
@@ -50,8 +49,9 @@ impl Taker {
 
     /// What is found where this variable goes there in a wrong state.
     fn wrong_state(self, variable: VarId) -> Reason
-        ensures { (p : ProgramModel) (m : MethodModel) (place : Place) →
-            breach_model p m (record { place = place; reason = result }) ≡ wrong_in p m self (name_of m variable.0) place }
+        ensures { (p : ProgramModel) (m : MethodModel) (place : Place)
+            → breach_model p m (record { place = place; reason = result })
+            ≡ wrong_in p m self (name_of m variable.0) place }
     {
         match self {
             Taker::Message { endpoint, message } => {
@@ -76,7 +76,8 @@ fn is_among(payloads: &[Mention], variable: VarId) -> bool
 
 /// Whether a variable cannot go there, or is one of these payloads.
 fn is_taken(taker: Taker, payloads: &[Mention], variable: VarId) -> bool
-    ensures { result ≡ (is_among (besides taker) variable.0 || list_any (λ x. x.variable.0 == variable.0) payloads.now) }
+    ensures { result ≡ (is_among (besides taker) variable.0
+        || list_any (λ x. x.variable.0 == variable.0) payloads.now) }
 {
     taker.is_besides(variable) || is_among(payloads, variable)
 }
@@ -100,10 +101,10 @@ fn require_state(
     ty: HeapType,
     mention: Mention,
 ) -> Result<(), Breach>
-    ensures { check_model (breach_model (model_of here.now.program.now) (method_model here.now.method.now)) result ≡ refuse_if
-        (is_wrong ty (leaf_at (row_model here.now.row.now) mention.variable.0))
-        (wrong_in (model_of here.now.program.now) (method_model here.now.method.now) taker
-        (name_of (method_model here.now.method.now) mention.variable.0) mention.place) }
+    ensures { Answers here.now result (refuse_if
+        (is_wrong ty (leaf_at (row_of here.now) mention.variable.0))
+        (wrong_in (program_of here.now) (method_of here.now) taker
+        (name_of (method_of here.now) mention.variable.0) mention.place)) }
 {
     if !is_wrong(ty, here.row.leaf(mention.variable)) {
         return Ok(());
@@ -119,9 +120,9 @@ pub(crate) fn require_payload(
     ty: HeapType,
     mention: Mention,
 ) -> Result<(), Breach>
-    ensures { StandsFor (breach_model (model_of here.now.program.now) (method_model here.now.method.now)) result
-        (taken_checks (method_model here.now.method.now) (row_model here.now.row.now)
-        (wrong_in (model_of here.now.program.now) (method_model here.now.method.now) taker) ty (payload mention)) }
+    ensures { AnswersAll here.now result
+        (taken_checks (method_of here.now) (row_of here.now)
+        (wrong_in (program_of here.now) (method_of here.now) taker) ty (payload mention)) }
 {
     require_not_lent(here, mention)?;
     require_owned(here, mention)?;
@@ -135,9 +136,10 @@ pub(crate) fn require_payloads(
     types: &[HeapType],
     payloads: &[Mention],
 ) -> Result<(), Breach>
-    ensures { StandsFor (breach_model (model_of here.now.program.now) (method_model here.now.method.now)) result
-        (all_taken (method_model here.now.method.now) (besides taker) (row_model here.now.row.now)
-        (wrong_in (model_of here.now.program.now) (method_model here.now.method.now) taker) types.now (map payload payloads.now)) }
+    ensures { AnswersAll here.now result
+        (all_taken (method_of here.now) (besides taker) (row_of here.now)
+        (wrong_in (program_of here.now) (method_of here.now) taker) types.now
+        (map payload payloads.now)) }
 {
     let again = first_again(taker, payloads);
     require_none_again(here, again)?;

@@ -4,17 +4,14 @@ ghost use Rattle.std.specs.Prelude.{◌≡◌, ◌&&◌, false};
 ghost use Rattle.std.specs.Option.{option_map_or};
 ghost use Rattle.flow.specs.Graphs as graphs;
 ghost use Rattle.program.specs.Methods.{method_model};
-ghost use Rattle.rules.specs.Breaches.{breach_model};
-ghost use Rattle.rules.specs.Checks.{StandsFor, check_model};
 ghost use Rattle.rules.specs.Endpoints as endpoints;
 ghost use Rattle.rules.specs.Mentions as mentions;
-ghost use Rattle.rules.specs.Onwards.{onward_model, onward_of};
 ghost use Rattle.rules.specs.Outcomes.{refuse_if};
 ghost use Rattle.rules.specs.Texts.{wrong_for_result};
-ghost use Rattle.rules.specs.Programs.{model_of};
-ghost use Rattle.rows.specs.Rows.{leaf_at, row_model};
+ghost use Rattle.rows.specs.Rows.{leaf_at};
 ghost use Rattle.rules.specs.RuleTable as table;
-ghost use Rattle.rules.specs.RuleTable.{back_checks, instruction_outcome, value_checks};
+ghost use Rattle.rules.specs.RuleTable.{back_checks, value_checks};
+ghost use Rattle.rules.specs.Sites.{Answers, AnswersAll, FollowsHere, method_of, program_of, row_of};
 
 use crate::breach::{Breach, Reason};
 use crate::checks::{is_lent_role, require_not_lent, require_owned};
@@ -30,10 +27,8 @@ use source::Place;
 /// The method ends. What it gives is its own and in the state of the result, of the other variables in scope those that are not lent
 /// have nothing, and each endpoint that is lent is back in its state.
 pub(crate) fn return_(here: &Here<'_>, returning: Returning) -> Result<Onward, Breach>
-    ensures { onward_model (breach_model (model_of here.now.program.now) (method_model here.now.method.now)) (onward_of result)
-        (row_model here.now.row.now)
-        ≡ instruction_outcome (model_of here.now.program.now) (method_model here.now.method.now)
-        (graphs.Return returning.place returning.value returning.scope) (row_model here.now.row.now) }
+    ensures { FollowsHere here.now
+        (graphs.Return returning.place returning.value returning.scope) result }
 {
     let Returning {
         place,
@@ -48,12 +43,12 @@ pub(crate) fn return_(here: &Here<'_>, returning: Returning) -> Result<Onward, B
 
 /// That what a method gives is in the state of its result.
 fn require_state(here: &Here<'_>, value: Mention) -> Result<(), Breach>
-    ensures { check_model (breach_model (model_of here.now.program.now) (method_model here.now.method.now)) result ≡ refuse_if
-        (option_map_or (λ ty. endpoints.is_wrong ty (leaf_at (row_model here.now.row.now) value.variable.0))
-        (method_model here.now.method.now).result false)
-        (wrong_for_result (mentions.name_of (method_model here.now.method.now) value.variable.0) value.place) }
+    ensures { Answers here.now result (refuse_if
+        (option_map_or (λ ty. endpoints.is_wrong ty (leaf_at (row_of here.now) value.variable.0))
+        (method_of here.now).result false)
+        (wrong_for_result (mentions.name_of (method_of here.now) value.variable.0) value.place)) }
 {
-    let Some(ty) = here.method.result else {
+    let Some(ty) = here.site.method.result else {
         return Ok(());
     };
     if !is_wrong(ty, here.row.leaf(value.variable)) {
@@ -64,8 +59,8 @@ fn require_state(here: &Here<'_>, value: Mention) -> Result<(), Breach>
 
 /// That what a method gives, if it is of the exchange heap, is not lent, there, and in the state of the result.
 fn require_value(here: &Here<'_>, value: Option<Mention>) -> Result<(), Breach>
-    ensures { StandsFor (breach_model (model_of here.now.program.now) (method_model here.now.method.now)) result
-        (value_checks (model_of here.now.program.now) (method_model here.now.method.now) (row_model here.now.row.now) value) }
+    ensures { AnswersAll here.now result
+        (value_checks (program_of here.now) (method_of here.now) (row_of here.now) value) }
 {
     let Some(value) = value else {
         return Ok(());
@@ -78,11 +73,11 @@ fn require_value(here: &Here<'_>, value: Option<Mention>) -> Result<(), Breach>
 /// Whether an endpoint was lent, and is neither cut off nor in its declared state. The variable is looked up only where it has an
 /// endpoint in some state.
 fn is_not_back(here: &Here<'_>, variable: VarId) -> bool
-    ensures { result ≡ table.is_not_back (model_of here.now.program.now) (method_model here.now.method.now) (row_model here.now.row.now)
-        variable.0 }
+    ensures { result
+        ≡ table.is_not_back (program_of here.now) (method_of here.now) (row_of here.now) variable.0 }
 {
     match here.row.leaf(variable) {
-        Leaf::State(state) => is_lent_elsewhere(here.method, variable, state),
+        Leaf::State(state) => is_lent_elsewhere(here.site.method, variable, state),
         Leaf::Nothing | Leaf::Block | Leaf::CutOff => false,
     }
 }
@@ -90,8 +85,8 @@ fn is_not_back(here: &Here<'_>, variable: VarId) -> bool
 /// Whether a variable is a lent endpoint whose declared state is another than this.
 fn is_lent_elsewhere(method: &Method, variable: VarId, state: u32) -> bool
     ensures { result ≡ (mentions.is_lent (method_model method.now) variable.0
-        && option_map_or (λ ty. endpoints.is_wrong ty (Leaf.State state)) (endpoints.type_of (method_model method.now) variable.0)
-        false) }
+        && option_map_or (λ ty. endpoints.is_wrong ty (Leaf.State state))
+        (endpoints.type_of (method_model method.now) variable.0) false) }
 {
     match method.variables.get(variable.0) {
         Some(found) => is_lent_role(found.role) && is_wrong(found.ty, Leaf::State(state)),
@@ -101,10 +96,10 @@ fn is_lent_elsewhere(method: &Method, variable: VarId, state: u32) -> bool
 
 /// That each endpoint which was lent is cut off, or back in its state.
 fn require_back(here: &Here<'_>, place: Place) -> Result<(), Breach>
-    ensures { StandsFor (breach_model (model_of here.now.program.now) (method_model here.now.method.now)) result
-        (back_checks (model_of here.now.program.now) (method_model here.now.method.now) (row_model here.now.row.now) place) }
+    ensures { AnswersAll here.now result
+        (back_checks (program_of here.now) (method_of here.now) (row_of here.now) place) }
 {
-    for variable in 0..here.method.variables.len() {
+    for variable in 0..here.site.method.variables.len() {
         if is_not_back(here, VarId(variable)) {
             return Err(Breach::at(place, Reason::NotBack(VarId(variable))));
         }

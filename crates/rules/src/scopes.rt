@@ -3,14 +3,12 @@
 ghost use Rattle.std.specs.Prelude.{◌≡◌, ◌<◌, ℕ, IfSome, None, false, option_map, true};
 ghost use Rattle.program.specs.Methods.{method_model};
 ghost use Rattle.program.specs.Scopes.{outer_of};
-ghost use Rattle.rules.specs.Breaches.{breach_model};
 ghost use Rattle.rules.specs.Checks as checks;
-ghost use Rattle.rules.specs.Checks.{AllLeadTo, IsFirstKept, IsPlain, LeadsTo, StandsFor};
+ghost use Rattle.rules.specs.Checks.{AllLeadTo, IsFirstKept, IsPlain, LeadsTo};
 ghost use Rattle.rules.specs.Mentions as table;
 ghost use Rattle.rules.specs.Mentions.{given_back};
-ghost use Rattle.rules.specs.Programs.{model_of};
-ghost use Rattle.rows.specs.Rows.{row_model};
 ghost use Rattle.rules.specs.Scopes.{declared_between, is_this};
+ghost use Rattle.rules.specs.Sites.{AnswersAll, method_of, row_of};
 
 use crate::breach::{Breach, Reason};
 use crate::checks::lends;
@@ -30,9 +28,9 @@ fn is_named(mention: Option<Mention>, variable: VarId) -> bool
 
 /// Whether a variable still has something that is not lent, but for the one that is given.
 fn is_kept(here: &Here<'_>, given: Option<Mention>, variable: VarId) -> bool
-    ensures { result ≡ table.is_kept (method_model here.now.method.now) (row_model here.now.row.now) given variable.0 }
+    ensures { result ≡ table.is_kept (method_of here.now) (row_of here.now) given variable.0 }
 {
-    !is_named(given, variable) && !lends(here.method, variable) && here.row.owns(variable)
+    !is_named(given, variable) && !lends(here.site.method, variable) && here.row.owns(variable)
 }
 
 /// The variable of the exchange heap before this one in scope.
@@ -60,7 +58,7 @@ fn kept_or(
     before: Option<VarId>,
 ) -> Option<VarId>
     ensures { option_map (λ v. v.0) result
-        ≡ checks.kept_or (checks.if_kept (method_model here.now.method.now) (row_model here.now.row.now) given variable.0)
+        ≡ checks.kept_or (checks.if_kept (method_of here.now) (row_of here.now) given variable.0)
         (option_map (λ v. v.0) before) }
 {
     if is_kept(here, given, variable) {
@@ -74,8 +72,9 @@ fn kept_or(
 /// It goes over the row, which is short, and looks up only the variables that have something.
 fn first_of_all(here: &Here<'_>, given: Option<Mention>) -> Option<VarId>
     ensures none { result ≡ None
-        → (v : ℕ) → table.is_kept (method_model here.now.method.now) (row_model here.now.row.now) given v ≡ false }
-    ensures some { IfSome result (λ first. IsFirstKept (method_model here.now.method.now) (row_model here.now.row.now) given first.0) }
+        → (v : ℕ) → table.is_kept (method_of here.now) (row_of here.now) given v ≡ false }
+    ensures some { IfSome result
+        (λ first. IsFirstKept (method_of here.now) (row_of here.now) given first.0) }
 {
     for (number, leaf) in here.row.leaves().iter().enumerate() {
         if leaf.is_something() && is_kept(here, given, VarId(number)) {
@@ -87,7 +86,8 @@ fn first_of_all(here: &Here<'_>, given: Option<Mention>) -> Option<VarId>
 
 /// Whether the variable before this one in scope was declared before it, and not before the first one if this was declared behind that.
 fn leads_to(method: &Method, first: VarId, variable: VarId) -> bool
-    ensures { result ≡ true → LeadsTo first.0 variable.0 (outer_of (method_model method.now).variables variable) }
+    ensures { result ≡ true → LeadsTo first.0 variable.0
+        (outer_of (method_model method.now).variables variable) }
 {
     match outer_of(method, variable) {
         Some(outer) => outer.0 < variable.0 && (variable.0 <= first.0 || first.0 <= outer.0),
@@ -140,13 +140,13 @@ fn first_kept(
     last: Option<VarId>,
 ) -> Option<VarId>
     ensures { option_map (λ v. v.0) result
-        ≡ checks.first_kept (method_model here.now.method.now) (row_model here.now.row.now) given
-        (declared_between (method_model here.now.method.now) outer last) }
+        ≡ checks.first_kept (method_of here.now) (row_of here.now) given
+        (declared_between (method_of here.now) outer last) }
 {
     let Some(first) = first_of_all(here, given) else {
         return None;
     };
-    if is_in_scope(here.method, first, outer, last) {
+    if is_in_scope(here.site.method, first, outer, last) {
         return Some(first);
     }
     first_outwards(here, given, outer, last)
@@ -160,12 +160,12 @@ fn first_outwards(
     last: Option<VarId>,
 ) -> Option<VarId>
     ensures { option_map (λ v. v.0) result
-        ≡ checks.first_kept (method_model here.now.method.now) (row_model here.now.row.now) given
-        (declared_between (method_model here.now.method.now) outer last) }
+        ≡ checks.first_kept (method_of here.now) (row_of here.now) given
+        (declared_between (method_of here.now) outer last) }
 {
     let mut first = None;
     let mut at = last;
-    for _ in 0..here.method.variables.len() {
+    for _ in 0..here.site.method.variables.len() {
         let Some(variable) = at else {
             return first;
         };
@@ -173,7 +173,7 @@ fn first_outwards(
             return first;
         }
         first = kept_or(here, given, variable, first);
-        at = outer_of(here.method, variable);
+        at = outer_of(here.site.method, variable);
     }
     first
 }
@@ -187,9 +187,9 @@ pub(crate) fn require_given_back(
     outer: Option<VarId>,
     last: Option<VarId>,
 ) -> Result<(), Breach>
-    ensures { StandsFor (breach_model (model_of here.now.program.now) (method_model here.now.method.now)) result
-        (given_back (method_model here.now.method.now) (row_model here.now.row.now) place given
-        (declared_between (method_model here.now.method.now) outer last)) }
+    ensures { AnswersAll here.now result
+        (given_back (method_of here.now) (row_of here.now) place given
+        (declared_between (method_of here.now) outer last)) }
 {
     match first_kept(here, given, outer, last) {
         Some(variable) => Err(Breach::at(place, Reason::StillOwned(variable))),

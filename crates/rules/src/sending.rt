@@ -3,15 +3,12 @@
 ghost use Rattle.std.specs.Prelude.{◌≡◌, IfSome, MatchOption, true, false};
 ghost use Rattle.flow.specs.Graphs.{instruction_model};
 ghost use Rattle.flow.specs.declared.graph.Instr.{Instr};
-ghost use Rattle.program.specs.Methods.{method_model};
 ghost use Rattle.rules.specs.Arguments as table;
-ghost use Rattle.rules.specs.Arguments.{lacks_edge};
-ghost use Rattle.rules.specs.Breaches.{breach_model};
 ghost use Rattle.rows.specs.Leaves.{IsNumbered};
-ghost use Rattle.rules.specs.Onwards.{KeepsRow, onward_model, onward_of};
+ghost use Rattle.rules.specs.Onwards.{KeepsRow, onward_of};
 ghost use Rattle.rules.specs.Programs.{model_of};
 ghost use Rattle.rows.specs.Rows.{row_model};
-ghost use Rattle.rules.specs.RuleTable.{instruction_outcome};
+ghost use Rattle.rules.specs.Sites.{Follows};
 
 use crate::breach::{Breach, Reason};
 use crate::checks::require_owned;
@@ -26,18 +23,11 @@ use rows::{Leaf, Row};
 
 /// A message is sent. What it takes with it is gone, and its endpoint is in the next state, or still cut off.
 pub(crate) fn send(site: &Site<'_>, row: &mut Row, sending: &Sending) -> Result<Onward, Breach>
-    ensures outcome { onward_model (breach_model (model_of site.now.program.now) (method_model site.now.method.now)) (onward_of result)
-        (row_model row.new)
-        ≡ instruction_outcome (model_of site.now.program.now) (method_model site.now.method.now)
-        (instruction_model (Instr.Send sending.now))
-        (row_model row.old) }
+    ensures outcome { Follows site.now (instruction_model (Instr.Send sending.now)) row.old row.new
+        result }
     ensures kept { KeepsRow (onward_of result) (row_model row.old) (row_model row.new) }
 {
-    let here = Here {
-        program: site.program,
-        method: site.method,
-        row,
-    };
+    let here = Here { site: *site, row };
     let (endpoint, message) = (sending.endpoint, sending.message);
     require_owned(&here, endpoint)?;
     let payloads = sending.payloads.as_slice();

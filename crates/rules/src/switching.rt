@@ -1,24 +1,19 @@
 //! The rule table's line of a switch.
 
-ghost use Rattle.std.specs.Prelude.{◌≡◌, [], ◌++◌, ◌<◌, All, IfOk, OnOk, flat_map, map};
+ghost use Rattle.std.specs.Prelude.{◌≡◌, [], ◌++◌, ◌<◌, All, IfOk, Ok, OnOk, flat_map, map};
 ghost use Rattle.std.specs.List.{list_all};
 ghost use Rattle.flow.specs.Cases.{first_mentions};
 ghost use Rattle.flow.specs.Graphs as graphs;
 ghost use Rattle.flow.specs.Graphs.{cases_model};
-ghost use Rattle.program.specs.Methods.{method_model};
 ghost use Rattle.program.specs.declared.limits.TheConstants.{MOST_STATES};
-ghost use Rattle.rules.specs.Breaches.{breach_model};
-ghost use Rattle.rules.specs.Checks.{StandsFor};
 ghost use Rattle.rules.specs.Endpoints.{declared_leaf};
 ghost use Rattle.rows.specs.Leaves.{IsNumbered};
 ghost use Rattle.rules.specs.Mentions.{require_owned};
-ghost use Rattle.rules.specs.Onwards.{onward_model};
-ghost use Rattle.rules.specs.Programs.{model_of};
 ghost use Rattle.rows.specs.Rows.{row_model};
-ghost use Rattle.rules.specs.RuleTable.{instruction_outcome};
 ghost use Rattle.rules.specs.Steps.{pair_model};
 ghost use Rattle.rules.specs.Switches as table;
 ghost use Rattle.rules.specs.Switches.{bound_leaves};
+ghost use Rattle.rules.specs.Sites.{AnswersAll, FollowsHere, method_of, program_of, row_of};
 
 use crate::breach::{Breach, Reason};
 use crate::checks::require_owned;
@@ -39,10 +34,8 @@ pub(crate) fn switch(
     cases: &Cases,
     spare: &mut Spare,
 ) -> Result<Onward, Memory>
-    ensures { IfOk result (λ o. onward_model (breach_model (model_of here.now.program.now) (method_model here.now.method.now))
-        o (row_model here.now.row.now)
-        ≡ instruction_outcome (model_of here.now.program.now) (method_model here.now.method.now)
-        (graphs.Switch place (cases_model cases.now)) (row_model here.now.row.now)) }
+    ensures { IfOk result
+        (λ o. FollowsHere here.now (graphs.Switch place (cases_model cases.now)) (Ok o)) }
 {
     match require_cases(here, place, cases) {
         Ok(()) => Ok(Onward::Ways(ways(here, cases, spare)?)),
@@ -52,8 +45,8 @@ pub(crate) fn switch(
 
 /// That each endpoint is there, that they are not all to send, and that each message which may come has a case.
 fn require_cases(here: &Here<'_>, place: Place, cases: &Cases) -> Result<(), Breach>
-    ensures { StandsFor (breach_model (model_of here.now.program.now) (method_model here.now.method.now)) result
-        (table.switch_checks (model_of here.now.program.now) (method_model here.now.method.now) (row_model here.now.row.now) place
+    ensures { AnswersAll here.now result
+        (table.switch_checks (program_of here.now) (method_of here.now) (row_of here.now) place
         (cases_model cases.now)) }
 {
     require_all_owned(here, cases.endpoints())?;
@@ -65,8 +58,8 @@ fn require_cases(here: &Here<'_>, place: Place, cases: &Cases) -> Result<(), Bre
 
 /// That each endpoint has something.
 fn require_all_owned(here: &Here<'_>, endpoints: &[Mention]) -> Result<(), Breach>
-    ensures { StandsFor (breach_model (model_of here.now.program.now) (method_model here.now.method.now)) result
-        (map (require_owned (method_model here.now.method.now) (row_model here.now.row.now)) endpoints.now) }
+    ensures { AnswersAll here.now result
+        (map (require_owned (method_of here.now) (row_of here.now)) endpoints.now) }
 {
     for endpoint in endpoints {
         require_owned(here, *endpoint)?;
@@ -76,13 +69,13 @@ fn require_all_owned(here: &Here<'_>, endpoints: &[Mention]) -> Result<(), Breac
 
 /// Whether an endpoint is in a state in which it sends.
 fn is_to_send(here: &Here<'_>, endpoint: Mention) -> bool
-    ensures { result ≡ table.is_to_send (model_of here.now.program.now) (method_model here.now.method.now) (row_model here.now.row.now)
+    ensures { result ≡ table.is_to_send (program_of here.now) (method_of here.now) (row_of here.now)
         endpoint }
 {
     match here.row.leaf(endpoint.variable) {
         Leaf::State(state) => {
-            let ty = type_of(here.method, endpoint.variable);
-            here.program.sends(ty, state)
+            let ty = type_of(here.site.method, endpoint.variable);
+            here.site.program.sends(ty, state)
         }
         Leaf::Nothing | Leaf::Block | Leaf::CutOff => false,
     }
@@ -91,21 +84,21 @@ fn is_to_send(here: &Here<'_>, endpoint: Mention) -> bool
 /// Whether all endpoints are to send.
 fn are_to_send(here: &Here<'_>, endpoints: &[Mention]) -> bool
     ensures { result ≡ list_all
-        (table.is_to_send (model_of here.now.program.now) (method_model here.now.method.now) (row_model here.now.row.now)) endpoints.now }
+        (table.is_to_send (program_of here.now) (method_of here.now) (row_of here.now)) endpoints.now }
 {
     endpoints.iter().all(|endpoint| is_to_send(here, *endpoint))
 }
 
 /// The edges on which an endpoint may receive in its state, in order of the contract.
 fn awaited_edges<'a>(here: &Here<'a>, endpoint: Mention) -> &'a [Edge]
-    ensures edges { result.now
-        ≡ table.awaited_edges (model_of here.now.program.now) (method_model here.now.method.now) (row_model here.now.row.now) endpoint }
+    ensures edges { result.now ≡ table.awaited_edges (program_of here.now) (method_of here.now)
+        (row_of here.now) endpoint }
     ensures numbered { All (λ e. e.to.0 < MOST_STATES) result.now }
 {
     match here.row.leaf(endpoint.variable) {
         Leaf::State(state) => {
-            let ty = type_of(here.method, endpoint.variable);
-            here.program.edges_in(ty, state)
+            let ty = type_of(here.site.method, endpoint.variable);
+            here.site.program.edges_in(ty, state)
         }
         Leaf::Nothing | Leaf::Block | Leaf::CutOff => &[],
     }
@@ -113,8 +106,8 @@ fn awaited_edges<'a>(here: &Here<'a>, endpoint: Mention) -> &'a [Edge]
 
 /// That each message which may come at an endpoint has a case.
 fn require_covered(here: &Here<'_>, cases: &Cases, endpoint: Mention) -> Result<(), Breach>
-    ensures { StandsFor (breach_model (model_of here.now.program.now) (method_model here.now.method.now)) result
-        (table.cover_checks (model_of here.now.program.now) (method_model here.now.method.now) (row_model here.now.row.now)
+    ensures { AnswersAll here.now result
+        (table.cover_checks (program_of here.now) (method_of here.now) (row_of here.now)
         (cases_model cases.now)
         endpoint) }
 {
@@ -131,8 +124,8 @@ fn require_covered(here: &Here<'_>, cases: &Cases, endpoint: Mention) -> Result<
 
 /// That each message which may come at one of the endpoints has a case.
 fn require_all_covered(here: &Here<'_>, cases: &Cases) -> Result<(), Breach>
-    ensures { StandsFor (breach_model (model_of here.now.program.now) (method_model here.now.method.now)) result
-        (flat_map (table.cover_checks (model_of here.now.program.now) (method_model here.now.method.now) (row_model here.now.row.now)
+    ensures { AnswersAll here.now result
+        (flat_map (table.cover_checks (program_of here.now) (method_of here.now) (row_of here.now)
         (cases_model cases.now)) (first_mentions [] (cases_model cases.now))) }
 {
     let endpoints = cases.endpoints();
@@ -163,7 +156,7 @@ fn receive(
 ) -> Result<(), Memory>
     requires numbered { edge.to.0 < MOST_STATES }
     ensures { OnOk result (map pair_model pairs.new.items ≡ map pair_model pairs.old.items
-        ++ table.receive_pairs (model_of here.now.program.now) (method_model here.now.method.now) (row_model here.now.row.now)
+        ++ table.receive_pairs (program_of here.now) (method_of here.now) (row_of here.now)
         (cases_model cases.now) endpoint.0 edge) }
 {
     if let Some(case) = cases.find(endpoint, Some(edge.message)) {
@@ -172,7 +165,7 @@ fn receive(
         bind(
             &mut row,
             &case.targets,
-            here.program.payload_types(edge.message),
+            here.site.program.payload_types(edge.message),
         );
         pairs.push((case.next, row))?;
     }
@@ -188,7 +181,7 @@ fn close(
     pairs: &mut Vec<(usize, Row)>,
 ) -> Result<(), Memory>
     ensures { OnOk result (map pair_model pairs.new.items ≡ map pair_model pairs.old.items
-        ++ table.close_pairs (model_of here.now.program.now) (method_model here.now.method.now) (row_model here.now.row.now)
+        ++ table.close_pairs (program_of here.now) (method_of here.now) (row_of here.now)
         (cases_model cases.now) endpoint.0) }
 {
     if let Some(case) = cases.find(endpoint, None) {
@@ -208,7 +201,7 @@ fn come_at(
     pairs: &mut Vec<(usize, Row)>,
 ) -> Result<(), Memory>
     ensures { OnOk result (map pair_model pairs.new.items ≡ map pair_model pairs.old.items
-        ++ table.comes_at (model_of here.now.program.now) (method_model here.now.method.now) (row_model here.now.row.now)
+        ++ table.comes_at (program_of here.now) (method_of here.now) (row_of here.now)
         (cases_model cases.now) endpoint) }
 {
     let edges = awaited_edges(here, endpoint);
@@ -223,7 +216,7 @@ fn come_at(
 /// `Memory` is returned if a growth was refused.
 fn ways(here: &Here<'_>, cases: &Cases, spare: &mut Spare) -> Result<Vec<(usize, Row)>, Memory>
     ensures { IfOk result (λ pairs. map pair_model pairs.items
-        ≡ table.switch_pairs (model_of here.now.program.now) (method_model here.now.method.now) (row_model here.now.row.now)
+        ≡ table.switch_pairs (program_of here.now) (method_of here.now) (row_of here.now)
         (cases_model cases.now)) }
 {
     let mut pairs = spare.no_pairs();

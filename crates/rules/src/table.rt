@@ -1,22 +1,20 @@
 //! The rule table: a function for each instruction, with its checks in order and the row after it. The first check that
 //! fails is what is found.
 
-ghost use Rattle.std.specs.Prelude.{◌≡◌, IfOk, List, []};
+ghost use Rattle.std.specs.Prelude.{◌≡◌, IfOk, List, Ok, []};
 ghost use Rattle.flow.specs.Graphs as graphs;
 ghost use Rattle.flow.specs.Graphs.{Use, Move, Delete, instruction_model};
 ghost use Rattle.flow.specs.declared.graph.Instr.{Instr};
 ghost use Rattle.source.specs.Findings.{FindingModel};
-ghost use Rattle.program.specs.Methods.{method_model};
-ghost use Rattle.rules.specs.Breaches.{breach_model};
 ghost use Rattle.rules.specs.Onwards.{KeepsRow, onward_model, onward_of};
 ghost use Rattle.rules.specs.Outcomes.{Goes, Fails};
-ghost use Rattle.rules.specs.Programs.{model_of};
 ghost use Rattle.rules.specs.Repeats.{first_again, given_again, repeated_in};
 ghost use Rattle.rows.specs.Rows.{row_model};
-ghost use Rattle.rules.specs.RuleTable.{ways, instruction_outcome};
+ghost use Rattle.rules.specs.RuleTable.{ways};
 ghost use Rattle.rules.specs.declared.breach.Breach.{Breach as BreachModel};
 ghost use Rattle.rules.specs.declared.breach.Reason.TheVariants as reasons;
 ghost use Rattle.rows.specs.declared.row.Leaf.{Leaf as LeafModel};
+ghost use Rattle.rules.specs.Sites.{Follows, FollowsHere};
 
 use crate::arguments::{claim_all, give, require_arguments, require_target};
 use crate::breach::{Breach, Reason};
@@ -42,18 +40,13 @@ pub(crate) fn apply(
     instruction: &Instr,
     spare: &mut Spare,
 ) -> Result<Onward, Memory>
-    requires { repeated_in site.now.repeats.now site.now.point ≡ given_again (instruction_model instruction.now) }
-    ensures outcome { IfOk result (λ o. onward_model (breach_model (model_of site.now.program.now) (method_model site.now.method.now))
-        o (row_model row.new)
-        ≡ instruction_outcome (model_of site.now.program.now) (method_model site.now.method.now) (instruction_model instruction.now)
-        (row_model row.old)) }
+    requires { repeated_in site.now.repeats.now site.now.point
+        ≡ given_again (instruction_model instruction.now) }
+    ensures outcome { IfOk result
+        (λ o. Follows site.now (instruction_model instruction.now) row.old row.new (Ok o)) }
     ensures kept { IfOk result (λ o. KeepsRow o (row_model row.old) (row_model row.new)) }
 {
-    let here = Here {
-        program: site.program,
-        method: site.method,
-        row,
-    };
+    let here = Here { site: *site, row };
     match instruction {
         Instr::Use { at, next } => answer(use_(&here, *at, *next)),
         Instr::New {
@@ -92,10 +85,7 @@ fn answer(told: Result<Onward, Breach>) -> Result<Onward, Memory>
 
 /// A read or a write of the block that a variable has. The row stays as it is.
 fn use_(here: &Here<'_>, at: Mention, next: usize) -> Result<Onward, Breach>
-    ensures { onward_model (breach_model (model_of here.now.program.now) (method_model here.now.method.now)) (onward_of result)
-        (row_model here.now.row.now)
-        ≡ instruction_outcome (model_of here.now.program.now) (method_model here.now.method.now) (Use at next)
-        (row_model here.now.row.now) }
+    ensures { FollowsHere here.now (Use at next) result }
 {
     require_owned(here, at)?;
     Ok(Onward::Same(next))
@@ -108,17 +98,10 @@ fn new_channel(
     channel: Channel,
     next: usize,
 ) -> Result<Onward, Breach>
-    ensures outcome { onward_model (breach_model (model_of site.now.program.now) (method_model site.now.method.now)) (onward_of result)
-        (row_model row.new)
-        ≡ instruction_outcome (model_of site.now.program.now) (method_model site.now.method.now) (graphs.NewChannel channel next)
-        (row_model row.old) }
+    ensures outcome { Follows site.now (graphs.NewChannel channel next) row.old row.new result }
     ensures kept { KeepsRow (onward_of result) (row_model row.old) (row_model row.new) }
 {
-    let here = Here {
-        program: site.program,
-        method: site.method,
-        row,
-    };
+    let here = Here { site: *site, row };
     require_not_lent(&here, channel.first)?;
     require_empty(&here, channel.first)?;
     require_not_lent(&here, channel.second)?;
@@ -137,17 +120,10 @@ fn move_(
     source: Mention,
     next: usize,
 ) -> Result<Onward, Breach>
-    ensures outcome { onward_model (breach_model (model_of site.now.program.now) (method_model site.now.method.now)) (onward_of result)
-        (row_model row.new)
-        ≡ instruction_outcome (model_of site.now.program.now) (method_model site.now.method.now) (Move target source next)
-        (row_model row.old) }
+    ensures outcome { Follows site.now (Move target source next) row.old row.new result }
     ensures kept { KeepsRow (onward_of result) (row_model row.old) (row_model row.new) }
 {
-    let here = Here {
-        program: site.program,
-        method: site.method,
-        row,
-    };
+    let here = Here { site: *site, row };
     require_another(&here, target, source)?;
     require_not_lent(&here, source)?;
     require_owned(&here, source)?;
@@ -161,17 +137,10 @@ fn move_(
 
 /// Frees what a variable has.
 fn delete(site: &Site<'_>, row: &mut Row, freed: Mention, next: usize) -> Result<Onward, Breach>
-    ensures outcome { onward_model (breach_model (model_of site.now.program.now) (method_model site.now.method.now)) (onward_of result)
-        (row_model row.new)
-        ≡ instruction_outcome (model_of site.now.program.now) (method_model site.now.method.now) (Delete freed next)
-        (row_model row.old) }
+    ensures outcome { Follows site.now (Delete freed next) row.old row.new result }
     ensures kept { KeepsRow (onward_of result) (row_model row.old) (row_model row.new) }
 {
-    let here = Here {
-        program: site.program,
-        method: site.method,
-        row,
-    };
+    let here = Here { site: *site, row };
     require_not_lent(&here, freed)?;
     require_owned(&here, freed)?;
     row.set(freed.variable, Leaf::Nothing);
@@ -180,28 +149,17 @@ fn delete(site: &Site<'_>, row: &mut Row, freed: Mention, next: usize) -> Result
 
 /// A call. What is claimed is gone, what is lent comes back as it was, and what takes something has it.
 fn call(site: &Site<'_>, row: &mut Row, calling: &Calling) -> Result<Onward, Breach>
-    requires { repeated_in site.now.repeats.now site.now.point ≡ first_again [] calling.now.arguments.items }
-    ensures outcome { onward_model (breach_model (model_of site.now.program.now) (method_model site.now.method.now)) (onward_of result)
-        (row_model row.new)
-        ≡ instruction_outcome (model_of site.now.program.now) (method_model site.now.method.now)
-        (instruction_model (Instr.Call calling.now))
-        (row_model row.old) }
+    requires { repeated_in site.now.repeats.now site.now.point
+        ≡ first_again [] calling.now.arguments.items }
+    ensures outcome { Follows site.now (instruction_model (Instr.Call calling.now)) row.old row.new result }
     ensures kept { KeepsRow (onward_of result) (row_model row.old) (row_model row.new) }
 {
-    let here = Here {
-        program: site.program,
-        method: site.method,
-        row,
-    };
+    let here = Here { site: *site, row };
     let types = site.program.parameter_types(calling.method);
     let again = site.repeats.at(site.point);
     require_arguments(&here, again, types, &calling.arguments)?;
     claim_all(row, &calling.arguments);
-    let behind = Here {
-        program: site.program,
-        method: site.method,
-        row,
-    };
+    let behind = Here { site: *site, row };
     require_target(&behind, calling.target)?;
     let result = site.program.result_of(calling.method);
     give(row, result, calling.target);
@@ -210,18 +168,13 @@ fn call(site: &Site<'_>, row: &mut Row, calling: &Calling) -> Result<Onward, Bre
 
 /// The start of a method. What it claims is gone.
 fn start(site: &Site<'_>, row: &mut Row, starting: &Starting) -> Result<Onward, Breach>
-    requires { repeated_in site.now.repeats.now site.now.point ≡ first_again [] starting.now.arguments.items }
-    ensures outcome { onward_model (breach_model (model_of site.now.program.now) (method_model site.now.method.now)) (onward_of result)
-        (row_model row.new)
-        ≡ instruction_outcome (model_of site.now.program.now) (method_model site.now.method.now)
-        (instruction_model (Instr.Start starting.now)) (row_model row.old) }
+    requires { repeated_in site.now.repeats.now site.now.point
+        ≡ first_again [] starting.now.arguments.items }
+    ensures outcome { Follows site.now (instruction_model (Instr.Start starting.now)) row.old
+        row.new result }
     ensures kept { KeepsRow (onward_of result) (row_model row.old) (row_model row.new) }
 {
-    let here = Here {
-        program: site.program,
-        method: site.method,
-        row,
-    };
+    let here = Here { site: *site, row };
     let types = site.program.parameter_types(starting.method);
     let again = site.repeats.at(site.point);
     require_arguments(&here, again, types, &starting.arguments)?;
@@ -231,7 +184,8 @@ fn start(site: &Site<'_>, row: &mut Row, starting: &Starting) -> Result<Onward, 
 
 /// A condition. The row stays as it is, each way that it can go.
 fn branch(branches: Branches) -> Onward
-    ensures outcome { (says : BreachModel → FindingModel) (row : List LeafModel) → onward_model says result row ≡ Goes (ways branches row) }
+    ensures outcome { (says : BreachModel → FindingModel) (row : List LeafModel)
+        → onward_model says result row ≡ Goes (ways branches row) }
     ensures kept { (row : List LeafModel) → KeepsRow result row row }
 {
     match branches {
@@ -242,10 +196,7 @@ fn branch(branches: Branches) -> Onward
 
 /// Variables go out of scope; they have nothing.
 fn forget_(here: &Here<'_>, forget: Forget, next: usize) -> Result<Onward, Breach>
-    ensures { onward_model (breach_model (model_of here.now.program.now) (method_model here.now.method.now)) (onward_of result)
-        (row_model here.now.row.now)
-        ≡ instruction_outcome (model_of here.now.program.now) (method_model here.now.method.now) (graphs.Forget forget next)
-        (row_model here.now.row.now) }
+    ensures { FollowsHere here.now (graphs.Forget forget next) result }
 {
     let last = Some(forget.last);
     require_given_back(here, forget.place, None, forget.outer, last)?;
@@ -255,7 +206,8 @@ fn forget_(here: &Here<'_>, forget: Forget, next: usize) -> Result<Onward, Breac
 /// The end of a method that ought to have given something.
 fn stop(place: Place) -> Onward
     ensures { (says : BreachModel → FindingModel) (row : List LeafModel)
-        → onward_model says result row ≡ Fails (says (record { place = place; reason = reasons.NoResult })) }
+        → onward_model says result row ≡ Fails
+        (says (record { place = place; reason = reasons.NoResult })) }
 {
     Onward::Found(Breach::at(place, Reason::NoResult))
 }

@@ -1,12 +1,11 @@
 use Rattle.std.proofs.Common.{drop, flat_map, zip}
-use Rattle.program.specs.Methods.{method_model}
 use Rattle.rules.specs.Arguments.{all_arguments, argument_checks}
-use Rattle.rows.specs.Rows.{row_model}
+use Rattle.rules.specs.Sites.{method_of, row_of}
 use Rattle.rules.proofs.ArgumentLemmas.{Left}
 use Rattle.rules.proofs.arguments.require_arguments.Given as goal
 
 abbrev pub invariant-loop-number : goal.invariant-loop-number
 invariant-loop-number l =
-    let m = method_model l.here.method.now in
-    let row = row_model l.here.row.now in
+    let m = method_of l.here in
+    let row = row_of l.here in
     Left (all_arguments m row l.types l.arguments) (flat_map (λ x. argument_checks m row x.0 x.1) (zip (drop l.number l.types) (drop l.number l.arguments)))

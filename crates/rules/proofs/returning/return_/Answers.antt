@@ -1,19 +1,17 @@
 use Rattle.std.proofs.Common.{Ok, Err, [], ◌∙◌}
-use Rattle.program.specs.Methods.{method_model}
-use Rattle.rules.specs.Breaches.{breach_model}
-use Rattle.rules.specs.Programs.{model_of}
+use Rattle.rules.specs.Sites.{says}
 use Rattle.rules.proofs.CallLemmas.{both_stand, second_of, told_on}
 use Rattle.rules.proofs.returning.return_.Goals as goal
 
 pub returns-in_err-require_back : goal.returns-in_err-require_back
 returns-in_err-require_back c =
-    let says = breach_model (model_of c.args.here.now.program.now) (method_model c.args.here.now.method.now) in
+    let says = says c.args.here.now.site in
     told_on says c.from_residual-in_err-require_back.result _ _ c.from_residual-in_err-require_back.ensures.1
     ∙ second_of says _ _ (Err _) [] c.in_ok-require_value.ensures
     (both_stand says _ _ (Err _) c.in_ok-require_given_back.ensures c.in_err-require_back.ensures)
 
 pub returns : goal.returns
 returns c =
-    let says = breach_model (model_of c.args.here.now.program.now) (method_model c.args.here.now.method.now) in
+    let says = says c.args.here.now.site in
     second_of says _ _ (Ok tt) [] c.in_ok-require_value.ensures
     (both_stand says _ _ (Ok tt) c.in_ok-require_given_back.ensures c.in_ok-require_back.ensures)

@@ -2,30 +2,28 @@ use Rattle.std.proofs.Common.{◌≡◌, ◌∙◌, [], Err, false, true, flat_m
 use Rattle.std.specs.List.{list_all}
 use Rattle.flow.specs.Cases.{first_mentions}
 use Rattle.flow.specs.Graphs.{cases_model}
-use Rattle.program.specs.Methods.{method_model}
 use Rattle.rules.specs.Breaches.{breach_model}
 use Rattle.rules.specs.Mentions.{require_owned}
-use Rattle.rules.specs.Programs.{model_of}
-use Rattle.rows.specs.Rows.{row_model}
 use Rattle.rules.specs.Switches.{cover_checks, is_to_send}
 use Rattle.rules.specs.Texts.{nothing_to_receive}
+use Rattle.rules.specs.Sites.{method_of, program_of, row_of}
 use Rattle.rules.proofs.CallLemmas.{both_stand, first_stands, of_checks, passes, refuses}
 use Rattle.rules.proofs.switching.require_cases.Goals as goal
 
 pub returns-in_err-require_all_owned : goal.returns-in_err-require_all_owned
 returns-in_err-require_all_owned c =
-    let p = model_of c.args.here.now.program.now in
-    let m = method_model c.args.here.now.method.now in
-    let row = row_model c.args.here.now.row.now in
+    let p = program_of c.args.here.now in
+    let m = method_of c.args.here.now in
+    let row = row_of c.args.here.now in
     let says = breach_model p m in
     let there = of_checks (ap (map (require_owned m row)) c.endpoints.ensures) c.in_err-require_all_owned.ensures in
     first_stands says (map (require_owned m row) (first_mentions [] (cases_model c.args.cases.now))) _ c.from_residual.result _ c.from_residual.ensures.1 there
 
 pub returns-then-are_to_send : goal.returns-then-are_to_send
 returns-then-are_to_send c =
-    let p = model_of c.args.here.now.program.now in
-    let m = method_model c.args.here.now.method.now in
-    let row = row_model c.args.here.now.row.now in
+    let p = program_of c.args.here.now in
+    let m = method_of c.args.here.now in
+    let row = row_of c.args.here.now in
     let named = first_mentions [] (cases_model c.args.cases.now) in
     let says = breach_model p m in
     let there = of_checks (ap (map (require_owned m row)) c.endpoints.ensures) c.in_ok-require_all_owned.ensures in
@@ -35,9 +33,9 @@ returns-then-are_to_send c =
 
 pub returns : goal.returns
 returns c =
-    let p = model_of c.args.here.now.program.now in
-    let m = method_model c.args.here.now.method.now in
-    let row = row_model c.args.here.now.row.now in
+    let p = program_of c.args.here.now in
+    let m = method_of c.args.here.now in
+    let row = row_of c.args.here.now in
     let cases = cases_model c.args.cases.now in
     let named = first_mentions [] cases in
     let says = breach_model p m in

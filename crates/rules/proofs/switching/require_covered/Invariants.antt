@@ -1,8 +1,6 @@
 use Rattle.std.proofs.Common.{drop}
-use Rattle.program.specs.Methods.{method_model}
 use Rattle.flow.specs.Graphs.{cases_model}
-use Rattle.rules.specs.Programs.{model_of}
-use Rattle.rows.specs.Rows.{row_model}
+use Rattle.rules.specs.Sites.{method_of, program_of, row_of}
 use Rattle.rules.proofs.ArgumentLemmas.{Left}
 use Rattle.rules.proofs.SwitchLemmas.{edge_checks}
 use Rattle.rules.specs.Switches.{awaited_edges, cover_checks}
@@ -10,7 +8,7 @@ use Rattle.rules.proofs.switching.require_covered.Given as goal
 
 abbrev pub invariant-loop-edge : goal.invariant-loop-edge
 invariant-loop-edge l =
-    let p = model_of l.here.program.now in
-    let m = method_model l.here.method.now in
-    let row = row_model l.here.row.now in
+    let p = program_of l.here in
+    let m = method_of l.here in
+    let row = row_of l.here in
     Left (cover_checks p m row (cases_model l.cases) l.fn.endpoint) (edge_checks p m (cases_model l.cases) l.fn.endpoint (drop l.edge-index (awaited_edges p m row l.fn.endpoint)))

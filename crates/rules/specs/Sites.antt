@@ -1,0 +1,51 @@
+-- For proofs within the crate: where a step is taken, and what checks and rules answer there, in words of the rule table.
+use Rattle.std.specs.Prelude.{◌≡◌, List, Result}
+use Rattle.source.specs.Findings.{FindingModel}
+use Rattle.program.specs.Methods.{MethodModel, method_model}
+use Rattle.program.specs.Programs.{ProgramModel}
+use Rattle.flow.specs.Graphs.{Instruction}
+use Rattle.rules.specs.Breaches.{breach_model}
+use Rattle.rules.specs.Checks.{StandsFor, check_model}
+use Rattle.rules.specs.Onwards.{onward_model, onward_of}
+use Rattle.rules.specs.Outcomes.{Check}
+use Rattle.rules.specs.Programs.{model_of}
+use Rattle.rules.specs.RuleTable.{instruction_outcome}
+use Rattle.rules.specs.declared.breach.Breach.{Breach}
+use Rattle.rules.specs.declared.here.Here.{Here}
+use Rattle.rules.specs.declared.here.Site.{Site}
+use Rattle.rules.specs.declared.onward.Onward.{Onward}
+use Rattle.rows.specs.Rows.{row_model}
+use Rattle.rows.specs.declared.row.Leaf.{Leaf}
+use Rattle.rows.specs.declared.row.Row.{Row}
+
+-- the program, the method and the row of a step
+abbrev pub program_of : Here → ProgramModel
+program_of here = model_of here.site.program.now
+
+abbrev pub method_of : Here → MethodModel
+method_of here = method_model here.site.method.now
+
+abbrev pub row_of : Here → List Leaf
+row_of here = row_model here.row.now
+
+-- what a breach says there
+abbrev pub says : Site → Breach → FindingModel
+says site = breach_model (model_of site.program.now) (method_model site.method.now)
+
+-- the answer is that of a check
+abbrev pub Answers : Here → Result (Unit {0}) Breach → Check → Type 0
+Answers here answer check = check_model (says here.site) answer ≡ check
+
+-- the answer is that of these checks in order, whatever checks come behind them
+abbrev pub AnswersAll : Here → Result (Unit {0}) Breach → List Check → Type 0
+AnswersAll here answer checks = StandsFor (says here.site) answer checks
+
+-- where a rule goes on, and the row that it leaves, are those of the line of an instruction for the row before
+abbrev pub Follows : Site → Instruction → (old new : Row) → Result Onward Breach → Type 0
+Follows site instruction old new answer =
+    onward_model (says site) (onward_of answer) (row_model new)
+    ≡ instruction_outcome (model_of site.program.now) (method_model site.method.now) instruction (row_model old)
+
+-- so it is, where the row stays as it was
+abbrev pub FollowsHere : Here → Instruction → Result Onward Breach → Type 0
+FollowsHere here instruction answer = Follows here.site instruction here.row.now here.row.now answer
