@@ -9,7 +9,7 @@ use Rattle.program.specs.declared.number.MethodId.{MethodId}
 use Rattle.program.specs.declared.statement.Mention.{Mention}
 use Rattle.flow.specs.Graphs.{Call}
 use Rattle.machine.specs.Answers.{IsFirstFault, IsRefusal, Pass, Tells, entered_on, on_stack, with_stack, with_variables}
-use Rattle.machine.specs.Blocks.{argument_tests_in}
+use Rattle.machine.specs.Blocks.{argument_tests}
 use Rattle.machine.specs.Frames.{frame_at_entry}
 use Rattle.machine.specs.Outcomes.{QueueBounds, Outcome, Faulty, Moved, FaultTest, after_tests}
 use Rattle.machine.specs.Views.{frame_model, stack_of}
@@ -56,11 +56,11 @@ called_to p w self f waiting method arguments =
 -- a call: its tests, and then that
 pub call_is : (p : ProgramModel) (bound : QueueBounds) (w : World) (self : ℕ) (place : Place) (method : MethodId) (arguments given : List Argument) (target : Option Mention) (next : ℕ) (top : Option made.Frame.Frame) (waiting : List made.Frame.Frame) (f : made.Frame.Frame) (bs : List Block)
     → top ≡ Some f → w.blocks ≡ bs → given ≡ arguments
-    → on_stack p bound w self (Call place method arguments target next) 0 (stack_of top waiting) ≡ after_tests (argument_tests_in bs self (frame_model f).variables [] given) (called_to p w self f waiting method arguments)
+    → on_stack p bound w self (Call place method arguments target next) 0 (stack_of top waiting) ≡ after_tests (argument_tests bs self (frame_model f).variables [] given) (called_to p w self f waiting method arguments)
 call_is p bound w self place method arguments given target next top waiting f bs e is args =
     ap (λ t. on_stack p bound w self (Call place method arguments target next) 0 (stack_of t waiting)) e
-    ∙ (ap (λ b. after_tests (argument_tests_in b self (frame_model f).variables [] arguments) (called_to p w self f waiting method arguments)) is
-    ∙ ap (λ l. after_tests (argument_tests_in bs self (frame_model f).variables [] l) (called_to p w self f waiting method arguments)) (sym args))
+    ∙ (ap (λ b. after_tests (argument_tests b self (frame_model f).variables [] arguments) (called_to p w self f waiting method arguments)) is
+    ∙ ap (λ l. after_tests (argument_tests bs self (frame_model f).variables [] l) (called_to p w self f waiting method arguments)) (sym args))
 
 -- the frame that begins stands on top
 pub entered_is : (p : ProgramModel) (w : World) (self : ℕ) (method : MethodId) (arguments b d : List Argument) (top : Option made.Frame.Frame) (waiting : List made.Frame.Frame) (f begun : made.Frame.Frame) (stack : List Frame)

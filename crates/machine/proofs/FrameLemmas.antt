@@ -8,10 +8,10 @@ use Rattle.program.specs.declared.call.Argument.{Argument}
 use Rattle.program.specs.declared.method.Variable.{Variable}
 use Rattle.program.specs.declared.number.VarId.{VarId}
 use Rattle.program.specs.declared.statement.Mention.{Mention}
-use Rattle.machine.specs.Answers.{Pass}
+use Rattle.machine.specs.Answers.{Pass, own_tests}
 use Rattle.machine.specs.Frames.{bound_to, variables_at_entry, payloads_claimed}
 use Rattle.machine.specs.Outcomes.{Faulty, Outcome, FaultTest, test, after_tests}
-use Rattle.machine.specs.World.{Block, is_own_in, let_go, read}
+use Rattle.machine.specs.World.{Block, is_own, let_go, read}
 use Rattle.machine.specs.declared.halts.Fault.TheVariants.{F1}
 use Rattle.machine.proofs.GiveLemmas.{passes, refuses}
 
@@ -133,10 +133,6 @@ pub filled_all : (has : List (Option ℕ)) (variables : List Variable) (argument
 filled_all has variables arguments done given so_far le h =
     sym (h.is ∙ (ap (λ l. so_far ++ l) (at_drop_all (λ l. variables_at_entry (map variable_model l) (given_for has (drop given arguments))) variables done le) ∙ append-nil so_far))
 
--- the tests that the process has the block in each of these variables
-abbrev pub own_tests : List Block → ℕ → List (Option ℕ) → List Mention → List FaultTest
-own_tests blocks self variables endpoints = map (λ e. test (is_own_in blocks self (read variables e.variable.0)) F1) endpoints
-
 -- so many were looked at
 pub record Own (blocks : List Block) (self : ℕ) (variables : List (Option ℕ)) (endpoints : List Mention) (done : ℕ) : Type 0 where
   pub tests : (more : List FaultTest) (o : Outcome) → after_tests (own_tests blocks self variables endpoints ++ more) o ≡ after_tests (own_tests blocks self variables (drop done endpoints) ++ more) o
@@ -146,25 +142,25 @@ own_none blocks self variables endpoints = record { tests = λ more o. refl }
 
 own_left : (blocks : List Block) (self : ℕ) (variables : List (Option ℕ)) (endpoints : List Mention) (done : ℕ) (d : Mention) (more : List FaultTest) (o : Outcome) → done < length endpoints → Own blocks self variables endpoints done
     → after_tests (own_tests blocks self variables endpoints ++ more) o
-    ≡ after_tests (test (is_own_in blocks self (read variables (slice_index_or endpoints done d).variable.0)) F1 ∷ (own_tests blocks self variables (drop (done + 1) endpoints) ++ more)) o
+    ≡ after_tests (test (is_own blocks self (read variables (slice_index_or endpoints done d).variable.0)) F1 ∷ (own_tests blocks self variables (drop (done + 1) endpoints) ++ more)) o
 own_left blocks self variables endpoints done d more o lt h =
     h.tests more o ∙ at_drop_more (λ l. after_tests (own_tests blocks self variables l ++ more) o) endpoints done d lt
 
 pub own_more : (blocks : List Block) (self : ℕ) (variables : List (Option ℕ)) (endpoints : List Mention) (done : ℕ) (d : Mention) → done < length endpoints
-    → is_own_in blocks self (read variables (slice_index_or endpoints done d).variable.0) ≡ true → Own blocks self variables endpoints done → Own blocks self variables endpoints (done + 1)
+    → is_own blocks self (read variables (slice_index_or endpoints done d).variable.0) ≡ true → Own blocks self variables endpoints done → Own blocks self variables endpoints (done + 1)
 own_more blocks self variables endpoints done d lt is h =
     record {
       tests = λ more o.
           own_left blocks self variables endpoints done d more o lt h
-          ∙ passes (is_own_in blocks self (read variables (slice_index_or endpoints done d).variable.0)) F1 (own_tests blocks self variables (drop (done + 1) endpoints) ++ more) o is;
+          ∙ passes (is_own blocks self (read variables (slice_index_or endpoints done d).variable.0)) F1 (own_tests blocks self variables (drop (done + 1) endpoints) ++ more) o is;
     }
 
 pub own_fails : (blocks : List Block) (self : ℕ) (variables : List (Option ℕ)) (endpoints : List Mention) (done : ℕ) (d : Mention) → done < length endpoints
-    → is_own_in blocks self (read variables (slice_index_or endpoints done d).variable.0) ≡ false → Own blocks self variables endpoints done
+    → is_own blocks self (read variables (slice_index_or endpoints done d).variable.0) ≡ false → Own blocks self variables endpoints done
     → (more : List FaultTest) (o : Outcome) → after_tests (own_tests blocks self variables endpoints ++ more) o ≡ Faulty F1
 own_fails blocks self variables endpoints done d lt is h more o =
     own_left blocks self variables endpoints done d more o lt h
-    ∙ refuses (is_own_in blocks self (read variables (slice_index_or endpoints done d).variable.0)) F1 (own_tests blocks self variables (drop (done + 1) endpoints) ++ more) o is
+    ∙ refuses (is_own blocks self (read variables (slice_index_or endpoints done d).variable.0)) F1 (own_tests blocks self variables (drop (done + 1) endpoints) ++ more) o is
 
 pub own_all : (blocks : List Block) (self : ℕ) (variables : List (Option ℕ)) (endpoints : List Mention) (done : ℕ) → length endpoints ≤ done → Own blocks self variables endpoints done → Pass (own_tests blocks self variables endpoints)
 own_all blocks self variables endpoints done le h = λ more o. h.tests more o ∙ at_drop_all (λ l. after_tests (own_tests blocks self variables l ++ more) o) endpoints done le

@@ -13,7 +13,7 @@ use Rattle.rules.proofs.ArgumentLemmas.{none_in}
 use Rattle.machine.specs.Answers.{Pass, claimed_in}
 use Rattle.machine.specs.declared.halts.Fault.{Fault}
 use Rattle.machine.specs.declared.halts.Fault.TheVariants.{F1, F3}
-use Rattle.machine.specs.Blocks.{is_own_still, argument_tests_in}
+use Rattle.machine.specs.Blocks.{is_own_still, argument_tests}
 use Rattle.machine.specs.Frames.{address, addresses, payloads_claimed}
 use Rattle.machine.specs.Outcomes.{FaultTest, Outcome, Faulty, test, after_tests}
 use Rattle.machine.specs.World.{Block, read}
@@ -87,8 +87,8 @@ claims_not variables arguments n a d lt none misses =
 -- ---- the tests
 -- So many arguments were looked at, and their tests passed.
 pub record Given (blocks : List Block) (self : ℕ) (variables : List (Option ℕ)) (arguments : List Argument) (done : ℕ) : Type 0 where
-  pub tests : (more : List FaultTest) (o : Outcome) → after_tests (argument_tests_in blocks self variables [] arguments ++ more) o
-      ≡ after_tests (argument_tests_in blocks self variables (claimed_in variables [] (take done arguments)) (drop done arguments) ++ more) o
+  pub tests : (more : List FaultTest) (o : Outcome) → after_tests (argument_tests blocks self variables [] arguments ++ more) o
+      ≡ after_tests (argument_tests blocks self variables (claimed_in variables [] (take done arguments)) (drop done arguments) ++ more) o
 
 -- none was looked at
 pub given_none : (blocks : List Block) (self : ℕ) (variables : List (Option ℕ)) (arguments : List Argument) → Given blocks self variables arguments 0
@@ -97,23 +97,23 @@ given_none blocks self variables arguments = record { tests = λ more o. refl }
 -- the argument at hand is the first of those that are left
 tests_left : (blocks : List Block) (self : ℕ) (variables : List (Option ℕ)) (arguments : List Argument) (done : ℕ) (d : Argument) (more : List FaultTest) (o : Outcome) → done < length arguments
     → Given blocks self variables arguments done
-    → after_tests (argument_tests_in blocks self variables [] arguments ++ more) o
-    ≡ after_tests (argument_tests_in blocks self variables (claimed_in variables [] (take done arguments)) (get_or arguments done d ∷ drop (done + 1) arguments) ++ more) o
+    → after_tests (argument_tests blocks self variables [] arguments ++ more) o
+    ≡ after_tests (argument_tests blocks self variables (claimed_in variables [] (take done arguments)) (get_or arguments done d ∷ drop (done + 1) arguments) ++ more) o
 tests_left blocks self variables arguments done d more o lt h =
-    h.tests more o ∙ ap (λ l. after_tests (argument_tests_in blocks self variables (claimed_in variables [] (take done arguments)) l ++ more) o) (drop_more arguments done d lt)
+    h.tests more o ∙ ap (λ l. after_tests (argument_tests blocks self variables (claimed_in variables [] (take done arguments)) l ++ more) o) (drop_more arguments done d lt)
 
 -- the next one is not the process's, or is claimed before
 pub given_fails : (blocks : List Block) (self : ℕ) (variables : List (Option ℕ)) (arguments : List Argument) (done : ℕ) (d : Argument) (fault : Fault)
     → done < length arguments → Given blocks self variables arguments done
     → is_own_still blocks self (claimed_in variables [] (take done arguments)) (read variables (get_or arguments done d).mention.variable.0) ≡ false
     → fault ≡ (if (get_or arguments done d).claimed then F3 else F1)
-    → (more : List FaultTest) (o : Outcome) → after_tests (argument_tests_in blocks self variables [] arguments ++ more) o ≡ Faulty fault
+    → (more : List FaultTest) (o : Outcome) → after_tests (argument_tests blocks self variables [] arguments ++ more) o ≡ Faulty fault
 given_fails blocks self variables arguments done d fault lt h fails is more o =
     let x = get_or arguments done d in
     let taken = claimed_in variables [] (take done arguments) in
     tests_left blocks self variables arguments done d more o lt h
     ∙ (refuses (is_own_still blocks self taken (read variables x.mention.variable.0)) (if x.claimed then F3 else F1)
-    (argument_tests_in blocks self variables (one_claimed variables taken x) (drop (done + 1) arguments) ++ more) o fails
+    (argument_tests blocks self variables (one_claimed variables taken x) (drop (done + 1) arguments) ++ more) o fails
     ∙ ap Faulty (sym is))
 
 -- it is the process's still
@@ -129,16 +129,16 @@ given_more blocks self variables arguments done d lt h own =
       tests = λ more o.
           tests_left blocks self variables arguments done d more o lt h
           ∙ (passes (is_own_still blocks self taken (read variables x.mention.variable.0)) (if x.claimed then F3 else F1)
-          (argument_tests_in blocks self variables (one_claimed variables taken x) rest ++ more) o own
-          ∙ ap (λ l. after_tests (argument_tests_in blocks self variables l rest ++ more) o) (sym (claimed_more variables arguments done d lt)));
+          (argument_tests blocks self variables (one_claimed variables taken x) rest ++ more) o own
+          ∙ ap (λ l. after_tests (argument_tests blocks self variables l rest ++ more) o) (sym (claimed_more variables arguments done d lt)));
     }
 
 -- all were looked at
 pub given_pass : (blocks : List Block) (self : ℕ) (variables : List (Option ℕ)) (arguments : List Argument) (done : ℕ) → length arguments ≤ done
-    → Given blocks self variables arguments done → Pass (argument_tests_in blocks self variables [] arguments)
+    → Given blocks self variables arguments done → Pass (argument_tests blocks self variables [] arguments)
 given_pass blocks self variables arguments done le h =
     λ more o. h.tests more o
-    ∙ ap (λ l. after_tests (argument_tests_in blocks self variables (claimed_in variables [] (take done arguments)) l ++ more) o) (drop_all done arguments le)
+    ∙ ap (λ l. after_tests (argument_tests blocks self variables (claimed_in variables [] (take done arguments)) l ++ more) o) (drop_all done arguments le)
 
 -- ---- the tests with a set
 -- So many arguments were looked at, their tests passed, and the set has what they claim.
@@ -216,7 +216,7 @@ sent_own blocks self variables payloads n d own lt is =
 pub sent_fails : (blocks : List Block) (self : ℕ) (variables : List (Option ℕ)) (payloads : List Mention) (done : ℕ) (d : Mention)
     → done < length payloads → Given blocks self variables (payloads_claimed payloads) done
     → is_own_still blocks self (claimed_in variables [] (payloads_claimed (take done payloads))) (read variables (get_or payloads done d).variable.0) ≡ false
-    → (more : List FaultTest) (o : Outcome) → after_tests (argument_tests_in blocks self variables [] (payloads_claimed payloads) ++ more) o ≡ Faulty F3
+    → (more : List FaultTest) (o : Outcome) → after_tests (argument_tests blocks self variables [] (payloads_claimed payloads) ++ more) o ≡ Faulty F3
 sent_fails blocks self variables payloads done d lt h fails =
     given_fails blocks self variables (payloads_claimed payloads) done (payload d) F3 (sent_short payloads done lt) h (sent_own blocks self variables payloads done d false lt fails)
     (ap (λ x. if x.claimed then F3 else F1) (sym (sent_at payloads done d lt)))

@@ -5,7 +5,7 @@ use Rattle.program.specs.declared.call.Argument.{Argument}
 use Rattle.program.specs.declared.types.HeapType.{HeapType}
 use Rattle.program.specs.declared.statement.Mention.{Mention}
 use Rattle.machine.specs.Answers.{IsFirstFault, Pass, on_top, with_variables}
-use Rattle.machine.specs.Blocks.{argument_tests_in, with_new_owner, new_block}
+use Rattle.machine.specs.Blocks.{argument_tests, with_new_owner, new_block}
 use Rattle.machine.specs.Frames.{addresses, payloads_claimed}
 use Rattle.machine.specs.Heaps.{AreOnce, AreOwnedBy}
 use Rattle.machine.specs.Outcomes.{Faulty, Outcome, after_tests}
@@ -17,26 +17,26 @@ use Rattle.machine.proofs.PassLemmas.{pass_once, pass_owned_by}
 
 -- The blocks b are those that were tested.
 module _ (bs b : List Block) (self : ℕ) (variables : List (Option ℕ)) (same : bs ≡ b) where
-  pub tests_pass : (arguments : List Argument) (o : Outcome) → Pass (argument_tests_in b self variables [] arguments)
-      → after_tests (argument_tests_in bs self variables [] arguments) o ≡ o
-  tests_pass arguments o pass = ap (λ (l : List Block). after_tests (argument_tests_in l self variables [] arguments) o) same
-      ∙ pass_alone (argument_tests_in b self variables [] arguments) o pass
+  pub tests_pass : (arguments : List Argument) (o : Outcome) → Pass (argument_tests b self variables [] arguments)
+      → after_tests (argument_tests bs self variables [] arguments) o ≡ o
+  tests_pass arguments o pass = ap (λ (l : List Block). after_tests (argument_tests l self variables [] arguments) o) same
+      ∙ pass_alone (argument_tests b self variables [] arguments) o pass
 
   pub tests_fail : (arguments : List Argument) (fault : Fault) (o : Outcome)
-      → IsFirstFault (Some fault) (argument_tests_in b self variables [] arguments)
-      → after_tests (argument_tests_in bs self variables [] arguments) o ≡ Faulty fault
-  tests_fail arguments fault o fails = ap (λ (l : List Block). after_tests (argument_tests_in l self variables [] arguments) o) same
-      ∙ refused_alone (argument_tests_in b self variables [] arguments) fault o
-      (after_tests (argument_tests_in b self variables [] arguments) o) fails refl
+      → IsFirstFault (Some fault) (argument_tests b self variables [] arguments)
+      → after_tests (argument_tests bs self variables [] arguments) o ≡ Faulty fault
+  tests_fail arguments fault o fails = ap (λ (l : List Block). after_tests (argument_tests l self variables [] arguments) o) same
+      ∙ refused_alone (argument_tests b self variables [] arguments) fault o
+      (after_tests (argument_tests b self variables [] arguments) o) fails refl
 
   -- what is given is the process's, and nothing is given twice
   pub given_owned : (payloads : List Mention) (given : List ℕ) → given ≡ addresses variables (payloads_claimed payloads)
-      → Pass (argument_tests_in b self variables [] (payloads_claimed payloads)) → AreOwnedBy bs self given
+      → Pass (argument_tests b self variables [] (payloads_claimed payloads)) → AreOwnedBy bs self given
   given_owned payloads given is pass = subst (λ (l : List Block). AreOwnedBy l self given) (sym same)
       (subst (AreOwnedBy b self) (sym is) (pass_owned_by b self variables [] (payloads_claimed payloads) pass))
 
   pub given_once : (payloads : List Mention) (given : List ℕ) → given ≡ addresses variables (payloads_claimed payloads)
-      → Pass (argument_tests_in b self variables [] (payloads_claimed payloads)) → AreOnce given
+      → Pass (argument_tests b self variables [] (payloads_claimed payloads)) → AreOnce given
   given_once payloads given is pass = subst AreOnce (sym is) (pass_once b self variables payloads pass)
 
 -- the blocks, when a process has made one of what it gives

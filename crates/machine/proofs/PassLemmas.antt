@@ -6,15 +6,14 @@ use Rattle.std.proofs.lemmas.Bool.Decides.{eqb_tells}
 use Rattle.program.specs.Lists.{is_among}
 use Rattle.program.specs.declared.call.Argument.{Argument}
 use Rattle.program.specs.declared.statement.Mention.{Mention}
-use Rattle.machine.specs.Answers.{Pass}
-use Rattle.machine.specs.Blocks.{argument_tests_in, is_own_still}
+use Rattle.machine.specs.Answers.{Pass, own_tests}
+use Rattle.machine.specs.Blocks.{argument_tests, is_own_still}
 use Rattle.machine.specs.Frames.{address, addresses, payloads_claimed}
 use Rattle.machine.specs.Heaps.{AreOnce, AreOwned, AreOwnedBy, occurs, one_if}
 use Rattle.machine.specs.Outcomes.{Faulty, FaultTest, Waits, test}
-use Rattle.machine.specs.World.{Block, block_at, is_own_in, owns, read}
+use Rattle.machine.specs.World.{Block, block_at, is_own, owns, read}
 use Rattle.machine.specs.declared.halts.Fault.{Fault}
 use Rattle.machine.specs.declared.halts.Fault.TheVariants.{F1, F3}
-use Rattle.machine.proofs.FrameLemmas.{own_tests}
 use Rattle.machine.proofs.HeapLemmas.{of_some}
 
 -- the first of tests that pass is no fault
@@ -28,14 +27,14 @@ rest_pass false fault tests is pass = absurd (cc)
 
 -- the process has the block in each of these variables
 pub pass_each : (bs : List Block) (self : ℕ) (variables : List (Option ℕ)) (es : List Mention) (i : ℕ) (d : Mention) → i < length es → Pass (own_tests bs self variables es)
-    → is_own_in bs self (read variables (get_or es i d).variable.0) ≡ true
+    → is_own bs self (read variables (get_or es i d).variable.0) ≡ true
 pass_each bs self variables [] i d short pass = absurd (omega arith)
-pass_each bs self variables (e ∷ es) zero d short pass = first_passes (is_own_in bs self (read variables e.variable.0)) F1 (own_tests bs self variables es) pass
+pass_each bs self variables (e ∷ es) zero d short pass = first_passes (is_own bs self (read variables e.variable.0)) F1 (own_tests bs self variables es) pass
 pass_each bs self variables (e ∷ es) (suc i) d short pass =
-    let first : is_own_in bs self (read variables e.variable.0) ≡ true = first_passes (is_own_in bs self (read variables e.variable.0)) F1 (own_tests bs self variables es) pass in
-    pass_each bs self variables es i d (omega arith) (rest_pass (is_own_in bs self (read variables e.variable.0)) F1 (own_tests bs self variables es) first pass)
+    let first : is_own bs self (read variables e.variable.0) ≡ true = first_passes (is_own bs self (read variables e.variable.0)) F1 (own_tests bs self variables es) pass in
+    pass_each bs self variables es i d (omega arith) (rest_pass (is_own bs self (read variables e.variable.0)) F1 (own_tests bs self variables es) first pass)
 
-pub own_at : (bs : List Block) (self : ℕ) (x : Option ℕ) → is_own_in bs self x ≡ true → owns bs self (address x) ≡ true
+pub own_at : (bs : List Block) (self : ℕ) (x : Option ℕ) → is_own bs self x ≡ true → owns bs self (address x) ≡ true
 own_at bs self None own = absurd (cc)
 own_at bs self (Some a) own = own
 
@@ -63,13 +62,13 @@ still_free bs self taken (Some a) own = and_not (owns bs self a) (is_among taken
 
 -- arguments that pass their tests are blocks of the process
 pub pass_owned_by : (bs : List Block) (self : ℕ) (variables : List (Option ℕ)) (taken : List ℕ) (arguments : List Argument)
-    → Pass (argument_tests_in bs self variables taken arguments) → AreOwnedBy bs self (addresses variables arguments)
+    → Pass (argument_tests bs self variables taken arguments) → AreOwnedBy bs self (addresses variables arguments)
 pass_owned_by bs self variables taken [] pass = record { own = λ j is. absurd (cc) }
 pass_owned_by bs self variables taken (a ∷ arguments) pass =
     let x = read variables a.mention.variable.0 in
     let fault = if a.claimed then F3 else F1 in
     let more = if a.claimed then address x ∷ taken else taken in
-    let tests = argument_tests_in bs self variables more arguments in
+    let tests = argument_tests bs self variables more arguments in
     let own : is_own_still bs self taken x ≡ true = first_passes (is_own_still bs self taken x) fault tests pass in
     let rest = pass_owned_by bs self variables more arguments (rest_pass (is_own_still bs self taken x) fault tests own pass) in
     record {
@@ -78,7 +77,7 @@ pass_owned_by bs self variables taken (a ∷ arguments) pass =
     }
 
 pub pass_owned : (bs : List Block) (self : ℕ) (variables : List (Option ℕ)) (taken : List ℕ) (arguments : List Argument)
-    → Pass (argument_tests_in bs self variables taken arguments) → AreOwned bs (addresses variables arguments)
+    → Pass (argument_tests bs self variables taken arguments) → AreOwned bs (addresses variables arguments)
 pass_owned bs self variables taken arguments pass = record {
   own = λ j is. of_some (block_at bs j).owner self ((pass_owned_by bs self variables taken arguments pass).own j is);
 }
@@ -100,16 +99,16 @@ once_more taken rest a free h = record {
     one_at true more n is not_more = let none : n ≡ 0 = is ∙ ap one_if (not_more refl) in omega arith
     one_at false more n is not_more = let same : n ≡ one_if more = is in omega arith
 
-pass_apart : (bs : List Block) (self : ℕ) (variables : List (Option ℕ)) (taken : List ℕ) (payloads : List Mention) → Pass (argument_tests_in bs self variables taken (payloads_claimed payloads))
+pass_apart : (bs : List Block) (self : ℕ) (variables : List (Option ℕ)) (taken : List ℕ) (payloads : List Mention) → Pass (argument_tests bs self variables taken (payloads_claimed payloads))
     → Once taken (addresses variables (payloads_claimed payloads))
 pass_apart bs self variables taken [] pass = record { once = λ j. refl; apart = λ j there. refl }
 pass_apart bs self variables taken (v ∷ payloads) pass =
     let x = read variables v.variable.0 in
-    let tests = argument_tests_in bs self variables (address x ∷ taken) (payloads_claimed payloads) in
+    let tests = argument_tests bs self variables (address x ∷ taken) (payloads_claimed payloads) in
     let own : is_own_still bs self taken x ≡ true = first_passes (is_own_still bs self taken x) F3 tests pass in
     once_more taken (addresses variables (payloads_claimed payloads)) (address x) (still_free bs self taken x own)
     (pass_apart bs self variables (address x ∷ taken) payloads (rest_pass (is_own_still bs self taken x) F3 tests own pass))
 
-pub pass_once : (bs : List Block) (self : ℕ) (variables : List (Option ℕ)) (payloads : List Mention) → Pass (argument_tests_in bs self variables [] (payloads_claimed payloads))
+pub pass_once : (bs : List Block) (self : ℕ) (variables : List (Option ℕ)) (payloads : List Mention) → Pass (argument_tests bs self variables [] (payloads_claimed payloads))
     → AreOnce (addresses variables (payloads_claimed payloads))
 pass_once bs self variables payloads pass = record { once = (pass_apart bs self variables [] payloads pass).once }

@@ -8,7 +8,7 @@ use Rattle.program.specs.declared.call.Argument.{Argument}
 use Rattle.program.specs.declared.number.MethodId.{MethodId}
 use Rattle.flow.specs.Graphs.{Start}
 use Rattle.machine.specs.Answers.{Pass, on_stack, went_on}
-use Rattle.machine.specs.Blocks.{argument_tests_in, with_new_owner}
+use Rattle.machine.specs.Blocks.{argument_tests, with_new_owner}
 use Rattle.machine.specs.Frames.{addresses, frame_at_entry}
 use Rattle.machine.specs.Outcomes.{QueueBounds, Outcome, Moved, after_tests}
 use Rattle.machine.specs.Views.{frame_model, stack_of, stack_model}
@@ -30,21 +30,21 @@ started_to p w self f rest method arguments next = Moved record {
 pub start_is : (p : ProgramModel) (bound : QueueBounds) (w : World) (self : ℕ) (place : Place) (method : MethodId) (arguments given : List Argument) (next : ℕ) (stack : List Frame) (s : made.Process.Process) (f : made.Frame.Frame) (bs : List Block)
     → stack_model s ≡ stack → s.top ≡ Some f → bs ≡ w.blocks → given ≡ arguments
     → on_stack p bound w self (Start place method arguments next) 0 stack
-    ≡ after_tests (argument_tests_in bs self (frame_model f).variables [] given) (started_to p w self f (map frame_model (reverse s.waiting.items)) method arguments next)
+    ≡ after_tests (argument_tests bs self (frame_model f).variables [] given) (started_to p w self f (map frame_model (reverse s.waiting.items)) method arguments next)
 start_is p bound w self place method arguments given next stack s f bs here top is args =
     let goes = started_to p w self f (map frame_model (reverse s.waiting.items)) method arguments next in
     ap (on_stack p bound w self (Start place method arguments next) 0) (sym here)
     ∙ (ap (λ t. on_stack p bound w self (Start place method arguments next) 0 (stack_of t s.waiting.items)) top
-    ∙ (ap (λ b. after_tests (argument_tests_in b self (frame_model f).variables [] arguments) goes) (sym is)
-    ∙ ap (λ l. after_tests (argument_tests_in bs self (frame_model f).variables [] l) goes) (sym args)))
+    ∙ (ap (λ b. after_tests (argument_tests b self (frame_model f).variables [] arguments) goes) (sym is)
+    ∙ ap (λ l. after_tests (argument_tests bs self (frame_model f).variables [] l) goes) (sym args)))
 
 -- a start whose tests pass
 pub start_goes : (p : ProgramModel) (bound : QueueBounds) (w : World) (self : ℕ) (place : Place) (method : MethodId) (arguments given : List Argument) (next : ℕ) (stack : List Frame) (s : made.Process.Process) (f : made.Frame.Frame) (bs : List Block)
-    → stack_model s ≡ stack → s.top ≡ Some f → bs ≡ w.blocks → given ≡ arguments → Pass (argument_tests_in bs self (frame_model f).variables [] given)
+    → stack_model s ≡ stack → s.top ≡ Some f → bs ≡ w.blocks → given ≡ arguments → Pass (argument_tests bs self (frame_model f).variables [] given)
     → on_stack p bound w self (Start place method arguments next) 0 stack ≡ started_to p w self f (map frame_model (reverse s.waiting.items)) method arguments next
 start_goes p bound w self place method arguments given next stack s f bs here top is args pass =
     start_is p bound w self place method arguments given next stack s f bs here top is args
-    ∙ pass_alone (argument_tests_in bs self (frame_model f).variables [] given) (started_to p w self f (map frame_model (reverse s.waiting.items)) method arguments next) pass
+    ∙ pass_alone (argument_tests bs self (frame_model f).variables [] given) (started_to p w self f (map frame_model (reverse s.waiting.items)) method arguments next) pass
 
 -- a process is as it was where another is pushed
 pushed_at : (ps : List made.Process.Process) (x : made.Process.Process) (q : ℕ) (u s : made.Process.Process) → q < length ps → u ≡ get_or (ps ++ x ∷ []) q u → s ≡ get_or ps q s → u ≡ s

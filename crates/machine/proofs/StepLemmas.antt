@@ -63,8 +63,8 @@ stack_same {X = X} (Err e) ps q s t f before after there top same kept =
     run_same {X = X} (Err e) ps q s t before after there (same ∙ sym (ap (λ o. stack_of o s.waiting.items) top)) kept
 
 -- and where it leaves the frames that wait
-abbrev pub topped : made.Process.Process → made.Frame.Frame → made.Process.Process
-topped s g = record { top = Some g; waiting = s.waiting }
+abbrev pub with_top : made.Process.Process → made.Frame.Frame → made.Process.Process
+with_top s g = record { top = Some g; waiting = s.waiting }
 
 pub frame_tells : {X : Type 0} (r : Result X Refusal) (p : ProgramModel) (bound : QueueBounds) (ps : List made.Process.Process) (q : ℕ)
     (s : made.Process.Process) (f g : made.Frame.Frame) (i j : Instruction) (choice : ℕ) (before after : List Block)
@@ -72,27 +72,27 @@ pub frame_tells : {X : Type 0} (r : Result X Refusal) (p : ProgramModel) (bound 
     → ((rest : List Frame) → Tells r (outcome_from p bound (the_world (map stack_model ps) before) q (frame_model f) rest j choice)
     (on_top (map stack_model ps) q rest (frame_model g) after))
     → Tells r (on_stack p bound (the_world (map stack_model ps) before) q i choice (stack_at (map stack_model ps) q))
-    (the_world (map stack_model (set ps q (topped s g))) after)
+    (the_world (map stack_model (set ps q (with_top s g))) after)
 frame_tells r p bound ps q s f g i j choice before after short there top is told =
-    stack_tells r p bound ps q s (topped s g) f i j choice before after short there top is (told (map frame_model (reverse s.waiting.items)))
+    stack_tells r p bound ps q s (with_top s g) f i j choice before after short there top is (told (map frame_model (reverse s.waiting.items)))
 
 pub frame_same : {X : Type 0} (r : Result X Refusal) (ps : List made.Process.Process) (q : ℕ) (s : made.Process.Process) (f g : made.Frame.Frame)
     (before after : List Block) → s ≡ get_or ps q s → s.top ≡ Some f → OnErr r (frame_model g ≡ frame_model f) → OnErr r (after ≡ before)
-    → OnErr r (the_world (map stack_model (set ps q (topped s g))) after ≡ the_world (map stack_model ps) before)
+    → OnErr r (the_world (map stack_model (set ps q (with_top s g))) after ≡ the_world (map stack_model ps) before)
 frame_same (Ok x) ps q s f g before after there top same kept = tt
 frame_same {X = X} (Err e) ps q s f g before after there top same kept =
-    stack_same {X = X} (Err e) ps q s (topped s g) f before after there top (ap (λ x. x ∷ map frame_model (reverse s.waiting.items)) same) kept
+    stack_same {X = X} (Err e) ps q s (with_top s g) f before after there top (ap (λ x. x ∷ map frame_model (reverse s.waiting.items)) same) kept
 
 -- a process whose innermost frame was only read
 pub frame_read : (ps : List made.Process.Process) (q : ℕ) (s : made.Process.Process) (f : made.Frame.Frame) → s ≡ get_or ps q s → s.top ≡ Some f
-    → map stack_model (set ps q (topped s f)) ≡ map stack_model ps
+    → map stack_model (set ps q (with_top s f)) ≡ map stack_model ps
 frame_read ps q s f there top =
-    map-set_same stack_model ps q (topped s f) s (sym (ap (λ o. stack_of o s.waiting.items) top) ∙ ap stack_model there)
+    map-set_same stack_model ps q (with_top s f) s (sym (ap (λ o. stack_of o s.waiting.items) top) ∙ ap stack_model there)
 
 -- blocks that no instruction changed
-pub kept : {X : Type 0} (r : Result X Refusal) (blocks : List Block) → OnErr r (blocks ≡ blocks)
-kept (Ok x) blocks = tt
-kept (Err e) blocks = refl
+pub same_blocks : {X : Type 0} (r : Result X Refusal) (blocks : List Block) → OnErr r (blocks ≡ blocks)
+same_blocks (Ok x) blocks = tt
+same_blocks (Err e) blocks = refl
 
 -- an instruction that has one choice, as it lies in memory
 pub one_choice : (p : ProgramModel) (bound : QueueBounds) (w : World) (self : ℕ) (i j : Instruction) (choice : ℕ) (stack : List Frame) → i ≡ j

@@ -5,12 +5,11 @@ use Rattle.program.specs.Programs.{ProgramModel}
 use Rattle.program.specs.declared.statement.Mention.{Mention}
 use Rattle.flow.specs.Cases.{EntranceModel, first_mentions}
 use Rattle.flow.specs.Graphs.{Switch}
-use Rattle.machine.specs.Answers.{front_of}
+use Rattle.machine.specs.Answers.{front_of, own_tests}
 use Rattle.machine.specs.Frames.{address}
 use Rattle.machine.specs.Machine.{outcome_from, receives, receives_from}
 use Rattle.machine.specs.Outcomes.{QueueBounds, after_tests}
 use Rattle.machine.specs.World.{Block, Frame, MessageHeld, World, block_at, read}
-use Rattle.machine.proofs.FrameLemmas.{own_tests}
 
 -- nothing is at the front of a queue that is empty
 pub no_front : (q : List MessageHeld) → front_of q ≡ None → q ≡ []

@@ -1,5 +1,5 @@
 -- For proofs within the crate: what the code answers, in words of the definitions.
-use Rattle.std.specs.Prelude.{◌≡◌, ℕ, ◌==◌, List, [], ◌∷◌, ◌++◌, set, if◌then◌else◌}
+use Rattle.std.specs.Prelude.{◌≡◌, ℕ, ◌==◌, List, [], ◌∷◌, ◌++◌, map, set, if◌then◌else◌}
 use Rattle.std.specs.Prelude.{Option, Result, Ok, Err, Some, None}
 use Rattle.source.specs.declared.place.Place.{Place}
 use Rattle.program.specs.Programs.{ProgramModel}
@@ -8,9 +8,10 @@ use Rattle.program.specs.declared.call.Argument.{Argument}
 use Rattle.program.specs.declared.statement.Mention.{Mention}
 use Rattle.machine.specs.Frames.{address, put}
 use Rattle.machine.specs.Machine.{outcome_from, returns}
-use Rattle.machine.specs.Outcomes.{FaultTest, after_tests, QueueBounds, Outcome, Moved, Faulty, Waits, NoProcess}
-use Rattle.machine.specs.World.{Block, Frame, MessageHeld, World, let_go, read}
+use Rattle.machine.specs.Outcomes.{FaultTest, test, after_tests, QueueBounds, Outcome, Moved, Faulty, Waits, NoProcess}
+use Rattle.machine.specs.World.{Block, Frame, MessageHeld, World, is_own, let_go, read, stack_at}
 use Rattle.machine.specs.declared.halts.Fault.{Fault}
+use Rattle.machine.specs.declared.halts.Fault.TheVariants.{F1}
 use Rattle.machine.specs.declared.halts.Halt.{Halt}
 use Rattle.machine.specs.declared.halts.Halt.TheVariants as halt
 use Rattle.machine.specs.declared.halts.Refusal.{Refusal}
@@ -39,10 +40,35 @@ on_top processes self rest f blocks = record { processes = set processes self (f
 abbrev pub with_variables : Frame → List (Option ℕ) → Frame
 with_variables f variables = record { method = f.method; point = f.point; variables = variables }
 
+-- a process's stack is another
+abbrev pub with_stack : World → ℕ → List Frame → List Block → World
+with_stack w self stack blocks = record { processes = set w.processes self stack; blocks = blocks }
+
 -- what an instruction comes to on a stack
 abbrev pub on_stack : ProgramModel → QueueBounds → World → ℕ → Instruction → ℕ → List Frame → Outcome
 on_stack p bound w self i choice [] = NoProcess
 on_stack p bound w self i choice (f ∷ rest) = outcome_from p bound w self f rest i choice
+
+-- If the frame on top of a process and the blocks are those, an instruction comes to what was answered, whatever else is in the world.
+abbrev pub TellsFrame : {X : Type 0} → ProgramModel → QueueBounds → (self : ℕ) → Instruction → (choice : ℕ) → Result X Refusal →
+    (old new : Frame × List Block) → Type 0
+TellsFrame p bound self i choice answer old new = (w : World) (rest : List Frame) → w.blocks ≡ old.1 →
+    Tells answer (outcome_from p bound w self old.0 rest i choice) (on_top w.processes self rest new.0 new.1)
+
+-- If those are the frames of a process and the blocks, an instruction without choice comes to what was answered.
+abbrev pub TellsStack : {X : Type 0} → ProgramModel → QueueBounds → (self : ℕ) → Instruction → Result X Refusal →
+    (old new : List Frame) → List Block → Type 0
+TellsStack p bound self i answer old new blocks = (w : World) → w.blocks ≡ blocks →
+    Tells answer (on_stack p bound w self i 0 old) (with_stack w self new blocks)
+
+-- In that world an instruction of a process comes to what was answered.
+abbrev pub TellsWorld : {X : Type 0} → ProgramModel → QueueBounds → (self : ℕ) → Instruction → (choice : ℕ) → Result X Refusal →
+    (old new : World) → Type 0
+TellsWorld p bound self i choice answer old new = Tells answer (on_stack p bound old self i choice (stack_at old.processes self)) new
+
+-- the tests that a process has the block in each of these variables
+abbrev pub own_tests : List Block → (self : ℕ) → List (Option ℕ) → List Mention → List FaultTest
+own_tests blocks self variables mentions = map (λ v. test (is_own blocks self (read variables v.variable.0)) F1) mentions
 
 -- what the end of the innermost frame of a stack comes to, where it gives what a variable has
 abbrev pub outcome_of_end : ProgramModel → QueueBounds → World → ℕ → Option Mention → List Frame → Outcome
@@ -64,10 +90,6 @@ entered_on begun arguments (f ∷ rest) = begun ∷ with_variables f (let_go f.v
 abbrev pub went_on : List Argument → ℕ → List Frame → List Frame
 went_on arguments next [] = []
 went_on arguments next (f ∷ rest) = record { method = f.method; point = next; variables = let_go f.variables arguments } ∷ rest
-
--- a process's stack is another
-abbrev pub with_stack : World → ℕ → List Frame → List Block → World
-with_stack w self stack blocks = record { processes = set w.processes self stack; blocks = blocks }
 
 -- all these tests pass
 abbrev pub Pass : List FaultTest → Type 0

@@ -1,6 +1,6 @@
 -- What becomes of blocks, each by its address, and what is asked of them.
 use Rattle.std.specs.Prelude.{ℕ, zero, suc, ◌==◌, nat_lt, Bool, true, false, not, ◌&&◌, ◌||◌, if◌then◌else◌}
-use Rattle.std.specs.Prelude.{List, [], ◌∷◌, ◌++◌, length, Option, Some, None, is_some, set}
+use Rattle.std.specs.Prelude.{List, [], ◌∷◌, ◌++◌, length, Option, Some, None, is_some, unwrap_or, set}
 use Rattle.program.specs.Lists.{is_among}
 use Rattle.program.specs.Programs.{ProgramModel}
 use Rattle.program.specs.declared.call.Argument.{Argument}
@@ -111,25 +111,38 @@ is_own_still blocks self taken None = false
 is_own_still blocks self taken (Some a) = owns blocks self a && not (is_among taken a)
 
 -- the tests of arguments, in order: what is lent, and what is claimed
-abbrev pub argument_tests_in : List Block → ℕ → List (Option ℕ) → List ℕ → List Argument → List FaultTest
-argument_tests_in blocks self variables taken [] = []
-argument_tests_in blocks self variables taken (a ∷ arguments) =
+abbrev pub argument_tests : List Block → ℕ → List (Option ℕ) → List ℕ → List Argument → List FaultTest
+argument_tests blocks self variables taken [] = []
+argument_tests blocks self variables taken (a ∷ arguments) =
     test (is_own_still blocks self taken (read variables a.mention.variable.0)) (if a.claimed then F3 else F1)
-    ∷ argument_tests_in blocks self variables (if a.claimed then address (read variables a.mention.variable.0) ∷ taken else taken) arguments
+    ∷ argument_tests blocks self variables (if a.claimed then address (read variables a.mention.variable.0) ∷ taken else taken) arguments
 
 -- the state behind the edge along which the endpoint at an address sends a message
 abbrev pub sent_state : ProgramModel → List Block → (at message : ℕ) → Option ℕ
 sent_state p blocks at message = end_on (edges_out p (Some (block_at blocks at).ty) (block_at blocks at).state) message
 
--- the state behind the edge along which it receives one
+-- whether the endpoint at an address may send a message: it is cut off, or its state has such an edge
+abbrev pub may_send : ProgramModel → List Block → (at message : ℕ) → Bool
+may_send p blocks at message = cut_off blocks at || is_some (sent_state p blocks at message)
+
+-- the state of the endpoint at an address behind a send; where it is cut off, the state stays
+abbrev pub state_after_send : ProgramModel → List Block → (at message : ℕ) → ℕ
+state_after_send p blocks at message =
+    if cut_off blocks at then (block_at blocks at).state else unwrap_or (sent_state p blocks at message) (block_at blocks at).state
+
+-- whether the endpoint at an address may take one more message, unless it is freed
+abbrev pub has_room : QueueBounds → List Block → ℕ → Bool
+has_room bound blocks to = is_freed_at blocks to || nat_lt (length (block_at blocks to).queue) (bound_of bound (block_at blocks to).ty)
+
+-- the tests of a send behind those of what it names
+abbrev pub send_tests : ProgramModel → QueueBounds → List Block → (at message : ℕ) → List FaultTest
+send_tests p bound blocks at message =
+    test (may_send p blocks at message) F4 ∷ test (has_room bound blocks (block_at blocks at).peer) F6 ∷ []
+
+-- the state behind the edge along which the endpoint at an address receives a message
 abbrev pub received_state : ProgramModel → List Block → (at message : ℕ) → Option ℕ
 received_state p blocks at message = end_on (edges_in p (Some (block_at blocks at).ty) (block_at blocks at).state) message
 
--- whether the endpoint at an address may take one more message, unless it is freed
-abbrev pub has_room_in : QueueBounds → List Block → ℕ → Bool
-has_room_in bound blocks to = is_freed_at blocks to || nat_lt (length (block_at blocks to).queue) (bound_of bound (block_at blocks to).ty)
-
--- the tests of a send behind those of what it names
-abbrev pub send_tests_in : QueueBounds → List Block → ℕ → Option ℕ → List FaultTest
-send_tests_in bound blocks at edge =
-    test (cut_off blocks at || is_some edge) F4 ∷ test (has_room_in bound blocks (block_at blocks at).peer) F6 ∷ []
+-- the state of the endpoint at an address behind a receive; where there is no such edge, the state stays
+abbrev pub state_after_receive : ProgramModel → List Block → (at message : ℕ) → ℕ
+state_after_receive p blocks at message = unwrap_or (received_state p blocks at message) (block_at blocks at).state

@@ -1,8 +1,7 @@
 -- What each instruction of a process tests and changes.
-use Rattle.std.specs.Prelude.{ℕ, ◌+◌, ◌==◌, Bool, if◌then◌else◌, Option, Some, None, unwrap_or}
+use Rattle.std.specs.Prelude.{ℕ, ◌+◌, ◌==◌, if◌then◌else◌, Option, Some, None}
 use Rattle.std.specs.Prelude.{List, [], ◌∷◌, ◌++◌, map, length, slice_get, set}
 use Rattle.program.specs.Programs.{ProgramModel}
-use Rattle.program.specs.declared.call.Argument.{Argument}
 use Rattle.program.specs.declared.types.Side.TheVariants.{Imp, Exp}
 use Rattle.program.specs.declared.statement as stated
 use Rattle.program.specs.declared.statement.Mention.{Mention}
@@ -12,14 +11,13 @@ use Rattle.flow.specs.Graphs.{Return, Stop}
 use Rattle.flow.specs.declared.graph.Branches.{Branches}
 use Rattle.flow.specs.declared.graph.Branches.TheVariants.{Either, Only}
 use Rattle.rules.specs.Endpoints.{first_state}
-use Rattle.machine.specs.Blocks.{argument_tests_in, has_room_in, is_own_still, owns_none, send_tests_in}
-use Rattle.machine.specs.Blocks.{received_state, sent_state}
+use Rattle.machine.specs.Blocks.{argument_tests, is_own_still, owns_none, send_tests, state_after_receive, state_after_send}
 use Rattle.machine.specs.Blocks.{end_type, exchanged_block, freed_block, goes_with, is_imp, new_block, received_block, sent_block}
 use Rattle.machine.specs.Blocks.{with_new_owner}
 use Rattle.machine.specs.Frames.{call_next, call_target, frame_at_entry, instruction_at, type_at, method_at, variables_of}
 use Rattle.machine.specs.Frames.{address, addresses, bound_to, out_of_scope, gone_with, payloads_claimed, put}
 use Rattle.machine.specs.Outcomes.{QueueBounds, Outcome, Moved, Faulty, Waits, NoChoice, FaultTest, test, after_tests}
-use Rattle.machine.specs.World.{Block, Frame, MessageHeld, World, block_at, change_each, cut_off, is_freed_at, is_own_in, let_go, read}
+use Rattle.machine.specs.World.{Block, Frame, MessageHeld, World, block_at, change_each, is_freed_at, is_own, let_go, read}
 use Rattle.machine.specs.declared.halts.Fault.TheVariants.{F1, F2, F3, F5, F7}
 use Rattle.machine.specs.declared.worlds.Owner.TheVariants.{Process, Inside}
 
@@ -41,36 +39,12 @@ module _ (p : ProgramModel) (bound : QueueBounds) (w : World) (self : ℕ) (f : 
   abbrev pub has : Mention → Option ℕ
   has v = read f.variables v.variable.0
 
-  -- the process has the block in a variable
-  abbrev pub is_own : Option ℕ → Bool
-  is_own x = is_own_in w.blocks self x
-
-  -- the tests of arguments, in order
-  abbrev pub argument_tests : List ℕ → List Argument → List FaultTest
-  argument_tests taken arguments = argument_tests_in w.blocks self f.variables taken arguments
-
   -- the endpoint at an address sends
-  abbrev pub send_from : (at : ℕ) → MessageHeld → Option ℕ → List (Option ℕ) → ℕ → Outcome
-  send_from at message edge variables next =
+  abbrev pub send_from : (at : ℕ) → MessageHeld → List (Option ℕ) → ℕ → Outcome
+  send_from at message variables next =
+      let to = (block_at w.blocks at).peer in
       on next variables
-      (change_each (sent_block at
-      (if cut_off w.blocks at then (block_at w.blocks at).state else unwrap_or edge (block_at w.blocks at).state)
-      (block_at w.blocks at).peer (is_freed_at w.blocks (block_at w.blocks at).peer) message) w.blocks)
-
-  -- whether a queue may take one more message
-  abbrev pub has_room : ℕ → Bool
-  has_room to = has_room_in bound w.blocks to
-
-  -- the tests of a send behind those of what it names
-  abbrev pub send_tests : ℕ → Option ℕ → List FaultTest
-  send_tests at edge = send_tests_in bound w.blocks at edge
-
-  -- the state behind the edge of the endpoint at an address, out and in
-  abbrev pub state_by_send : ℕ → ℕ → Option ℕ
-  state_by_send at message = sent_state p w.blocks at message
-
-  abbrev pub state_by_receive : ℕ → ℕ → Option ℕ
-  state_by_receive at message = received_state p w.blocks at message
+      (change_each (sent_block at (state_after_send p w.blocks at message.message) to (is_freed_at w.blocks to) message) w.blocks)
 
   -- a close comes to a case
   abbrev pub closes_at : Option EntranceModel → Outcome
@@ -82,7 +56,7 @@ module _ (p : ProgramModel) (bound : QueueBounds) (w : World) (self : ℕ) (f : 
   receives_at None at m ms = Faulty F5
   receives_at (Some c) at m ms =
       on c.next (bound_to f.variables c.targets m.payload)
-      (change_each (received_block self at (unwrap_or (state_by_receive at m.message) (block_at w.blocks at).state) m ms) w.blocks)
+      (change_each (received_block self at (state_after_receive p w.blocks at m.message) m ms) w.blocks)
 
   -- what comes at an endpoint with this queue
   abbrev pub receives : List EntranceModel → ℕ → ℕ → List MessageHeld → Outcome
@@ -106,7 +80,7 @@ module _ (p : ProgramModel) (bound : QueueBounds) (w : World) (self : ℕ) (f : 
   -- the test of what a frame gives
   abbrev pub value_tests : Option Mention → List FaultTest
   value_tests None = []
-  value_tests (Some v) = test (is_own (has v)) F3 ∷ []
+  value_tests (Some v) = test (is_own w.blocks self (has v)) F3 ∷ []
 
   -- A variable and a field of the block at an address change places, where the field holds something. Where that block has no such field
   -- nothing changes.
@@ -118,10 +92,10 @@ module _ (p : ProgramModel) (bound : QueueBounds) (w : World) (self : ℕ) (f : 
 
   -- a line for each instruction
   abbrev pub outcome_from : Instruction → (choice : ℕ) → Outcome
-  outcome_from (Use v next) choice = after_tests (test (is_own (has v)) F1 ∷ []) (on next f.variables w.blocks)
+  outcome_from (Use v next) choice = after_tests (test (is_own w.blocks self (has v)) F1 ∷ []) (on next f.variables w.blocks)
   outcome_from (New v arguments next) choice =
       let given = payloads_claimed arguments in
-      after_tests (argument_tests [] given)
+      after_tests (argument_tests w.blocks self f.variables [] given)
       (on next (set (let_go f.variables given) v.variable.0 (Some (length w.blocks)))
       (change_each (with_new_owner (Inside (length w.blocks)) (addresses f.variables given)) w.blocks
       ++ new_block (type_at (variables_of p f.method) v.variable.0) self 0 0 (addresses f.variables given) ∷ []))
@@ -134,34 +108,36 @@ module _ (p : ProgramModel) (bound : QueueBounds) (w : World) (self : ℕ) (f : 
       (Some (if first_is_imp then a + 1 else a)))
       (w.blocks ++ new_block (end_type c Imp) self (a + 1) begins [] ∷ new_block (end_type c Exp) self a begins [] ∷ [])
   outcome_from (Move v u next) choice =
-      after_tests (test (is_own (has u)) F1 ∷ []) (on next (set (set f.variables v.variable.0 (has u)) u.variable.0 None) w.blocks)
+      after_tests (test (is_own w.blocks self (has u)) F1 ∷ [])
+      (on next (set (set f.variables v.variable.0 (has u)) u.variable.0 None) w.blocks)
   outcome_from (Delete v next) choice =
-      after_tests (test (is_own (has v)) F2 ∷ [])
+      after_tests (test (is_own w.blocks self (has v)) F2 ∷ [])
       (on next (set f.variables v.variable.0 None) (change_each (freed_block (goes_with w.blocks (address (has v)))) w.blocks))
   outcome_from (Exchange e next) choice =
       after_tests
-      (test (is_own (has e.holder)) F1
+      (test (is_own w.blocks self (has e.holder)) F1
       ∷ test (is_own_still w.blocks self (address (has e.holder) ∷ []) (has e.given)) F3
       ∷ [])
       (exchanges e next (slice_get (block_at w.blocks (address (has e.holder))).fields e.field))
   outcome_from (Send place e message payloads next) choice =
       let at = address (has e) in
       let given = payloads_claimed payloads in
-      after_tests (test (is_own (has e)) F1 ∷ (argument_tests [] given ++ send_tests at (state_by_send at message.0)))
-      (send_from at record { message = message.0; payload = addresses f.variables given } (state_by_send at message.0)
-      (let_go f.variables given) next)
+      after_tests
+      (test (is_own w.blocks self (has e)) F1
+      ∷ (argument_tests w.blocks self f.variables [] given ++ send_tests p bound w.blocks at message.0))
+      (send_from at record { message = message.0; payload = addresses f.variables given } (let_go f.variables given) next)
   outcome_from (Switch place cases) choice =
-      after_tests (map (λ e. test (is_own (has e)) F1) (first_mentions [] cases))
+      after_tests (map (λ e. test (is_own w.blocks self (has e)) F1) (first_mentions [] cases))
       (receives_from cases (slice_get (first_mentions [] cases) choice))
   outcome_from (Branch place branches) choice = on (way branches choice) f.variables w.blocks
   outcome_from (Forget g next) choice = on next (out_of_scope f.variables (gone_with (method_at p f.method) g)) w.blocks
   outcome_from (Call place method arguments target next) choice =
-      after_tests (argument_tests [] arguments)
+      after_tests (argument_tests w.blocks self f.variables [] arguments)
       (goes
       (frame_at_entry p method.0 (map (λ a. has a.mention) arguments)
       ∷ record { method = f.method; point = f.point; variables = let_go f.variables arguments } ∷ rest) w.blocks)
   outcome_from (Start place method arguments next) choice =
-      after_tests (argument_tests [] arguments)
+      after_tests (argument_tests w.blocks self f.variables [] arguments)
       (Moved record {
         processes = set w.processes self (record { method = f.method; point = next; variables = let_go f.variables arguments } ∷ rest)
             ++ (frame_at_entry p method.0 (map (λ a. has a.mention) arguments) ∷ []) ∷ [];

@@ -2,7 +2,8 @@
 use Rattle.std.specs.Prelude.{ℕ, List, [], ◌∷◌, Option, Some, None, map, reverse}
 pub use Rattle.machine.specs.BlockViews.{held_model, block_model, blocks_model}
 use Rattle.machine.specs.Bindings.{MayTake, variables_in}
-use Rattle.machine.specs.World.{Frame, World}
+use Rattle.machine.specs.World.{Block, Frame, World}
+use Rattle.machine.specs.declared.heaps.BlockHeap.{BlockHeap}
 use Rattle.machine.specs.declared.variables.Variables.{Variables}
 use Rattle.machine.specs.declared.worlds as made
 
@@ -31,6 +32,10 @@ stack_of (Some f) waiting = frame_model f ∷ map frame_model (reverse waiting)
 abbrev pub stack_model : made.Process.Process → List Frame
 stack_model p = stack_of p.top p.waiting.items
 
+-- the blocks of a heap
+abbrev pub heap_model : BlockHeap → List Block
+heap_model h = blocks_model h.blocks.items
+
 -- a world
 abbrev pub world_model : made.World.World → World
-world_model w = record { processes = map stack_model w.processes.items; blocks = blocks_model w.heap.blocks.items }
+world_model w = record { processes = map stack_model w.processes.items; blocks = heap_model w.heap }

@@ -82,9 +82,9 @@ abbrev pub owns : List Block → ℕ → ℕ → Bool
 owns blocks q a = is_process (block_at blocks a).owner q
 
 -- the process has the block in a variable
-abbrev pub is_own_in : List Block → ℕ → Option ℕ → Bool
-is_own_in blocks self None = false
-is_own_in blocks self (Some a) = owns blocks self a
+abbrev pub is_own : List Block → ℕ → Option ℕ → Bool
+is_own blocks self None = false
+is_own blocks self (Some a) = owns blocks self a
 
 -- the block is freed
 abbrev pub is_freed_at : List Block → ℕ → Bool

@@ -6,11 +6,10 @@ ghost use Rattle.flow.specs.declared.graph.Instr.{Instr};
 ghost use Rattle.program.specs.Methods.{variable_model};
 ghost use Rattle.program.specs.WellFormed as formed;
 ghost use Rattle.rules.specs.Programs.{model_of};
-ghost use Rattle.machine.specs.Answers.{Tells, entered_on, on_stack, with_stack};
+ghost use Rattle.machine.specs.Answers.{TellsStack, entered_on};
 ghost use Rattle.machine.specs.Frames.{frame_at_entry, variables_at_entry};
 ghost use Rattle.machine.specs.Outcomes.{QueueBounds};
 ghost use Rattle.machine.specs.Views.{blocks_model, frame_model, stack_model, variables_model};
-ghost use Rattle.machine.specs.World as seen;
 ghost use Rattle.machine.specs.World.{read};
 
 use crate::giving::first_fault;
@@ -41,7 +40,8 @@ fn fill(
     variables: &[Variable],
     arguments: &[Argument],
 ) -> Result<Variables, Refusal>
-    ensures filled { IfOk result (λ has. variables_model has ≡ variables_at_entry (map variable_model variables.now)
+    ensures filled { IfOk result (λ has. variables_model has
+        ≡ variables_at_entry (map variable_model variables.now)
         (map (λ a. read (frame_model frame.now).variables a.mention.variable.0) arguments.now)) }
     ensures memory { IfErr result (λ refusal. refusal ≡ Refusal.Memory) }
 {
@@ -66,7 +66,8 @@ pub(crate) fn enter(
     method: MethodId,
     arguments: &[Argument],
 ) -> Result<Frame, Refusal>
-    ensures entered { IfOk result (λ begun. frame_model begun ≡ frame_at_entry (model_of program.now) method.0
+    ensures entered { IfOk result (λ begun. frame_model begun
+        ≡ frame_at_entry (model_of program.now) method.0
         (map (λ a. read (frame_model frame.now).variables a.mention.variable.0) arguments.now)) }
     ensures memory { IfErr result (λ refusal. refusal ≡ Refusal.Memory) }
 {
@@ -87,7 +88,8 @@ pub(crate) fn enter(
 
 /// A frame is put on top of the one that calls, which lets go what is claimed of the arguments.
 fn push_frame(stack: &mut Process, begun: Frame, arguments: &[Argument]) -> Result<(), Refusal>
-    ensures pushed { OnOk result (stack_model stack.new ≡ entered_on (frame_model begun) arguments.now (stack_model stack.old)) }
+    ensures pushed { OnOk result (stack_model stack.new
+        ≡ entered_on (frame_model begun) arguments.now (stack_model stack.old)) }
     ensures same { OnErr result (stack_model stack.new ≡ stack_model stack.old) }
     ensures memory { IfErr result (λ refusal. refusal ≡ Refusal.Memory) }
 {
@@ -108,10 +110,10 @@ pub(crate) fn call(
     blocks: &[Block],
     calling: &Calling,
 ) -> Result<(), Refusal>
-    ensures tells { (bound : QueueBounds) (w : seen.World) → w.blocks ≡ blocks_model blocks.now →
-        Tells result (on_stack (model_of turn.now.program.now) bound w turn.now.process (instruction_model (Instr.Call calling.now)) 0
-        (stack_model stack.old))
-        (with_stack w turn.now.process (stack_model stack.new) (blocks_model blocks.now)) }
+    ensures tells { (bound : QueueBounds)
+        → TellsStack (model_of turn.now.program.now) bound turn.now.process
+        (instruction_model (Instr.Call calling.now)) result (stack_model stack.old)
+        (stack_model stack.new) (blocks_model blocks.now) }
     ensures same { OnErr result (stack_model stack.new ≡ stack_model stack.old) }
 {
     let Some(frame) = &stack.top else {

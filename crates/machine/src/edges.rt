@@ -1,7 +1,7 @@
 //! What the contract of an endpoint says of its channel.
 
-ghost use Rattle.std.specs.Prelude.{◌≡◌, ◌<◌, ◌||◌, IfErr, IfOk, IsTrue, MatchOption, Some, false, if◌then◌else◌};
-ghost use Rattle.std.specs.Prelude.{is_some, length, true, unwrap_or, ℕ};
+ghost use Rattle.std.specs.Prelude.{◌≡◌, ◌<◌, IfErr, IfOk, IsTrue, MatchOption, Some, false};
+ghost use Rattle.std.specs.Prelude.{length, true, ℕ};
 ghost use Rattle.program.specs.Programs.{ProgramModel};
 ghost use Rattle.contracts.specs.Bounds.{sign_to};
 ghost use Rattle.contracts.specs.Leaving.{sign_from};
@@ -9,11 +9,11 @@ ghost use Rattle.rules.specs.Endpoints.{edges_in, edges_out};
 ghost use Rattle.rules.specs.Programs.{model_of};
 ghost use Rattle.machine.specs.Answers.{IsRefusal, Pass};
 ghost use Rattle.machine.specs.Blocks as told;
-ghost use Rattle.machine.specs.Blocks.{received_state, sent_state, has_room_in, send_tests_in};
+ghost use Rattle.machine.specs.Blocks.{has_room, may_send, send_tests, state_after_receive, state_after_send};
 ghost use Rattle.machine.specs.Outcomes.{QueueBounds};
 ghost use Rattle.machine.specs.Runs.{AreBounds};
 ghost use Rattle.machine.specs.Views.{blocks_model};
-ghost use Rattle.machine.specs.World.{block_at, cut_off, is_freed_at, no_type};
+ghost use Rattle.machine.specs.World.{block_at, is_freed_at, no_type};
 
 use crate::halts::{Fault, Refusal};
 use crate::reading::{is_cut_off, is_freed, peer_of, queue_length, state_of, type_of};
@@ -32,7 +32,8 @@ pub(crate) struct Way {
 
 /// How many messages the queue to an end of a contract may hold; none, where there is no such contract.
 fn bound_at(program: &Program, contract: ContractId, side: Side) -> u32
-    ensures { (bound : QueueBounds) → AreBounds (model_of program.now) bound → result ≡ bound contract.0 side }
+    ensures { (bound : QueueBounds) → AreBounds (model_of program.now) bound
+        → result ≡ bound contract.0 side }
 {
     match program.sounds().get(contract.0 as usize) {
         Some(sound) => sound.bound(side),
@@ -42,7 +43,8 @@ fn bound_at(program: &Program, contract: ContractId, side: Side) -> u32
 
 /// How many messages the queue to an endpoint of this type may hold.
 fn bound_of(program: &Program, ty: HeapType) -> u32
-    ensures bound { (bound : QueueBounds) → AreBounds (model_of program.now) bound → result ≡ told.bound_of bound ty }
+    ensures bound { (bound : QueueBounds) → AreBounds (model_of program.now) bound
+        → result ≡ told.bound_of bound ty }
     ensures none { ty ≡ no_type → result ≡ 0 }
 {
     match ty {
@@ -54,8 +56,9 @@ fn bound_of(program: &Program, ty: HeapType) -> u32
 /// Whether the queue of an endpoint may take one more message, unless it is freed.
 fn has_room(program: &Program, blocks: &[Block], to: usize) -> bool
     ensures room { (bound : QueueBounds) → AreBounds (model_of program.now) bound
-        → result ≡ has_room_in bound (blocks_model blocks.now) to }
-    ensures there { IsTrue result → is_freed_at (blocks_model blocks.now) to ≡ false → to < length (blocks_model blocks.now) }
+        → result ≡ has_room bound (blocks_model blocks.now) to }
+    ensures there { IsTrue result → is_freed_at (blocks_model blocks.now) to ≡ false
+        → to < length (blocks_model blocks.now) }
 {
     is_freed(blocks, to)
         || queue_length(blocks, to) < bound_of(program, type_of(blocks, to)) as usize
@@ -70,12 +73,9 @@ fn state_behind(
     message: MessageId,
 ) -> Option<StateId>
     ensures { MatchOption result
-        ((cut_off (blocks_model blocks.now) at || is_some (sent_state (model_of program.now) (blocks_model blocks.now) at message.0))
-        ≡ false)
-        (λ q. ((cut_off (blocks_model blocks.now) at || is_some (sent_state (model_of program.now) (blocks_model blocks.now) at message.0))
-        ≡ true) × (q.0 ≡ (if cut_off (blocks_model blocks.now) at then (block_at (blocks_model blocks.now) at).state
-        else unwrap_or (sent_state (model_of program.now) (blocks_model blocks.now) at message.0)
-        (block_at (blocks_model blocks.now) at).state))) }
+        (may_send (model_of program.now) (blocks_model blocks.now) at message.0 ≡ false)
+        (λ q. (may_send (model_of program.now) (blocks_model blocks.now) at message.0 ≡ true)
+        × (q.0 ≡ state_after_send (model_of program.now) (blocks_model blocks.now) at message.0)) }
 {
     let state = state_of(blocks, at);
     if is_cut_off(blocks, at) {
@@ -91,20 +91,21 @@ pub(crate) fn way_out(
     at: usize,
     message: MessageId,
 ) -> Result<Way, Refusal>
-    ensures pass { IfOk result (λ way. (bound : QueueBounds) → AreBounds (model_of program.now) bound
-        → Pass (send_tests_in bound (blocks_model blocks.now) at
-        (sent_state (model_of program.now) (blocks_model blocks.now) at message.0))) }
+    ensures pass { IfOk result (λ way. (bound : QueueBounds)
+        → AreBounds (model_of program.now) bound
+        → Pass (send_tests (model_of program.now) bound (blocks_model blocks.now) at message.0)) }
     ensures at { IfOk result (λ way. way.at ≡ at) }
     ensures peer { IfOk result (λ way. way.peer ≡ (block_at (blocks_model blocks.now) at).peer) }
-    ensures gone { IfOk result (λ way. way.gone ≡ is_freed_at (blocks_model blocks.now) (block_at (blocks_model blocks.now) at).peer) }
-    ensures state { IfOk result (λ way. way.state.0 ≡ (if cut_off (blocks_model blocks.now) at then
-        (block_at (blocks_model blocks.now) at).state
-        else unwrap_or (sent_state (model_of program.now) (blocks_model blocks.now) at message.0)
-        (block_at (blocks_model blocks.now) at).state)) }
-    ensures there { IfOk result (λ way. way.gone ≡ false → way.peer < length (blocks_model blocks.now)) }
-    ensures refusal { IfErr result (λ refusal. (bound : QueueBounds) → AreBounds (model_of program.now) bound → IsRefusal refusal
-        (send_tests_in bound (blocks_model blocks.now) at
-        (sent_state (model_of program.now) (blocks_model blocks.now) at message.0))) }
+    ensures gone { IfOk result (λ way. way.gone
+        ≡ is_freed_at (blocks_model blocks.now) (block_at (blocks_model blocks.now) at).peer) }
+    ensures state { IfOk result (λ way. way.state.0
+        ≡ state_after_send (model_of program.now) (blocks_model blocks.now) at message.0) }
+    ensures there { IfOk result (λ way. way.gone ≡ false
+        → way.peer < length (blocks_model blocks.now)) }
+    ensures refusal { IfErr result
+        (λ refusal. (bound : QueueBounds) → AreBounds (model_of program.now) bound
+        → IsRefusal refusal (send_tests (model_of program.now) bound
+        (blocks_model blocks.now) at message.0)) }
 {
     let Some(state) = state_behind(program, blocks, at, message) else {
         return Err(Refusal::Fault(Fault::F4));
@@ -156,8 +157,8 @@ pub(crate) fn state_received(
     at: usize,
     message: MessageId,
 ) -> StateId
-    ensures { result.0 ≡ unwrap_or (received_state (model_of program.now) (blocks_model blocks.now) at message.0)
-        (block_at (blocks_model blocks.now) at).state }
+    ensures { result.0 ≡ state_after_receive (model_of program.now)
+        (blocks_model blocks.now) at message.0 }
 {
     let state = state_of(blocks, at);
     match program.state_after_send(Some(other_end(type_of(blocks, at))), state.0, message) {

@@ -1,14 +1,12 @@
 //! A variable and a field of a block change places.
 
-ghost use Rattle.std.specs.Prelude.{◌≡◌, ◌∷◌, [], IfSome, List, MatchOption, OnErr, Some, false, true};
+ghost use Rattle.std.specs.Prelude.{◌≡◌, ◌∷◌, [], IfSome, MatchOption, OnErr, Some, false, true};
 ghost use Rattle.program.specs.Programs.{ProgramModel};
 ghost use Rattle.flow.specs.Graphs as instruction;
-ghost use Rattle.machine.specs.Answers.{Tells, on_top};
 ghost use Rattle.machine.specs.Blocks.{is_own_still};
-ghost use Rattle.machine.specs.Machine.{outcome_from};
 ghost use Rattle.machine.specs.Outcomes.{QueueBounds};
-ghost use Rattle.machine.specs.Views.{blocks_model, frame_model};
-ghost use Rattle.machine.specs.World as seen;
+ghost use Rattle.machine.specs.Views.{blocks_model, frame_model, heap_model};
+ghost use Rattle.machine.specs.Answers.{TellsFrame};
 
 use crate::halts::{Fault, Refusal};
 use crate::heaps::BlockHeap;
@@ -19,7 +17,8 @@ use program::Exchange;
 /// The address, where the process has the block and it is not the one at another address.
 fn own_apart(blocks: &[Block], process: usize, at: usize, address: Option<usize>) -> Option<usize>
     ensures some { IfSome result (λ a. address ≡ Some a) }
-    ensures own { MatchOption result (is_own_still (blocks_model blocks.now) process (at ∷ []) address ≡ false)
+    ensures own { MatchOption result
+        (is_own_still (blocks_model blocks.now) process (at ∷ []) address ≡ false)
         (λ a. is_own_still (blocks_model blocks.now) process (at ∷ []) address ≡ true) }
 {
     let a = own(blocks, process, address)?;
@@ -38,12 +37,11 @@ pub(crate) fn exchange(
     e: Exchange,
     next: usize,
 ) -> Result<(), Refusal>
-    ensures tells { (p : ProgramModel) (bound : QueueBounds) (w : seen.World) (rest : List seen.Frame) →
-        w.blocks ≡ blocks_model heap.old.blocks.items →
-        Tells result (outcome_from p bound w process (frame_model frame.old) rest (instruction.Exchange e next) 0)
-        (on_top w.processes process rest (frame_model frame.new) (blocks_model heap.new.blocks.items)) }
+    ensures tells { (p : ProgramModel) (bound : QueueBounds)
+        → TellsFrame p bound process (instruction.Exchange e next) 0 result
+        (frame_model frame.old, heap_model heap.old) (frame_model frame.new, heap_model heap.new) }
     ensures same { OnErr result (frame_model frame.new ≡ frame_model frame.old) }
-    ensures same_blocks { OnErr result (blocks_model heap.new.blocks.items ≡ blocks_model heap.old.blocks.items) }
+    ensures same_blocks { OnErr result (heap_model heap.new ≡ heap_model heap.old) }
 {
     let Some(at) = own(heap.blocks(), process, frame.has(e.holder)) else {
         return Err(Refusal::Fault(Fault::F1));

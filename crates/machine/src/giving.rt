@@ -4,7 +4,7 @@ ghost use Rattle.std.specs.Prelude.{◌≡◌, ◌∷◌, [], IfErr, IfOk, IfSom
 ghost use Rattle.program.specs.Lists.{is_among};
 ghost use Rattle.rules.specs.Checks.{AreIn};
 ghost use Rattle.machine.specs.Answers.{IsFirstFault, claimed_in};
-ghost use Rattle.machine.specs.Blocks.{argument_tests_in, is_own_still};
+ghost use Rattle.machine.specs.Blocks.{argument_tests, is_own_still};
 ghost use Rattle.machine.specs.Frames as told;
 ghost use Rattle.machine.specs.Views.{blocks_model, frame_model};
 ghost use Rattle.machine.specs.World.{read};
@@ -68,7 +68,7 @@ fn first_fault_by_set(
     arguments: &[Argument],
 ) -> Result<Option<Fault>, Refusal>
     ensures { IfOk result (λ first. IsFirstFault first
-        (argument_tests_in (blocks_model blocks.now) process (frame_model frame.now).variables [] arguments.now)) }
+        (argument_tests (blocks_model blocks.now) process (frame_model frame.now).variables [] arguments.now)) }
 {
     let mut taken = BTreeSet::new(alloc);
     for argument in arguments {
@@ -118,7 +118,7 @@ fn first_fault_by_scan(
     arguments: &[Argument],
 ) -> Option<Fault>
     ensures { IsFirstFault result
-        (argument_tests_in (blocks_model blocks.now) process (frame_model frame.now).variables [] arguments.now) }
+        (argument_tests (blocks_model blocks.now) process (frame_model frame.now).variables [] arguments.now) }
 {
     for (number, argument) in arguments.iter().enumerate() {
         if !is_unclaimed(
@@ -146,7 +146,7 @@ pub(crate) fn first_fault(
     arguments: &[Argument],
 ) -> Option<Fault>
     ensures { IsFirstFault result
-        (argument_tests_in (blocks_model blocks.now) process (frame_model frame.now).variables [] arguments.now) }
+        (argument_tests (blocks_model blocks.now) process (frame_model frame.now).variables [] arguments.now) }
 {
     match first_fault_by_set(alloc, frame, blocks, process, arguments) {
         Ok(first) => first,

@@ -28,9 +28,11 @@ pub(crate) struct BlockHeap {
 }
 
 impl BlockHeap {
+    ghost use Rattle.machine.specs.Views.{heap_model};
+
     /// A heap of no block.
     pub(crate) fn new(alloc: Global) -> BlockHeap
-        ensures { blocks_model result.blocks.items ≡ [] }
+        ensures { heap_model result ≡ [] }
     {
         BlockHeap {
             blocks: Vec::new(alloc),
@@ -47,14 +49,14 @@ impl BlockHeap {
 
     /// Whether a process owns nothing.
     pub(crate) fn owns_none(&self, process: usize) -> bool
-        ensures { result ≡ owns_none (blocks_model self.now.blocks.items) process }
+        ensures { result ≡ owns_none (heap_model self.now) process }
     {
         process >= self.counts.len() || self.counts[process] == 0
     }
 
     /// There is a count for a process from now on. It is asked for before the process is first given a block.
     pub(crate) fn list(&mut self, process: usize) -> Result<(), Refusal>
-        ensures same { blocks_model self.new.blocks.items ≡ blocks_model self.old.blocks.items }
+        ensures same { heap_model self.new ≡ heap_model self.old }
         ensures listed { OnOk result (process < length self.new.counts.items) }
         ensures memory { IfErr result (λ refusal. refusal ≡ Refusal.Memory) }
     {
@@ -72,12 +74,12 @@ impl BlockHeap {
         ty: HeapType,
         given: &[usize],
     ) -> Result<(), Refusal>
-        requires owned { AreOwnedBy (blocks_model self.old.blocks.items) process given.now }
+        requires owned { AreOwnedBy (heap_model self.old) process given.now }
         requires once { AreOnce given.now }
-        ensures added { OnOk result (blocks_model self.new.blocks.items
-            ≡ change_each (with_new_owner (Owner.Inside (length (blocks_model self.old.blocks.items))) given.now)
-            (blocks_model self.old.blocks.items) ++ new_block ty process 0 0 given.now ∷ []) }
-        ensures same { OnErr result (blocks_model self.new.blocks.items ≡ blocks_model self.old.blocks.items) }
+        ensures added { OnOk result (heap_model self.new
+            ≡ change_each (with_new_owner (Owner.Inside (length (heap_model self.old))) given.now)
+            (heap_model self.old) ++ new_block ty process 0 0 given.now ∷ []) }
+        ensures same { OnErr result (heap_model self.new ≡ heap_model self.old) }
         ensures memory { IfErr result (λ refusal. refusal ≡ Refusal.Memory) }
     {
         let address = self.blocks.len();
@@ -102,8 +104,9 @@ impl BlockHeap {
         requires owner { block.owner ≡ Owner.Process process }
         requires empty { block.queue.items ≡ [] }
         requires holds_none { block.fields.items ≡ [] }
-        ensures added { OnOk result (blocks_model self.new.blocks.items ≡ blocks_model self.old.blocks.items ++ block_model block ∷ []) }
-        ensures same { OnErr result (blocks_model self.new.blocks.items ≡ blocks_model self.old.blocks.items) }
+        ensures added { OnOk result (heap_model self.new
+            ≡ heap_model self.old ++ block_model block ∷ []) }
+        ensures same { OnErr result (heap_model self.new ≡ heap_model self.old) }
         ensures memory { IfErr result (λ refusal. refusal ≡ Refusal.Memory) }
     {
         self.list(process)?;
@@ -125,9 +128,9 @@ impl BlockHeap {
         requires empty_too { second.queue.items ≡ [] }
         requires holds_none { first.fields.items ≡ [] }
         requires holds_none_too { second.fields.items ≡ [] }
-        ensures added { OnOk result (blocks_model self.new.blocks.items
-            ≡ blocks_model self.old.blocks.items ++ block_model first ∷ block_model second ∷ []) }
-        ensures same { OnErr result (blocks_model self.new.blocks.items ≡ blocks_model self.old.blocks.items) }
+        ensures added { OnOk result (heap_model self.new
+            ≡ heap_model self.old ++ block_model first ∷ block_model second ∷ []) }
+        ensures same { OnErr result (heap_model self.new ≡ heap_model self.old) }
         ensures memory { IfErr result (λ refusal. refusal ≡ Refusal.Memory) }
     {
         self.list(process)?;
@@ -142,9 +145,9 @@ impl BlockHeap {
     /// Frees a block of a process and all that is inside it. The queues of what is freed are emptied, and what they owned goes to the
     /// channel.
     pub(crate) fn free(&mut self, alloc: Global, a: usize)
-        requires owned { of_process (block_at (blocks_model self.old.blocks.items) a).owner ≡ true }
-        ensures { blocks_model self.new.blocks.items
-            ≡ change_each (freed_block (goes_with (blocks_model self.old.blocks.items) a)) (blocks_model self.old.blocks.items) }
+        requires owned { of_process (block_at (heap_model self.old) a).owner ≡ true }
+        ensures { heap_model self.new
+            ≡ change_each (freed_block (goes_with (heap_model self.old) a)) (heap_model self.old) }
     {
         free(alloc, &mut self.blocks, &mut self.counts, a);
     }
@@ -158,13 +161,14 @@ impl BlockHeap {
         field: usize,
         given: usize,
     ) -> Option<usize>
-        requires holder { owns (blocks_model self.old.blocks.items) process at ≡ true }
-        requires given { owns (blocks_model self.old.blocks.items) process given ≡ true }
+        requires holder { owns (heap_model self.old) process at ≡ true }
+        requires given { owns (heap_model self.old) process given ≡ true }
         requires apart { given ≢ at }
-        ensures held { result ≡ slice_get (block_at (blocks_model self.old.blocks.items) at).fields field }
-        ensures exchanged { IfSome result (λ held. blocks_model self.new.blocks.items
-            ≡ change_each (exchanged_block process at field given held) (blocks_model self.old.blocks.items)) }
-        ensures same { IfNone result (blocks_model self.new.blocks.items ≡ blocks_model self.old.blocks.items) }
+        ensures held { result ≡ slice_get (block_at (heap_model self.old) at).fields field }
+        ensures exchanged { IfSome result
+            (λ held. heap_model self.new
+            ≡ change_each (exchanged_block process at field given held) (heap_model self.old)) }
+        ensures same { IfNone result (heap_model self.new ≡ heap_model self.old) }
     {
         let held = field_of(&self.blocks, at, field)?;
         set_field(&mut self.blocks, at, field, given);
@@ -177,10 +181,10 @@ impl BlockHeap {
 
     /// What processes have goes to a process.
     pub(crate) fn hand_over(&mut self, given: &[usize], process: usize)
-        requires owned { AreOwned (blocks_model self.old.blocks.items) given.now }
+        requires owned { AreOwned (heap_model self.old) given.now }
         requires listed { process < length self.old.counts.items }
-        ensures { blocks_model self.new.blocks.items
-            ≡ change_each (with_new_owner (Owner.Process process) given.now) (blocks_model self.old.blocks.items) }
+        ensures { heap_model self.new
+            ≡ change_each (with_new_owner (Owner.Process process) given.now) (heap_model self.old) }
     {
         hand(
             &mut self.blocks,
@@ -199,13 +203,13 @@ impl BlockHeap {
         message: MessageId,
         given: &[usize],
     ) -> bool
-        requires owned { AreOwned (blocks_model self.old.blocks.items) given.now }
+        requires owned { AreOwned (heap_model self.old) given.now }
         requires once { AreOnce given.now }
-        requires there { way.gone ≡ false → way.peer < length (blocks_model self.old.blocks.items) }
-        ensures done { IsTrue result → blocks_model self.new.blocks.items
-            ≡ change_each (sent_block way.at way.state.0 way.peer way.gone record { message = message.0; payload = given.now })
-            (blocks_model self.old.blocks.items) }
-        ensures same { IsFalse result → blocks_model self.new.blocks.items ≡ blocks_model self.old.blocks.items }
+        requires there { way.gone ≡ false → way.peer < length (heap_model self.old) }
+        ensures done { IsTrue result → heap_model self.new
+            ≡ change_each (sent_block way.at way.state.0 way.peer way.gone
+            record { message = message.0; payload = given.now }) (heap_model self.old) }
+        ensures same { IsFalse result → heap_model self.new ≡ heap_model self.old }
     {
         if way.gone {
             hand(&mut self.blocks, &mut self.counts, given, Owner::Channel);
@@ -226,16 +230,16 @@ impl BlockHeap {
 
     /// The endpoint of a process receives the front of its queue, and is in a state then. What the message brings is answered.
     pub(crate) fn receive(&mut self, at: usize, state: StateId, process: usize) -> Vec<usize>
-        requires owned { owns (blocks_model self.old.blocks.items) process at ≡ true }
-        requires some { 0 < length (block_at (blocks_model self.old.blocks.items) at).queue }
-        ensures brings { (m : MessageHeld) (ms : List MessageHeld) → (block_at (blocks_model self.old.blocks.items) at).queue ≡ m ∷ ms →
-            result.items ≡ m.payload }
-        ensures received { (m : MessageHeld) (ms : List MessageHeld) → (block_at (blocks_model self.old.blocks.items) at).queue ≡ m ∷ ms →
-            blocks_model self.new.blocks.items ≡ change_each (received_block process at state.0 m ms) (blocks_model self.old.blocks.items) }
+        requires owned { owns (heap_model self.old) process at ≡ true }
+        requires some { 0 < length (block_at (heap_model self.old) at).queue }
+        ensures brings { (m : MessageHeld) (ms : List MessageHeld)
+            → (block_at (heap_model self.old) at).queue ≡ m ∷ ms → result.items ≡ m.payload }
+        ensures received { (m : MessageHeld) (ms : List MessageHeld)
+            → (block_at (heap_model self.old) at).queue ≡ m ∷ ms
+            → heap_model self.new ≡ change_each (received_block process at state.0 m ms)
+            (heap_model self.old) }
     {
-        let Some(Held { payload, .. }) = take_front(&mut self.blocks, at) else {
-            unreachable!()
-        };
+        let Held { payload, .. } = take_front(&mut self.blocks, at).unwrap();
         hand(
             &mut self.blocks,
             &mut self.counts,

@@ -3,12 +3,11 @@
 ghost use Rattle.std.specs.Prelude.{◌≡◌, ◌<◌, OnErr, length};
 ghost use Rattle.flow.specs.Graphs.{instruction_model};
 ghost use Rattle.rules.specs.Programs.{model_of};
-ghost use Rattle.machine.specs.Answers.{Tells, on_stack};
 ghost use Rattle.machine.specs.Frames as told;
 ghost use Rattle.machine.specs.Outcomes.{QueueBounds};
 ghost use Rattle.machine.specs.Runs.{AreBounds};
 ghost use Rattle.machine.specs.Views.{world_model};
-ghost use Rattle.machine.specs.World.{stack_at};
+ghost use Rattle.machine.specs.Answers.{TellsWorld};
 
 use crate::calling::call;
 use crate::exchanging::exchange;
@@ -38,7 +37,7 @@ pub(crate) fn choices(instr: &Instr) -> usize
     }
 }
 
-/// What an instruction needs beside a world: the process that runs it, and the program.
+/// What an instruction needs beside a world: memory, the program, and the process that runs it.
 #[derive(Clone, Copy)]
 pub(crate) struct Turn<'a> {
     pub(crate) alloc: Global,
@@ -56,9 +55,9 @@ impl World {
     ) -> Result<(), Refusal>
         requires there { turn.now.process < length self.old.processes.items }
         requires choice { choice < told.choices (instruction_model instr.now) }
-        ensures tells { (bound : QueueBounds) → AreBounds (model_of turn.now.program.now) bound →
-            Tells result (on_stack (model_of turn.now.program.now) bound (world_model self.old) turn.now.process
-            (instruction_model instr.now) choice (stack_at (world_model self.old).processes turn.now.process))
+        ensures tells { (bound : QueueBounds) → AreBounds (model_of turn.now.program.now) bound
+            → TellsWorld (model_of turn.now.program.now) bound turn.now.process
+            (instruction_model instr.now) choice result (world_model self.old)
             (world_model self.new) }
         ensures same { OnErr result (world_model self.new ≡ world_model self.old) }
     {

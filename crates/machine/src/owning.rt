@@ -1,17 +1,14 @@
 //! Instructions that make and free blocks.
 
-ghost use Rattle.std.specs.Prelude.{◌≡◌, ◌+◌, ◌++◌, ◌∷◌, [], IfErr, List, OnErr, OnOk, length};
+ghost use Rattle.std.specs.Prelude.{◌≡◌, ◌+◌, ◌++◌, ◌∷◌, [], IfErr, OnErr, OnOk, length};
 ghost use Rattle.program.specs.Programs.{ProgramModel};
 ghost use Rattle.flow.specs.Graphs.{New, NewChannel, Delete};
 ghost use Rattle.program.specs.declared.types.Side.TheVariants.{Imp, Exp};
 ghost use Rattle.rules.specs.Programs.{model_of};
-ghost use Rattle.machine.specs.Answers.{Tells, on_top};
 ghost use Rattle.machine.specs.Blocks.{end_type, is_imp, new_block};
-ghost use Rattle.machine.specs.Frames.{type_at};
-ghost use Rattle.machine.specs.Machine.{outcome_from};
 ghost use Rattle.machine.specs.Outcomes.{QueueBounds};
-ghost use Rattle.machine.specs.Views.{block_model, blocks_model, frame_model};
-ghost use Rattle.machine.specs.World as seen;
+ghost use Rattle.machine.specs.Views.{block_model, frame_model, heap_model};
+ghost use Rattle.machine.specs.Answers.{TellsFrame};
 
 use crate::halts::{Fault, Refusal};
 use crate::heaps::BlockHeap;
@@ -33,12 +30,12 @@ pub(crate) fn new(
     arguments: &[Mention],
     next: usize,
 ) -> Result<(), Refusal>
-    ensures tells { (bound : QueueBounds) (w : seen.World) (rest : List seen.Frame) → w.blocks ≡ blocks_model heap.old.blocks.items →
-        Tells result (outcome_from (model_of turn.now.program.now) bound w turn.now.process (frame_model frame.old) rest
-        (New target arguments.now next) 0)
-        (on_top w.processes turn.now.process rest (frame_model frame.new) (blocks_model heap.new.blocks.items)) }
+    ensures tells { (bound : QueueBounds)
+        → TellsFrame (model_of turn.now.program.now) bound turn.now.process
+        (New target arguments.now next) 0 result (frame_model frame.old, heap_model heap.old)
+        (frame_model frame.new, heap_model heap.new) }
     ensures same { OnErr result (frame_model frame.new ≡ frame_model frame.old) }
-    ensures same_blocks { OnErr result (blocks_model heap.new.blocks.items ≡ blocks_model heap.old.blocks.items) }
+    ensures same_blocks { OnErr result (heap_model heap.new ≡ heap_model heap.old) }
 {
     if arguments.is_empty() {
         return new_alone(turn, frame, heap, target, next);
@@ -65,11 +62,12 @@ fn new_alone(
     at: Mention,
     next: usize,
 ) -> Result<(), Refusal>
-    ensures tells { (bound : QueueBounds) (w : seen.World) (rest : List seen.Frame) → w.blocks ≡ blocks_model heap.old.blocks.items →
-        Tells result (outcome_from (model_of turn.now.program.now) bound w turn.now.process (frame_model frame.old) rest (New at [] next) 0)
-        (on_top w.processes turn.now.process rest (frame_model frame.new) (blocks_model heap.new.blocks.items)) }
+    ensures tells { (bound : QueueBounds)
+        → TellsFrame (model_of turn.now.program.now) bound turn.now.process
+        (New at [] next) 0 result (frame_model frame.old, heap_model heap.old)
+        (frame_model frame.new, heap_model heap.new) }
     ensures same { OnErr result (frame_model frame.new ≡ frame_model frame.old) }
-    ensures same_blocks { OnErr result (blocks_model heap.new.blocks.items ≡ blocks_model heap.old.blocks.items) }
+    ensures same_blocks { OnErr result (heap_model heap.new ≡ heap_model heap.old) }
 {
     let address = heap.blocks().len();
     let ty = type_at(turn.program, frame.method, at.variable);
@@ -90,12 +88,11 @@ pub(crate) fn delete(
     at: Mention,
     next: usize,
 ) -> Result<(), Refusal>
-    ensures tells { (p : ProgramModel) (bound : QueueBounds) (w : seen.World) (rest : List seen.Frame) →
-        w.blocks ≡ blocks_model heap.old.blocks.items →
-        Tells result (outcome_from p bound w process (frame_model frame.old) rest (Delete at next) 0)
-        (on_top w.processes process rest (frame_model frame.new) (blocks_model heap.new.blocks.items)) }
+    ensures tells { (p : ProgramModel) (bound : QueueBounds)
+        → TellsFrame p bound process (Delete at next) 0 result
+        (frame_model frame.old, heap_model heap.old) (frame_model frame.new, heap_model heap.new) }
     ensures same { OnErr result (frame_model frame.new ≡ frame_model frame.old) }
-    ensures same_blocks { OnErr result (blocks_model heap.new.blocks.items ≡ blocks_model heap.old.blocks.items) }
+    ensures same_blocks { OnErr result (heap_model heap.new ≡ heap_model heap.old) }
 {
     let Some(a) = own(heap.blocks(), process, frame.has(at)) else {
         return Err(Refusal::Fault(Fault::F2));
@@ -152,10 +149,11 @@ fn open(
     channel: Channel,
     state: StateId,
 ) -> Result<(), Refusal>
-    ensures opened { OnOk result (blocks_model heap.new.blocks.items ≡ blocks_model heap.old.blocks.items
-        ++ new_block (end_type channel Imp) process (length (blocks_model heap.old.blocks.items) + 1) state.0 []
-        ∷ new_block (end_type channel Exp) process (length (blocks_model heap.old.blocks.items)) state.0 [] ∷ []) }
-    ensures same { OnErr result (blocks_model heap.new.blocks.items ≡ blocks_model heap.old.blocks.items) }
+    ensures opened { OnOk result (heap_model heap.new
+        ≡ heap_model heap.old ++ new_block (end_type channel Imp) process
+        (length (heap_model heap.old) + 1) state.0 []
+        ∷ new_block (end_type channel Exp) process (length (heap_model heap.old)) state.0 [] ∷ []) }
+    ensures same { OnErr result (heap_model heap.new ≡ heap_model heap.old) }
     ensures memory { IfErr result (λ refusal. refusal ≡ Refusal.Memory) }
 {
     let address = heap.blocks().len();
@@ -178,12 +176,12 @@ pub(crate) fn new_channel(
     channel: Channel,
     next: usize,
 ) -> Result<(), Refusal>
-    ensures tells { (bound : QueueBounds) (w : seen.World) (rest : List seen.Frame) → w.blocks ≡ blocks_model heap.old.blocks.items →
-        Tells result (outcome_from (model_of turn.now.program.now) bound w turn.now.process (frame_model frame.old) rest
-        (NewChannel channel next) 0)
-        (on_top w.processes turn.now.process rest (frame_model frame.new) (blocks_model heap.new.blocks.items)) }
+    ensures tells { (bound : QueueBounds)
+        → TellsFrame (model_of turn.now.program.now) bound turn.now.process
+        (NewChannel channel next) 0 result (frame_model frame.old, heap_model heap.old)
+        (frame_model frame.new, heap_model heap.new) }
     ensures same { OnErr result (frame_model frame.new ≡ frame_model frame.old) }
-    ensures same_blocks { OnErr result (blocks_model heap.new.blocks.items ≡ blocks_model heap.old.blocks.items) }
+    ensures same_blocks { OnErr result (heap_model heap.new ≡ heap_model heap.old) }
 {
     let address = heap.blocks().len();
     let state = turn.program.first_state(channel.contract);

@@ -3,7 +3,7 @@
 ghost use Rattle.std.specs.Prelude.{◌≡◌, [], IfErr, IfOk, IsFalse, IsTrue, Some};
 ghost use Rattle.program.specs.Lists.{is_among};
 ghost use Rattle.machine.specs.Answers.{IsFirstFault, Pass, claimed_in};
-ghost use Rattle.machine.specs.Blocks.{argument_tests_in, is_own_still};
+ghost use Rattle.machine.specs.Blocks.{argument_tests, is_own_still};
 ghost use Rattle.machine.specs.Frames.{addresses, payloads_claimed};
 ghost use Rattle.machine.specs.Views.{StillTakes, blocks_model, frame_model, variables_model};
 ghost use Rattle.machine.specs.World.{let_go, read};
@@ -55,9 +55,9 @@ pub(crate) fn are_unsent(
     payloads: &[Mention],
 ) -> bool
     ensures pass { IsTrue result → Pass
-        (argument_tests_in (blocks_model blocks.now) process (frame_model frame.now).variables [] (payloads_claimed payloads.now)) }
+        (argument_tests (blocks_model blocks.now) process (frame_model frame.now).variables [] (payloads_claimed payloads.now)) }
     ensures fault { IsFalse result → IsFirstFault (Some F3)
-        (argument_tests_in (blocks_model blocks.now) process (frame_model frame.now).variables [] (payloads_claimed payloads.now)) }
+        (argument_tests (blocks_model blocks.now) process (frame_model frame.now).variables [] (payloads_claimed payloads.now)) }
 {
     for (number, mention) in payloads.iter().enumerate() {
         if !is_unsent(frame, blocks, process, &payloads[..number], *mention) {

@@ -6,7 +6,7 @@ ghost use Rattle.source.specs.declared.place.Place.{Place};
 ghost use Rattle.flow.specs.Graphs as instruction;
 ghost use Rattle.flow.specs.Graphs.{Use, Move, Branch};
 ghost use Rattle.rules.specs.Programs.{model_of};
-ghost use Rattle.machine.specs.Answers.{Tells, on_top};
+ghost use Rattle.machine.specs.Answers.{TellsFrame, on_top};
 ghost use Rattle.machine.specs.Machine.{outcome_from};
 ghost use Rattle.machine.specs.Outcomes.{QueueBounds, Moved};
 ghost use Rattle.machine.specs.Views.{blocks_model, frame_model};
@@ -28,10 +28,10 @@ pub(crate) fn use_(
     at: Mention,
     next: usize,
 ) -> Result<(), Refusal>
-    ensures tells { (p : ProgramModel) (bound : QueueBounds) (w : seen.World) (rest : List seen.Frame)
-        → w.blocks ≡ blocks_model blocks.now
-        → Tells result (outcome_from p bound w process (frame_model frame.old) rest (Use at next) 0)
-        (on_top w.processes process rest (frame_model frame.new) (blocks_model blocks.now)) }
+    ensures tells { (p : ProgramModel) (bound : QueueBounds)
+        → TellsFrame p bound process (Use at next) 0 result
+        (frame_model frame.old, blocks_model blocks.now)
+        (frame_model frame.new, blocks_model blocks.now) }
     ensures same { OnErr result (frame_model frame.new ≡ frame_model frame.old) }
 {
     if own(blocks, process, frame.has(at)).is_none() {
@@ -50,10 +50,10 @@ pub(crate) fn move_(
     source: Mention,
     next: usize,
 ) -> Result<(), Refusal>
-    ensures tells { (p : ProgramModel) (bound : QueueBounds) (w : seen.World) (rest : List seen.Frame)
-        → w.blocks ≡ blocks_model blocks.now
-        → Tells result (outcome_from p bound w process (frame_model frame.old) rest (Move target source next) 0)
-        (on_top w.processes process rest (frame_model frame.new) (blocks_model blocks.now)) }
+    ensures tells { (p : ProgramModel) (bound : QueueBounds)
+        → TellsFrame p bound process (Move target source next) 0 result
+        (frame_model frame.old, blocks_model blocks.now)
+        (frame_model frame.new, blocks_model blocks.now) }
     ensures same { OnErr result (frame_model frame.new ≡ frame_model frame.old) }
 {
     let given = frame.has(source);
@@ -68,8 +68,9 @@ pub(crate) fn move_(
 
 /// A condition goes the way of the choice.
 pub(crate) fn branch(frame: &mut Frame, branches: Branches, choice: usize)
-    ensures { (p : ProgramModel) (bound : QueueBounds) (w : seen.World) (rest : List seen.Frame) (process : ℕ) (place : Place) →
-        outcome_from p bound w process (frame_model frame.old) rest (Branch place branches) choice
+    ensures { (p : ProgramModel) (bound : QueueBounds) (w : seen.World) (rest : List seen.Frame)
+        (process : ℕ) (place : Place)
+        → outcome_from p bound w process (frame_model frame.old) rest (Branch place branches) choice
         ≡ Moved (on_top w.processes process rest (frame_model frame.new) w.blocks) }
 {
     frame.point = match branches {
@@ -80,8 +81,9 @@ pub(crate) fn branch(frame: &mut Frame, branches: Branches, choice: usize)
 
 /// Variables go out of scope.
 pub(crate) fn forget_(frame: &mut Frame, program: &Program, forget: Forget, next: usize)
-    ensures { (bound : QueueBounds) (w : seen.World) (rest : List seen.Frame) (process : ℕ) →
-        outcome_from (model_of program.now) bound w process (frame_model frame.old) rest (instruction.Forget forget next) 0
+    ensures { (bound : QueueBounds) (w : seen.World) (rest : List seen.Frame) (process : ℕ)
+        → outcome_from (model_of program.now) bound w process (frame_model frame.old) rest
+        (instruction.Forget forget next) 0
         ≡ Moved (on_top w.processes process rest (frame_model frame.new) w.blocks) }
 {
     if let Some(method) = program.methods().get(frame.method.0 as usize) {

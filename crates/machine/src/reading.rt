@@ -3,7 +3,7 @@
 ghost use Rattle.std.specs.Prelude.{◌≡◌, ◌<◌, IfNone, IfSome, Some, false, length, option_map, slice_get, true};
 ghost use Rattle.machine.specs.Answers.{front_of};
 ghost use Rattle.machine.specs.Views.{blocks_model};
-ghost use Rattle.machine.specs.World.{block_at, cut_off, is_freed_at, is_freed, is_own_in, is_process, is_queue};
+ghost use Rattle.machine.specs.World.{block_at, cut_off, is_freed_at, is_freed, is_own, is_process, is_queue};
 
 use crate::worlds::{Block, Owner};
 use program::{HeapType, MessageId, StateId, StructId};
@@ -44,8 +44,8 @@ impl Owner {
 pub(crate) fn own(blocks: &[Block], process: usize, address: Option<usize>) -> Option<usize>
     ensures some { IfSome result (λ a. address ≡ Some a) }
     ensures here { IfSome result (λ a. a < length blocks.now) }
-    ensures own { IfSome result (λ a. is_own_in (blocks_model blocks.now) process address ≡ true) }
-    ensures none { IfNone result (is_own_in (blocks_model blocks.now) process address ≡ false) }
+    ensures own { IfSome result (λ a. is_own (blocks_model blocks.now) process address ≡ true) }
+    ensures none { IfNone result (is_own (blocks_model blocks.now) process address ≡ false) }
 {
     let a = address?;
     let block = blocks.get(a)?;

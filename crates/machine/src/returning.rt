@@ -6,9 +6,9 @@ ghost use Rattle.program.specs.declared.number.VarId.{VarId};
 ghost use Rattle.source.specs.declared.place.Place.{Place};
 ghost use Rattle.flow.specs.Graphs.{Return};
 ghost use Rattle.rules.specs.Programs.{model_of};
-ghost use Rattle.machine.specs.Answers.{Tells, outcome_of_end, given_back, on_stack, with_stack, with_variables};
+ghost use Rattle.machine.specs.Answers.{Tells, TellsStack, given_back, on_stack, outcome_of_end, with_stack, with_variables};
 ghost use Rattle.machine.specs.Outcomes.{QueueBounds, Faulty};
-ghost use Rattle.machine.specs.Views.{blocks_model, frame_model, stack_of, stack_model};
+ghost use Rattle.machine.specs.Views.{blocks_model, frame_model, heap_model, stack_model, stack_of};
 ghost use Rattle.machine.specs.World as seen;
 ghost use Rattle.machine.specs.declared.halts.Fault.TheVariants.{F3};
 
@@ -22,13 +22,16 @@ use program::Mention;
 
 /// Whether the innermost frame may give what a variable has, if there is one.
 fn can_give(stack: &Process, blocks: &[Block], process: usize, value: Option<Mention>) -> bool
-    ensures may { IsTrue result → (p : ProgramModel) (bound : QueueBounds) (w : seen.World) (place : Place) (scope : Option VarId) →
-        w.blocks ≡ blocks_model blocks.now →
-        on_stack p bound w process (Return place value scope) 0 (stack_model stack.now)
+    ensures may { IsTrue result
+        → (p : ProgramModel) (bound : QueueBounds) (w : seen.World) (place : Place)
+        (scope : Option VarId) → w.blocks ≡ blocks_model blocks.now
+        → on_stack p bound w process (Return place value scope) 0 (stack_model stack.now)
         ≡ outcome_of_end p bound w process value (stack_model stack.now) }
-    ensures fault { IsFalse result → (p : ProgramModel) (bound : QueueBounds) (w : seen.World) (place : Place) (scope : Option VarId) →
-        w.blocks ≡ blocks_model blocks.now →
-        on_stack p bound w process (Return place value scope) 0 (stack_model stack.now) ≡ Faulty F3 }
+    ensures fault { IsFalse result
+        → (p : ProgramModel) (bound : QueueBounds) (w : seen.World) (place : Place)
+        (scope : Option VarId) → w.blocks ≡ blocks_model blocks.now
+        → on_stack p bound w process (Return place value scope) 0 (stack_model stack.now)
+        ≡ Faulty F3 }
 {
     match (&stack.top, value) {
         (Some(frame), Some(value)) => own(blocks, process, frame.has(value)).is_some(),
@@ -43,7 +46,8 @@ fn give_back(
     target: Option<Mention>,
     caller: &mut Frame,
 ) -> Result<(), Refusal>
-    ensures given { OnOk result (frame_model caller.new ≡ with_variables (frame_model caller.old)
+    ensures given { OnOk result (frame_model caller.new
+        ≡ with_variables (frame_model caller.old)
         (given_back value target (stack_of top.now []) (frame_model caller.old).variables)) }
     ensures same { OnErr result (frame_model caller.new ≡ frame_model caller.old) }
     ensures memory { IfErr result (λ refusal. refusal ≡ Refusal.Memory) }
@@ -63,9 +67,10 @@ pub(crate) fn end(
     value: Option<Mention>,
 ) -> Result<(), Refusal>
     requires top { IsSome stack.old.top }
-    ensures tells { (bound : QueueBounds) (w : seen.World) → w.blocks ≡ blocks_model heap.now.blocks.items →
-        Tells result (outcome_of_end (model_of turn.now.program.now) bound w turn.now.process value (stack_model stack.old))
-        (with_stack w turn.now.process (stack_model stack.new) (blocks_model heap.now.blocks.items)) }
+    ensures tells { (bound : QueueBounds) (w : seen.World) → w.blocks ≡ heap_model heap.now
+        → Tells result (outcome_of_end
+        (model_of turn.now.program.now) bound w turn.now.process value (stack_model stack.old))
+        (with_stack w turn.now.process (stack_model stack.new) (heap_model heap.now)) }
     ensures same { OnErr result (stack_model stack.new ≡ stack_model stack.old) }
 {
     let Some(last) = stack.waiting.len().checked_sub(1) else {
@@ -91,11 +96,10 @@ pub(crate) fn return_(
     value: Option<Mention>,
 ) -> Result<(), Refusal>
     requires top { IsSome stack.old.top }
-    ensures tells { (bound : QueueBounds) (w : seen.World) (place : Place) (scope : Option VarId) →
-        w.blocks ≡ blocks_model heap.now.blocks.items →
-        Tells result (on_stack (model_of turn.now.program.now) bound w turn.now.process (Return place value scope) 0
-        (stack_model stack.old))
-        (with_stack w turn.now.process (stack_model stack.new) (blocks_model heap.now.blocks.items)) }
+    ensures tells { (bound : QueueBounds) (place : Place) (scope : Option VarId)
+        → TellsStack (model_of turn.now.program.now) bound turn.now.process
+        (Return place value scope) result (stack_model stack.old) (stack_model stack.new)
+        (heap_model heap.now) }
     ensures same { OnErr result (stack_model stack.new ≡ stack_model stack.old) }
 {
     if !can_give(stack, heap.blocks(), turn.process, value) {

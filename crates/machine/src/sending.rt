@@ -1,15 +1,13 @@
 //! A send.
 
-ghost use Rattle.std.specs.Prelude.{◌≡◌, List, OnErr};
+ghost use Rattle.std.specs.Prelude.{◌≡◌, OnErr};
 ghost use Rattle.flow.specs.Graphs.{instruction_model};
 ghost use Rattle.flow.specs.declared.graph.Instr.{Instr};
 ghost use Rattle.rules.specs.Programs.{model_of};
-ghost use Rattle.machine.specs.Answers.{Tells, on_top};
-ghost use Rattle.machine.specs.Machine.{outcome_from};
 ghost use Rattle.machine.specs.Outcomes.{QueueBounds};
 ghost use Rattle.machine.specs.Runs.{AreBounds};
-ghost use Rattle.machine.specs.Views.{blocks_model, frame_model};
-ghost use Rattle.machine.specs.World as seen;
+ghost use Rattle.machine.specs.Views.{frame_model, heap_model};
+ghost use Rattle.machine.specs.Answers.{TellsFrame};
 
 use crate::edges::way_out;
 use crate::halts::{Fault, Refusal};
@@ -27,13 +25,12 @@ pub(crate) fn send(
     heap: &mut BlockHeap,
     sending: &Sending,
 ) -> Result<(), Refusal>
-    ensures tells { (bound : QueueBounds) (w : seen.World) (rest : List seen.Frame) → AreBounds (model_of turn.now.program.now) bound →
-        w.blocks ≡ blocks_model heap.old.blocks.items →
-        Tells result (outcome_from (model_of turn.now.program.now) bound w turn.now.process (frame_model frame.old) rest
-        (instruction_model (Instr.Send sending.now)) 0)
-        (on_top w.processes turn.now.process rest (frame_model frame.new) (blocks_model heap.new.blocks.items)) }
+    ensures tells { (bound : QueueBounds) → AreBounds (model_of turn.now.program.now) bound
+        → TellsFrame (model_of turn.now.program.now) bound turn.now.process
+        (instruction_model (Instr.Send sending.now)) 0 result
+        (frame_model frame.old, heap_model heap.old) (frame_model frame.new, heap_model heap.new) }
     ensures same { OnErr result (frame_model frame.new ≡ frame_model frame.old) }
-    ensures same_blocks { OnErr result (blocks_model heap.new.blocks.items ≡ blocks_model heap.old.blocks.items) }
+    ensures same_blocks { OnErr result (heap_model heap.new ≡ heap_model heap.old) }
 {
     let Some(at) = own(heap.blocks(), turn.process, frame.has(sending.endpoint)) else {
         return Err(Refusal::Fault(Fault::F1));

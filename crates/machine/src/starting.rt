@@ -4,10 +4,9 @@ ghost use Rattle.std.specs.Prelude.{◌≡◌, ◌<◌, OnErr, length};
 ghost use Rattle.flow.specs.Graphs.{instruction_model};
 ghost use Rattle.flow.specs.declared.graph.Instr.{Instr};
 ghost use Rattle.rules.specs.Programs.{model_of};
-ghost use Rattle.machine.specs.Answers.{Tells, on_stack, went_on};
+ghost use Rattle.machine.specs.Answers.{TellsWorld, went_on};
 ghost use Rattle.machine.specs.Outcomes.{QueueBounds};
 ghost use Rattle.machine.specs.Views.{stack_model, world_model};
-ghost use Rattle.machine.specs.World.{stack_at};
 
 use crate::calling::enter;
 use crate::giving::{addresses, first_fault};
@@ -31,9 +30,9 @@ fn go_on(stack: &mut Process, arguments: &[Argument], next: usize)
 /// A method is started as a process of its own, which owns what is given.
 pub(crate) fn start(turn: &Turn<'_>, world: &mut World, starting: &Starting) -> Result<(), Refusal>
     requires there { turn.now.process < length world.old.processes.items }
-    ensures tells { (bound : QueueBounds) →
-        Tells result (on_stack (model_of turn.now.program.now) bound (world_model world.old) turn.now.process
-        (instruction_model (Instr.Start starting.now)) 0 (stack_at (world_model world.old).processes turn.now.process))
+    ensures tells { (bound : QueueBounds)
+        → TellsWorld (model_of turn.now.program.now) bound turn.now.process
+        (instruction_model (Instr.Start starting.now)) 0 result (world_model world.old)
         (world_model world.new) }
     ensures same { OnErr result (world_model world.new ≡ world_model world.old) }
 {

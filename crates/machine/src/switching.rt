@@ -1,20 +1,19 @@
 //! A switch.
 
-ghost use Rattle.std.specs.Prelude.{◌≡◌, ◌<◌, ◌∷◌, [], IfErr, List, OnErr, OnOk, Some, length, map, true, ℕ};
+ghost use Rattle.std.specs.Prelude.{◌≡◌, ◌<◌, ◌∷◌, [], IfErr, List, OnErr, OnOk, Some, length, true, ℕ};
 ghost use Rattle.flow.specs.Cases.{entrance_model, first_mentions};
 ghost use Rattle.flow.specs.Graphs as graphs;
 ghost use Rattle.flow.specs.Graphs.{cases_model};
 ghost use Rattle.source.specs.declared.place.Place.{Place};
 ghost use Rattle.program.specs.Programs.{ProgramModel};
 ghost use Rattle.rules.specs.Programs.{model_of};
-ghost use Rattle.machine.specs.Answers.{IsRefusal, Pass, Tells, on_top};
+ghost use Rattle.machine.specs.Answers.{IsRefusal, Pass, Tells, TellsFrame, on_top, own_tests};
 ghost use Rattle.machine.specs.Bindings.{AllMayTake};
-ghost use Rattle.machine.specs.Machine.{outcome_from, receives, receives_at};
-ghost use Rattle.machine.specs.Outcomes.{QueueBounds, Moved, test};
-ghost use Rattle.machine.specs.Views.{blocks_model, frame_model};
+ghost use Rattle.machine.specs.Machine.{receives, receives_at};
+ghost use Rattle.machine.specs.Outcomes.{QueueBounds, Moved};
+ghost use Rattle.machine.specs.Views.{blocks_model, frame_model, heap_model};
 ghost use Rattle.machine.specs.World as seen;
-ghost use Rattle.machine.specs.World.{MessageHeld, block_at, is_own_in, owns, read};
-ghost use Rattle.machine.specs.declared.halts.Fault.TheVariants.{F1};
+ghost use Rattle.machine.specs.World.{MessageHeld, block_at, owns};
 
 use crate::edges::state_received;
 use crate::halts::{Fault, Refusal};
@@ -35,11 +34,12 @@ fn are_own(
     endpoints: &[Mention],
 ) -> Result<(), Refusal>
     ensures pass { OnOk result (Pass
-        (map (λ e. test (is_own_in (blocks_model blocks.now) process (read (frame_model frame.now).variables e.variable.0)) F1)
-        endpoints.now)) }
-    ensures refusal { IfErr result (λ refusal. IsRefusal refusal
-        (map (λ e. test (is_own_in (blocks_model blocks.now) process (read (frame_model frame.now).variables e.variable.0)) F1)
-        endpoints.now)) }
+        (own_tests (blocks_model blocks.now) process
+        (frame_model frame.now).variables endpoints.now)) }
+    ensures refusal { IfErr result
+        (λ refusal. IsRefusal refusal
+        (own_tests (blocks_model blocks.now) process
+        (frame_model frame.now).variables endpoints.now)) }
 {
     for endpoint in endpoints {
         if own(blocks, process, frame.has(*endpoint)).is_none() {
@@ -63,9 +63,10 @@ fn close(
     cases: &Cases,
     listener: Listener,
 ) -> Result<(), Refusal>
-    ensures tells { (p : ProgramModel) (bound : QueueBounds) (w : seen.World) (process : ℕ) (rest : List seen.Frame) →
-        w.blocks ≡ blocks_model blocks.now →
-        Tells result (receives p bound w process (frame_model frame.old) rest (cases_model cases.now) listener.variable.0 listener.at [])
+    ensures tells { (p : ProgramModel) (bound : QueueBounds) (w : seen.World) (process : ℕ)
+        (rest : List seen.Frame) → w.blocks ≡ blocks_model blocks.now
+        → Tells result (receives p bound w process (frame_model frame.old) rest
+        (cases_model cases.now) listener.variable.0 listener.at [])
         (on_top w.processes process rest (frame_model frame.new) (blocks_model blocks.now)) }
     ensures same { OnErr result (frame_model frame.new ≡ frame_model frame.old) }
 {
@@ -95,14 +96,16 @@ fn receive_at(
     case: &Entrance,
     arrival: Arrival,
 )
-    requires owned { owns (blocks_model heap.old.blocks.items) process arrival.at ≡ true }
-    requires some { 0 < length (block_at (blocks_model heap.old.blocks.items) arrival.at).queue }
-    requires takes { AllMayTake frame.old.variables.count frame.old.variables.bindings.items case.now.targets.items }
-    ensures { (bound : QueueBounds) (w : seen.World) (rest : List seen.Frame) (m : MessageHeld) (ms : List MessageHeld) →
-        w.blocks ≡ blocks_model heap.old.blocks.items →
-        (block_at (blocks_model heap.old.blocks.items) arrival.at).queue ≡ m ∷ ms → arrival.message.0 ≡ m.message →
-        receives_at (model_of program.now) bound w process (frame_model frame.old) rest (Some (entrance_model case.now)) arrival.at m ms
-        ≡ Moved (on_top w.processes process rest (frame_model frame.new) (blocks_model heap.new.blocks.items)) }
+    requires owned { owns (heap_model heap.old) process arrival.at ≡ true }
+    requires some { 0 < length (block_at (heap_model heap.old) arrival.at).queue }
+    requires takes { AllMayTake frame.old.variables.count frame.old.variables.bindings.items
+        case.now.targets.items }
+    ensures { (bound : QueueBounds) (w : seen.World) (rest : List seen.Frame) (m : MessageHeld)
+        (ms : List MessageHeld) → w.blocks ≡ heap_model heap.old
+        → (block_at (heap_model heap.old) arrival.at).queue ≡ m ∷ ms → arrival.message.0 ≡ m.message
+        → receives_at (model_of program.now) bound w process (frame_model frame.old) rest
+        (Some (entrance_model case.now)) arrival.at m ms
+        ≡ Moved (on_top w.processes process rest (frame_model frame.new) (heap_model heap.new)) }
 {
     let state = state_received(program, heap.blocks(), arrival.at, arrival.message);
     let payload = heap.receive(arrival.at, state, process);
@@ -119,13 +122,15 @@ fn deliver(
     cases: &Cases,
     listener: Listener,
 ) -> Result<(), Refusal>
-    requires owned { owns (blocks_model heap.old.blocks.items) process listener.at ≡ true }
-    ensures tells { (bound : QueueBounds) (w : seen.World) (rest : List seen.Frame) → w.blocks ≡ blocks_model heap.old.blocks.items →
-        Tells result (receives (model_of program.now) bound w process (frame_model frame.old) rest (cases_model cases.now)
-        listener.variable.0 listener.at (block_at (blocks_model heap.old.blocks.items) listener.at).queue)
-        (on_top w.processes process rest (frame_model frame.new) (blocks_model heap.new.blocks.items)) }
+    requires owned { owns (heap_model heap.old) process listener.at ≡ true }
+    ensures tells { (bound : QueueBounds) (w : seen.World) (rest : List seen.Frame)
+        → w.blocks ≡ heap_model heap.old
+        → Tells result (receives (model_of program.now) bound w process (frame_model frame.old) rest
+        (cases_model cases.now) listener.variable.0 listener.at
+        (block_at (heap_model heap.old) listener.at).queue)
+        (on_top w.processes process rest (frame_model frame.new) (heap_model heap.new)) }
     ensures same { OnErr result (frame_model frame.new ≡ frame_model frame.old) }
-    ensures same_blocks { OnErr result (blocks_model heap.new.blocks.items ≡ blocks_model heap.old.blocks.items) }
+    ensures same_blocks { OnErr result (heap_model heap.new ≡ heap_model heap.old) }
 {
     let Some(message) = front(heap.blocks(), listener.at) else {
         return close(frame, heap.blocks(), cases, listener);
@@ -151,13 +156,12 @@ pub(crate) fn switch(
     choice: usize,
 ) -> Result<(), Refusal>
     requires there { choice < length (first_mentions [] (cases_model cases.now)) }
-    ensures tells { (bound : QueueBounds) (w : seen.World) (rest : List seen.Frame) (place : Place) →
-        w.blocks ≡ blocks_model heap.old.blocks.items →
-        Tells result (outcome_from (model_of turn.now.program.now) bound w turn.now.process (frame_model frame.old) rest
-        (graphs.Switch place (cases_model cases.now)) choice)
-        (on_top w.processes turn.now.process rest (frame_model frame.new) (blocks_model heap.new.blocks.items)) }
+    ensures tells { (bound : QueueBounds) (place : Place)
+        → TellsFrame (model_of turn.now.program.now) bound turn.now.process
+        (graphs.Switch place (cases_model cases.now)) choice result
+        (frame_model frame.old, heap_model heap.old) (frame_model frame.new, heap_model heap.new) }
     ensures same { OnErr result (frame_model frame.new ≡ frame_model frame.old) }
-    ensures same_blocks { OnErr result (blocks_model heap.new.blocks.items ≡ blocks_model heap.old.blocks.items) }
+    ensures same_blocks { OnErr result (heap_model heap.new ≡ heap_model heap.old) }
 {
     let endpoints = cases.endpoints();
     are_own(frame, heap.blocks(), turn.process, endpoints)?;

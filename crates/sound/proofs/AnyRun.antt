@@ -21,13 +21,13 @@ use Rattle.flow.specs.Lowering.{graph_of}
 use Rattle.contracts.specs.Bounds.{sign_to}
 use Rattle.contracts.specs.TwoEnds.{HeldAlways, NeverLonger}
 use Rattle.rules.specs.Endpoints.{first_state}
-use Rattle.machine.specs.Blocks.{with_new_owner, is_own_still, new_block, owns_none, end_type}
+use Rattle.machine.specs.Blocks.{with_new_owner, is_own_still, new_block, owns_none, end_type, argument_tests, send_tests}
 use Rattle.machine.specs.Frames.{method_at, variables_of, type_at, payloads_claimed, address, addresses, choices, point_instruction}
 use Rattle.machine.specs.Machine.{outcome_of, outcome_in}
 use Rattle.machine.specs.Machine.{event_outcome}
 use Rattle.machine.specs.Outcomes.{Outcome, NoChoice, QueueBounds, after_tests}
 use Rattle.machine.specs.Runs.{Run, begins, goes_on}
-use Rattle.machine.specs.World.{no_type, MessageHeld, Block, Frame, World, block_at, stack_at, change_each, read, owns, let_go}
+use Rattle.machine.specs.World.{no_type, MessageHeld, Block, Frame, World, block_at, stack_at, change_each, read, owns, let_go, is_own}
 use Rattle.machine.specs.Heaps.{top}
 use Rattle.machine.specs.declared.worlds.Owner.TheVariants.{Inside}
 use Rattle.machine.specs.declared.halts.Event.{Event}
@@ -51,7 +51,7 @@ use Rattle.program.specs.WellFormed.{AreWellFormed}
 use Rattle.sound.specs.Premises.{AreSound}
 use Rattle.machine.specs.Runs.{AreBounds}
 use Rattle.sound.proofs.Trees.{graphs_fit}
-use Rattle.machine.specs.Instructions.{is_own, argument_tests, send_tests, state_by_send, value_tests, returns, outcome_from, exchanges}
+use Rattle.machine.specs.Instructions.{value_tests, returns, outcome_from, exchanges}
 use Rattle.machine.proofs.ChangeLemmas.{eqb_same, true≢false}
 
 -- What is asked of an instruction, whatever is found: a new block is no endpoint, and the contract of a new channel is there.
@@ -75,7 +75,7 @@ module _ (p : ProgramModel) (bound : QueueBounds) (w : World) (self : ℕ) (f : 
       → IsFine p (after_tests (value_tests p bound w self f rest value) (returns p bound w self f rest value rest))
   value_fine None = returns_fine None rest
   value_fine (Some v) =
-      one_test p (is_own p bound w self f rest (read f.variables v.variable.0)) F3 [] _ (λ e. tt) (λ e. returns_fine (Some v) rest)
+      one_test p (is_own w.blocks self (read f.variables v.variable.0)) F3 [] _ (λ e. tt) (λ e. returns_fine (Some v) rest)
 
   -- ---- every instruction
   once_given : (payloads : List Mention) → AreGiven p bound w self f rest h [] (payloads_claimed payloads) → (x : ℕ)
@@ -132,13 +132,13 @@ module _ (p : ProgramModel) (bound : QueueBounds) (w : World) (self : ℕ) (f : 
       (there : method_at p f.method ≡ Some m) where
     instruction_fine : (i : Instruction) (choice : ℕ) → IsMadeWell p m i → IsFine p (outcome_from p bound w self f rest i choice)
     instruction_fine (Use v next) choice fit =
-        one_test p (is_own p bound w self f rest (read f.variables v.variable.0)) F1 [] _ (λ e. tt) (λ e. h)
+        one_test p (is_own w.blocks self (read f.variables v.variable.0)) F1 [] _ (λ e. tt) (λ e. h)
     instruction_fine (New v arguments next) choice fit =
         given_fine p bound w self f rest h [] (payloads_claimed arguments) _ (λ given. new_fits m v arguments there fit given)
     instruction_fine (Exchange e next) choice fit =
         let x = read f.variables e.holder.variable.0 in
         let y = read f.variables e.given.variable.0 in
-        one_test p (is_own p bound w self f rest x) F1 _ _ (λ k. tt)
+        one_test p (is_own w.blocks self x) F1 _ _ (λ k. tt)
         (λ k. let o = own_at p bound w self f rest h x k in
         one_test p (is_own_still w.blocks self (address x ∷ []) y) F3 [] _ (λ l. tt)
         (λ l. let s = still_own p bound w self f rest h (address x ∷ []) y l in
@@ -147,19 +147,19 @@ module _ (p : ProgramModel) (bound : QueueBounds) (w : World) (self : ℕ) (f : 
         (λ same. true≢false (eqb_same (address x) (address y) (sym same)) (or_false (address x == address y) false s.1).0)))
     instruction_fine (NewChannel c next) choice fit = channel_fits c fit.0 fit.1
     instruction_fine (Move v u next) choice fit =
-        one_test p (is_own p bound w self f rest (read f.variables u.variable.0)) F1 [] _ (λ e. tt) (λ e. h)
+        one_test p (is_own w.blocks self (read f.variables u.variable.0)) F1 [] _ (λ e. tt) (λ e. h)
     instruction_fine (Delete v next) choice fit =
-        one_test p (is_own p bound w self f rest (read f.variables v.variable.0)) F2 [] _ (λ e. tt)
+        one_test p (is_own w.blocks self (read f.variables v.variable.0)) F2 [] _ (λ e. tt)
         (λ e. let o = own_at p bound w self f rest h (read f.variables v.variable.0) e in delete_fits p bound w self f rest h
         (address (read f.variables v.variable.0)) (ap (λ (x : Option ℕ). owns w.blocks self (address x)) o.is ∙ o.owned))
     instruction_fine (Send place e message payloads next) choice fit =
         let x = read f.variables e.variable.0 in
         let args = payloads_claimed payloads in
         let msg : MessageHeld = record { message = message.0; payload = addresses f.variables args } in
-        one_test p (is_own p bound w self f rest x) F1 _ _ (λ k. tt)
+        one_test p (is_own w.blocks self x) F1 _ _ (λ k. tt)
         (λ k. let o = own_at p bound w self f rest h x k in
-        subst (λ (z : Outcome). IsFine p z) (sym (tested_append (argument_tests p bound w self f rest [] args)
-        (send_tests p bound w self f rest (address x) (state_by_send p bound w self f rest (address x) message.0)) _))
+        subst (λ (z : Outcome). IsFine p z) (sym (tested_append (argument_tests w.blocks self f.variables [] args)
+        (send_tests p bound w.blocks (address x) message.0) _))
         (given_fine p bound w self f rest h [] args _ (λ given. send_fine p bound w self f rest h longer sound (address x) msg
         (let_go f.variables args) next (ap (λ (x : Option ℕ). owns w.blocks self (address x)) o.is ∙ o.owned)
         (given_mine p bound w self f rest h [] args given) (once_given payloads given))))

@@ -12,10 +12,10 @@ use Rattle.program.specs.declared.types.HeapType.{HeapType}
 use Rattle.program.specs.declared.types.Side.{Side}
 use Rattle.contracts.specs.Leaving.{end_on}
 use Rattle.rules.specs.Endpoints.{edges_out}
-use Rattle.machine.specs.Blocks.{is_own_still, exchanged_block, goes_with, with_new_owner, sent_block, freed_block}
+use Rattle.machine.specs.Blocks.{is_own_still, exchanged_block, goes_with, with_new_owner, sent_block, freed_block, argument_tests}
 use Rattle.machine.specs.Frames.{address, addresses}
 use Rattle.machine.specs.Outcomes.{Outcome, Moved, Faulty, QueueBounds, FaultTest, test, after_tests}
-use Rattle.machine.specs.World.{no_type, MessageHeld, Block, Frame, World, block_at, read, owns}
+use Rattle.machine.specs.World.{no_type, MessageHeld, Block, Frame, World, block_at, read, owns, is_own}
 use Rattle.machine.specs.World.{is_inside, is_queue, is_freed, change_each, no_block}
 use Rattle.machine.specs.declared.halts.Fault.TheVariants.{F1, F3, F6}
 use Rattle.machine.specs.declared.halts.Fault.{Fault}
@@ -30,7 +30,6 @@ use Rattle.sound.proofs.blocks.ExchangedBlocks as exchanging
 use Rattle.sound.proofs.blocks.HandedBlocks.{handed_fits}
 use Rattle.sound.proofs.Invariant.{one_if, standing_in, BlocksFit}
 use Rattle.sound.proofs.Lists.{and_true}
-use Rattle.machine.specs.Instructions.{is_own, argument_tests}
 use Rattle.rules.proofs.TransferLemmas.{of_not}
 use Rattle.machine.proofs.ChangeLemmas.{changed_length, true≢false}
 use Rattle.machine.proofs.Holding.{owned_there}
@@ -95,7 +94,7 @@ module _ (p : ProgramModel) (bound : QueueBounds) (w : World) (self : ℕ) (f : 
     pub is : x ≡ Some at
     pub owned : owns w.blocks self at ≡ true
 
-  pub own_at : (x : Option ℕ) → is_own p bound w self f rest x ≡ true → OwnAt x
+  pub own_at : (x : Option ℕ) → is_own w.blocks self x ≡ true → OwnAt x
   own_at None e = absurd (cc)
   own_at (Some a) e = record { at = a; is = refl; owned = e }
 
@@ -107,7 +106,7 @@ module _ (p : ProgramModel) (bound : QueueBounds) (w : World) (self : ℕ) (f : 
       × AreGiven (if a.claimed then address (read f.variables a.mention.variable.0) ∷ taken else taken) arguments
 
   pub given_fine : (taken : List ℕ) (arguments : List Argument) (o : Outcome) → (AreGiven taken arguments → IsFine p o)
-      → IsFine p (after_tests (argument_tests p bound w self f rest taken arguments) o)
+      → IsFine p (after_tests (argument_tests w.blocks self f.variables taken arguments) o)
   given_fine taken [] o go = go tt
   given_fine taken (a ∷ arguments) o go =
       one_test p (is_own_still w.blocks self taken (read f.variables a.mention.variable.0)) (if a.claimed then F3 else F1) _ o

@@ -16,7 +16,7 @@ use Rattle.flow.specs.Graphs.{Switch}
 use Rattle.contracts.specs.Bounds.{sign_to}
 use Rattle.contracts.specs.Leaving.{sign_from}
 use Rattle.contracts.specs.TwoEnds.{Leads, HeldAlways, NeverLonger}
-use Rattle.machine.specs.Blocks.{sent_block, received_block, bound_of}
+use Rattle.machine.specs.Blocks.{sent_block, received_block, bound_of, has_room, send_tests, sent_state, may_send, state_after_receive}
 use Rattle.machine.specs.Frames.{address}
 use Rattle.machine.specs.Outcomes.{Outcome, QueueBounds, test, after_tests, Waits}
 use Rattle.machine.specs.World.{MessageHeld, Block, Frame, World, block_at, read, owns, is_freed_at, cut_off, is_empty, change_each}
@@ -31,8 +31,9 @@ use Rattle.sound.proofs.blocks.SentBlocks.{process_not_freed}
 use Rattle.sound.proofs.events.Sending.{end_is, sends_along, room_is}
 use Rattle.sound.proofs.blocks.AnyBlocks.{RunFits, IsFine, one_test, or_rest, some_is, no_edges, end_of_type, own_at, lost_fits}
 use Rattle.sound.specs.Queues.{other}
-use Rattle.machine.specs.Instructions.{is_own, send_tests, send_from, state_by_send, state_by_receive, has_room, receives, receives_at, closes_at}
+use Rattle.machine.specs.Instructions.{send_from, receives, receives_at, closes_at}
 use Rattle.machine.specs.Instructions.{receives_from, outcome_from}
+use Rattle.machine.specs.World.{is_own}
 use Rattle.machine.proofs.Holding.{owned_there}
 use Rattle.rules.proofs.EndLemmas.{each_at}
 use Rattle.machine.proofs.ChangeLemmas.{true≢false}
@@ -71,7 +72,7 @@ module _ (p : ProgramModel) (bound : QueueBounds) (w : World) (self : ℕ) (f : 
       (mine : (x : ℕ) → is_among m.payload x ≡ true → owns w.blocks self x ≡ true)
       (once : (x : ℕ) → standing_in x m.payload ≡ one_if (is_among m.payload x)) where
     abbrev edge : Option ℕ
-    edge = state_by_send p bound w self f rest a m.message
+    edge = sent_state p w.blocks a m.message
 
     abbrev state' : ℕ
     state' = if cut_off w.blocks a then (block_at w.blocks a).state else unwrap_or edge (block_at w.blocks a).state
@@ -87,7 +88,7 @@ module _ (p : ProgramModel) (bound : QueueBounds) (w : World) (self : ℕ) (f : 
 
     -- the queue has room, and with the message what is to hold does
     abbrev Sends : Type 0
-    Sends = (has_room p bound w self f rest to ≡ true) × RunFits p (change_each (sent_block a state' to (is_freed_at w.blocks to) m) w.blocks)
+    Sends = (has_room bound w.blocks to ≡ true) × RunFits p (change_each (sent_block a state' to (is_freed_at w.blocks to) m) w.blocks)
 
     end_sends : (c : ℕ) (side : Side) → stateless (block_at w.blocks a).ty ≡ Endpoint record { 0 = c } side record { 0 = 0 }
         → cut_off w.blocks a || is_some edge ≡ true → Sends
@@ -124,9 +125,9 @@ module _ (p : ProgramModel) (bound : QueueBounds) (w : World) (self : ℕ) (f : 
     sends may = ⊎_elim (λ e. let k = end_is (block_at w.blocks a).ty e in end_sends k.c k.side k.is may) (λ e. plain_sends e may)
         (cases_Bool (is_end (block_at w.blocks a).ty))
 
-    pub send_fine : IsFine p (after_tests (send_tests p bound w self f rest a edge) (send_from p bound w self f rest a m edge vs' next))
-    send_fine = one_test p (cut_off w.blocks a || is_some edge) F4 (test (has_room p bound w self f rest to) F6 ∷ []) _ (λ e. tt)
-        (λ may. one_test p (has_room p bound w self f rest to) F6 [] _ (λ e. true≢false (sends may).0 e) (λ e. (sends may).1))
+    pub send_fine : IsFine p (after_tests (send_tests p bound w.blocks a m.message) (send_from p bound w self f rest a m vs' next))
+    send_fine = one_test p (may_send p w.blocks a m.message) F4 (test (has_room bound w.blocks to) F6 ∷ []) _ (λ e. tt)
+        (λ may. one_test p (has_room bound w.blocks to) F6 [] _ (λ e. true≢false (sends may).0 e) (λ e. (sends may).1))
 
   -- ---- Switch
   received_fits : (a state' : ℕ) (m : MessageHeld) (ms : List MessageHeld) (c : ℕ) (side : Side) (owned : owns w.blocks self a ≡ true)
@@ -155,10 +156,10 @@ module _ (p : ProgramModel) (bound : QueueBounds) (w : World) (self : ℕ) (f : 
 
   module _ (always : HeldAlways) (sound : IsSoundProgram p bound) (cases : List EntranceModel) where
     takes_fits : (a : ℕ) (m : MessageHeld) (ms : List MessageHeld) → owns w.blocks self a ≡ true → (block_at w.blocks a).queue ≡ m ∷ ms
-        → RunFits p (change_each (received_block self a (unwrap_or (state_by_receive p bound w self f rest a m.message) (block_at w.blocks a).state) m
+        → RunFits p (change_each (received_block self a (state_after_receive p w.blocks a m.message) m
         ms) w.blocks)
     takes_fits a m ms owned was =
-        let state' = unwrap_or (state_by_receive p bound w self f rest a m.message) (block_at w.blocks a).state in
+        let state' = state_after_receive p w.blocks a m.message in
         let end : is_end (block_at w.blocks a).ty ≡ true =
         ⊎_elim (λ e. e) (λ e. absurd (empty_not m ms (sym (h.plain a e) ∙ was))) (cases_Bool (is_end (block_at w.blocks a).ty)) in
         let k = end_is (block_at w.blocks a).ty end in
@@ -188,7 +189,7 @@ module _ (p : ProgramModel) (bound : QueueBounds) (w : World) (self : ℕ) (f : 
     receives_fine v a (m ∷ ms) owned was = takes_fine (case_for cases v (Some m.message)) a m ms owned was
 
     chosen_fine : (x : Option Mention)
-        → ((v : Mention) → x ≡ Some v → is_own p bound w self f rest (read f.variables v.variable.0) ≡ true)
+        → ((v : Mention) → x ≡ Some v → is_own w.blocks self (read f.variables v.variable.0) ≡ true)
         → IsFine p (receives_from p bound w self f rest cases x)
     chosen_fine None own = tt
     chosen_fine (Some v) own =
@@ -197,15 +198,15 @@ module _ (p : ProgramModel) (bound : QueueBounds) (w : World) (self : ℕ) (f : 
         receives_fine v.variable.0 a (block_at w.blocks a).queue (ap (λ (x : Option ℕ). owns w.blocks self (address x)) o.is ∙ o.owned) refl
 
     mentions_fine : (es : List Mention) (o : Outcome)
-        → (Each (λ e. is_own p bound w self f rest (read f.variables e.variable.0) ≡ true) es → IsFine p o)
-        → IsFine p (after_tests (map (λ e. test (is_own p bound w self f rest (read f.variables e.variable.0)) F1) es) o)
+        → (Each (λ e. is_own w.blocks self (read f.variables e.variable.0) ≡ true) es → IsFine p o)
+        → IsFine p (after_tests (map (λ e. test (is_own w.blocks self (read f.variables e.variable.0)) F1) es) o)
     mentions_fine [] o go = go tt
     mentions_fine (e ∷ es) o go =
-        one_test p (is_own p bound w self f rest (read f.variables e.variable.0)) F1 _ o (λ k. tt)
+        one_test p (is_own w.blocks self (read f.variables e.variable.0)) F1 _ o (λ k. tt)
         (λ k. mentions_fine es o (λ more. go (k, more)))
 
     pub switch_fine : (place : Place) (choice : ℕ) → IsFine p (outcome_from p bound w self f rest (Switch place cases) choice)
     switch_fine place choice = mentions_fine (first_mentions [] cases) _
         (λ own. chosen_fine (slice_get (first_mentions [] cases) choice)
-        (λ v is. each_at (λ e. is_own p bound w self f rest (read f.variables e.variable.0) ≡ true)
+        (λ v is. each_at (λ e. is_own w.blocks self (read f.variables e.variable.0) ≡ true)
         (first_mentions [] cases) choice v own is))

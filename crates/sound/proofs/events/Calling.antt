@@ -23,7 +23,7 @@ use Rattle.sound.proofs.Parameters.{each_argument}
 use Rattle.rules.specs.Steps.{entry_leaf, outcome, entry_of, method_entry}
 use Rattle.rows.specs.declared.row.Leaf.{Leaf}
 use Rattle.analyse.specs.Reach.{Reached}
-use Rattle.machine.specs.Blocks.{is_own_still}
+use Rattle.machine.specs.Blocks.{is_own_still, argument_tests}
 use Rattle.machine.specs.Frames.{method_at, variables_at_entry, address, entered_at, instruction_at, point_instruction}
 use Rattle.machine.specs.Outcomes.{Moved, QueueBounds}
 use Rattle.machine.specs.World.{Frame, World, stack_at, read, owns, let_go}
@@ -41,7 +41,7 @@ use Rattle.sound.proofs.Kept.{LentStays, lent_stays_same, lent_stays_set, rest_a
 use Rattle.sound.proofs.Lists.{each_map}
 use Rattle.sound.proofs.Quiet.{stays_same}
 use Rattle.sound.proofs.Here.{IsGood, tested_good, test_holds, Here, AllHold}
-use Rattle.machine.specs.Instructions.{outcome_from, argument_tests}
+use Rattle.machine.specs.Instructions.{outcome_from}
 use Rattle.machine.proofs.CountLemmas.{one_or_none}
 use Rattle.machine.proofs.HeldExchange.{one_if_true}
 use Rattle.machine.proofs.ChangeLemmas.{eqb_apart}
@@ -105,7 +105,7 @@ module _ (p : ProgramModel) (bound : QueueBounds) (w : World) (self : ℕ) (f : 
   pub arguments_hold : (row : List Leaf) (types : List HeapType) (taken : List ℕ) (arguments : List Argument)
       → ((y : ℕ) → standing y f.variables ≤ 1) → ((y v : ℕ) → read f.variables v ≡ Some y → owns w.blocks self y ≡ true)
       → PairApart arguments → TakenApart f.variables taken arguments → ArgsFit w.blocks f.variables row types arguments
-      → AllHold (argument_tests p bound w self f rest taken arguments)
+      → AllHold (argument_tests w.blocks self f.variables taken arguments)
   arguments_hold row [] taken [] once own apart t fit = tt
   arguments_hold row [] taken (a ∷ arguments) once own apart t fit = absurd fit
   arguments_hold row (k ∷ types) taken [] once own apart t fit = absurd fit
@@ -215,7 +215,7 @@ good_call p bound w self choice f rest m place method arguments target next h fi
     ap (λ (o : Option MethodModel). point_instruction o f.point) h.there ∙ h.at in
     let back : kept_back p g' ≡ let_go us (as_claimed arguments) =
     ap (λ (o : Option Instruction). let_go us (as_claimed (call_arguments o))) at in
-    tested_good p w (argument_tests p bound w self f rest [] arguments) _
+    tested_good p w (argument_tests w.blocks self f.variables [] arguments) _
     (arguments_hold p bound w self f rest h.row (types_among x.variables) [] arguments (λ y. top_once p w self f rest y h.holds h.is)
     (λ y v i. top_owned p w self f rest y v h.holds h.is i) apart (none_taken vs arguments) args)
     (subst (λ (t : Frame). IsGood p w (Moved record { processes = set w.processes self (t ∷ g' ∷ rest); blocks = w.blocks }))

@@ -32,7 +32,8 @@ use Rattle.sound.proofs.Kept.{lent_stays_set, on_world, goes_on, AreKept, LiesIn
 use Rattle.sound.proofs.Lists.{not_false, and_true, both_true}
 use Rattle.sound.proofs.Quiet.{contains_first, own_holds}
 use Rattle.sound.proofs.Here.{IsGood, tested_good, test_holds, row_set, Here, owned_is}
-use Rattle.machine.specs.Instructions.{is_own, outcome_from}
+use Rattle.machine.specs.Instructions.{outcome_from}
+use Rattle.machine.specs.World.{is_own}
 use Rattle.machine.proofs.ChangeLemmas.{changed_length, eqb_same, eqb_apart, true≢false}
 
 -- ---- owners
@@ -233,8 +234,8 @@ good_delete p bound w self choice f rest m v next h =
     let bs = change_each (freed_block (goes_with w.blocks a)) w.blocks in
     let reached = h.onward ((next, row') ∷ []) (next, row') (passed_goes checks ((next, row') ∷ []) passed)
     (contains_first (next, row') []) in
-    tested_good p w (test (is_own p bound w self f rest (read f.variables v.variable.0)) F2 ∷ []) _ (
-      test_holds (is_own p bound w self f rest (read f.variables v.variable.0)) F2
+    tested_good p w (test (is_own w.blocks self (read f.variables v.variable.0)) F2 ∷ []) _ (
+      test_holds (is_own w.blocks self (read f.variables v.variable.0)) F2
           (own_holds p bound w self f rest (read f.variables v.variable.0) o.at o.is o.owned),
       tt,
     )

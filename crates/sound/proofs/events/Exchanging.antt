@@ -16,7 +16,7 @@ use Rattle.rules.specs.RuleTable.{after_exchange}
 use Rattle.machine.specs.Blocks.{exchanged_block, is_own_still}
 use Rattle.machine.specs.Frames.{address}
 use Rattle.machine.specs.Outcomes.{QueueBounds, Moved, test}
-use Rattle.machine.specs.World.{Block, Frame, World, block_at, change_each, owns, read}
+use Rattle.machine.specs.World.{Block, Frame, World, block_at, change_each, owns, read, is_own}
 use Rattle.machine.specs.declared.halts.Fault.TheVariants.{F1, F3}
 use Rattle.sound.specs.GraphFit.{IsExchangeFit, IsGraphFit}
 use Rattle.sound.specs.Operands.{stateless}
@@ -32,7 +32,7 @@ use Rattle.sound.proofs.Lists.{not_false}
 use Rattle.sound.proofs.Parameters.{field_known}
 use Rattle.sound.proofs.Quiet.{contains_first, fits_type, own_holds}
 use Rattle.sound.proofs.blocks.SentBlocks.{process_not_freed}
-use Rattle.machine.specs.Instructions.{outcome_from, exchanges, is_own}
+use Rattle.machine.specs.Instructions.{outcome_from, exchanges}
 use Rattle.machine.proofs.ChangeLemmas.{eqb_same, eqb_apart, true≢false}
 
 -- the state of a type says nothing of fields
@@ -114,12 +114,12 @@ good_exchange p bound w self choice f rest m e next h fit =
     let reached = h.onward ((next, row') ∷ []) (next, row')
     (ap (λ (o : Option HeapType). after_exchange p m h.row e next o) type_is ∙ passed_goes checks ((next, row') ∷ []) passed)
     (contains_first (next, row') []) in
-    let tests = test (is_own p bound w self f rest (read vs hv)) F1
+    let tests = test (is_own w.blocks self (read vs hv)) F1
     ∷ test (is_own_still w.blocks self (address (read vs hv) ∷ []) (read vs xv)) F3 ∷ [] in
     let found' : slice_get (block_at w.blocks (address (read vs hv))).fields e.field ≡ Some held =
     ap (λ (y : Option ℕ). slice_get (block_at w.blocks (address y)).fields e.field) o.is ∙ found in
     tested_good p w tests _ (
-      test_holds (is_own p bound w self f rest (read vs hv)) F1 (own_holds p bound w self f rest (read vs hv) a o.is o.owned),
+      test_holds (is_own w.blocks self (read vs hv)) F1 (own_holds p bound w self f rest (read vs hv) a o.is o.owned),
       (
         test_holds (is_own_still w.blocks self (address (read vs hv) ∷ []) (read vs xv)) F3
             (ap (λ (y : Option ℕ). is_own_still w.blocks self (address y ∷ []) (read vs xv)) o.is

@@ -31,7 +31,8 @@ use Rattle.sound.proofs.Kept.{goes_on, lent_stays_on, lent_stays_set, row_kept, 
 use Rattle.sound.proofs.blocks.NewBlock as made
 use Rattle.sound.proofs.Parameters.{each_taken, fields_known}
 use Rattle.sound.proofs.Quiet.{contains_first}
-use Rattle.machine.specs.Instructions.{argument_tests, outcome_from}
+use Rattle.machine.specs.Instructions.{outcome_from}
+use Rattle.machine.specs.Blocks.{argument_tests}
 
 pub good_new : (p : ProgramModel) (bound : QueueBounds) (w : World) (self choice : ℕ) (f : Frame) (rest : List Frame) (m : MethodModel)
     (target : Mention) (arguments : List Mention) (next : ℕ)
@@ -91,7 +92,7 @@ good_new p bound w self choice f rest m target arguments next h fit =
     }) in
     let reached = h.onward ((next, row') ∷ []) (next, row') (passed_goes checks ((next, row') ∷ []) passed)
     (contains_first (next, row') []) in
-    tested_good p w (argument_tests p bound w self f rest [] args) _
+    tested_good p w (argument_tests w.blocks self f.variables [] args) _
     (arguments_hold p bound w self f rest h.row types [] args all own apart (none_taken vs args) fits) (
       goes_on p w self f rest m next vs' row' bs' h.holds h.is h.there h.below reached fits' (record {
         lent = lent_stays_on m.variables vs us vs'

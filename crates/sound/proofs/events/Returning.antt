@@ -32,7 +32,7 @@ use Rattle.analyse.specs.Reach.{Reached}
 use Rattle.machine.specs.Blocks.{owns_none}
 use Rattle.machine.specs.Frames.{method_at, instruction_at, point_instruction, put, call_target, call_next}
 use Rattle.machine.specs.Outcomes.{Moved, QueueBounds, test, after_tests}
-use Rattle.machine.specs.World.{Block, Frame, World, stack_at, read, owns, let_go}
+use Rattle.machine.specs.World.{Block, Frame, World, stack_at, read, owns, let_go, is_own}
 use Rattle.machine.specs.declared.halts.Fault.TheVariants.{F3, F7}
 use Rattle.sound.specs.GraphFit.{AreGraphsFit, IsCallFit, IsReturnFit}
 use Rattle.sound.specs.Operands.{IsOfType, AreArguments, IsTakenBy}
@@ -50,7 +50,7 @@ use Rattle.sound.proofs.Lists.{element_at, not_false}
 use Rattle.sound.proofs.Quiet.{contains_first, own_holds, fits_type, type_same, stays_same, type_there}
 use Rattle.sound.proofs.Here.{IsGood, tested_good, test_holds, row_set, nothing_none, Here, owned_is, outcome_at}
 use Rattle.sound.proofs.events.GivenBack.{passed_range, passed_has, put_back, LentEnds, GivenBack, all_back, fits_back, lent_counts}
-use Rattle.machine.specs.Instructions.{outcome_from, is_own, returns, value_tests}
+use Rattle.machine.specs.Instructions.{outcome_from, returns, value_tests}
 use Rattle.machine.proofs.ChangeLemmas.{eqb_apart}
 
 -- ---- the frame that ends
@@ -301,7 +301,7 @@ module _ (p : ProgramModel) (bound : QueueBounds) (w : World) (self choice : ℕ
       (something_is (leaf_at left t.variable.0) (not_refused (is_owned left t.variable.0) _ t_checks.1.0)) in
       let gv' = set g.variables t.variable.0 x in
       tested_good p w (value_tests p bound w self f (g ∷ more) (Some v)) _
-      (test_holds (is_own p bound w self f (g ∷ more) x) F3 (own_holds p bound w self f (g ∷ more) x o.at o.is o.owned), tt)
+      (test_holds (is_own w.blocks self x) F3 (own_holds p bound w self f (g ∷ more) x o.at o.is o.owned), tt)
       (subst (λ (z : Option Mention). IsGood p w (Moved record {
         processes =
             set w.processes self (record { method = g.method; point = call_next (instruction_at p g); variables = put g.variables z x }

@@ -32,10 +32,10 @@ use Rattle.sound.proofs.Parameters.{each_taken, type_known}
 use Rattle.rules.specs.Texts.{not_sent, wrong_for}
 use Rattle.rows.specs.declared.row.Leaf.TheVariants as leaf
 use Rattle.rows.specs.declared.row.Leaf.{Leaf}
-use Rattle.machine.specs.Blocks.{bound_of}
+use Rattle.machine.specs.Blocks.{bound_of, argument_tests, has_room, send_tests, sent_state}
 use Rattle.machine.specs.Frames.{address, payloads_claimed, addresses}
 use Rattle.machine.specs.Outcomes.{QueueBounds, test, after_tests}
-use Rattle.machine.specs.World.{MessageHeld, Block, Frame, World, block_at, read, is_freed_at, cut_off, is_empty, let_go}
+use Rattle.machine.specs.World.{MessageHeld, Block, Frame, World, block_at, read, is_freed_at, cut_off, is_empty, let_go, is_own}
 use Rattle.machine.specs.declared.halts.Fault.TheVariants.{F1, F4, F6}
 use Rattle.sound.specs.GraphFit.{IsSendFit}
 use Rattle.sound.specs.Operands.{stateless}
@@ -53,7 +53,7 @@ use Rattle.sound.proofs.Quiet.{contains_first, own_holds}
 use Rattle.sound.proofs.blocks.SentBlocks.{peer_is, process_not_freed, sent, at, cut_now, kept_now, state_mine, counted_now, others_now, channels_now, queues_now, brought_now, held_now, declared_now}
 use Rattle.sound.proofs.Here.{IsGood, tested_good, test_holds, Here, owned_is}
 use Rattle.sound.specs.Queues.{other}
-use Rattle.machine.specs.Instructions.{outcome_from, argument_tests, send_tests, send_from, state_by_send, has_room, is_own}
+use Rattle.machine.specs.Instructions.{outcome_from, send_from}
 use Rattle.machine.proofs.ChangeLemmas.{eqb_same, ltb_true_of, true≢false}
 use Rattle.rules.proofs.TransferLemmas.{of_not}
 
@@ -211,7 +211,7 @@ pub room_is : NeverLonger → (p : ProgramModel) (bound : QueueBounds) → IsSou
     → stateless (block_at w.blocks a).ty ≡ Endpoint record { 0 = c } side record { 0 = 0 }
     → (cut_off w.blocks a ≡ false → (y : ContractModel) → slice_get p.contracts c ≡ Some y
     → Leads y.parts.edges record { 0 = (block_at w.blocks a).state } record { 0 = msg.message } (sign_from side) record { 0 = state' })
-    → has_room p bound w self f rest (block_at w.blocks a).peer ≡ true
+    → has_room bound w.blocks (block_at w.blocks a).peer ≡ true
 room_is longer p bound sound w self f rest a state' msg c side channels within alive ty leads = ⊎_elim
     (λ g. or_left (is_freed_at w.blocks (block_at w.blocks a).peer) _ g)
     (λ g.
@@ -312,7 +312,7 @@ good_send p bound w self choice f rest m longer sound place e message payloads n
     let own = λ (y u : ℕ) (i : read vs u ≡ Some y). top_owned p w self f rest y u h.holds h.is i in
     let end_k = end_is x.ty end in
     let type_a = o.leaf.ty ∙ end_k.is in
-    let edge = state_by_send p bound w self f rest a message.0 in
+    let edge = sent_state p w.blocks a message.0 in
     let state' = if cut_off w.blocks a then (block_at w.blocks a).state else unwrap_or edge (block_at w.blocks a).state in
     let msg : MessageHeld = record { message = message.0; payload = addresses vs args } in
     let leaves = λ (y : ℕ). given_leaves y w.blocks vs h.row types args fits apart claims (all y) in
@@ -358,18 +358,18 @@ good_send p bound w self choice f rest m longer sound place e message payloads n
     (λ y i short. kept' (λ z. is_among (addresses vs args) z ≡ true)
     (λ z q s. true≢false q (ap (is_among (addresses vs args)) s ∙ not_mine)) y i short) in
     let is_address : address (read vs v) ≡ a = ap address o.is in
-    subst (λ (n : ℕ). IsGood p w (after_tests (test (is_own p bound w self f rest (read vs v)) F1
-    ∷ (argument_tests p bound w self f rest [] args ++ send_tests p bound w self f rest n (state_by_send p bound w self f rest n message.0)))
-    (send_from p bound w self f rest n msg (state_by_send p bound w self f rest n message.0) (let_go vs args) next))) (sym is_address)
-    (tested_good p w (test (is_own p bound w self f rest (read vs v)) F1
-    ∷ (argument_tests p bound w self f rest [] args ++ send_tests p bound w self f rest a edge)) _ (
-      test_holds (is_own p bound w self f rest (read vs v)) F1 (own_holds p bound w self f rest (read vs v) a o.is o.owned),
-      each_append (λ t. t ≡ None) (argument_tests p bound w self f rest [] args) (send_tests p bound w self f rest a edge)
+    subst (λ (n : ℕ). IsGood p w (after_tests (test (is_own w.blocks self (read vs v)) F1
+    ∷ (argument_tests w.blocks self f.variables [] args ++ send_tests p bound w.blocks n message.0))
+    (send_from p bound w self f rest n msg (let_go vs args) next))) (sym is_address)
+    (tested_good p w (test (is_own w.blocks self (read vs v)) F1
+    ∷ (argument_tests w.blocks self f.variables [] args ++ send_tests p bound w.blocks a message.0)) _ (
+      test_holds (is_own w.blocks self (read vs v)) F1 (own_holds p bound w self f rest (read vs v) a o.is o.owned),
+      each_append (λ t. t ≡ None) (argument_tests w.blocks self f.variables [] args) (send_tests p bound w.blocks a message.0)
           (arguments_hold p bound w self f rest h.row types [] args all own apart (none_taken vs args) fits) (
             test_holds (cut_off w.blocks a || is_some edge) F4 (⊎_elim (λ c. or_left (cut_off w.blocks a) (is_some edge) c)
                 (λ c. or_right (cut_off w.blocks a) (is_some edge) (ap is_some (found c).edge)) (cases_Bool (cut_off w.blocks a))),
             (
-              test_holds (has_room p bound w self f rest (block_at w.blocks a).peer) F6
+              test_holds (has_room bound w.blocks (block_at w.blocks a).peer) F6
                   (room_is longer p bound sound w self f rest a state' msg end_k.c end_k.side h.holds.channels o.leaf.there
                   (process_not_freed (block_at w.blocks a).owner self o.owned) type_a leads),
               tt,

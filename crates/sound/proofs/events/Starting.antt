@@ -25,7 +25,7 @@ use Rattle.sound.proofs.Parameters.{each_argument}
 use Rattle.rules.specs.Steps.{entry_leaf, outcome, entry_of}
 use Rattle.rows.specs.declared.row.Leaf.{Leaf}
 use Rattle.analyse.specs.Reach.{Reached}
-use Rattle.machine.specs.Blocks.{with_new_owner}
+use Rattle.machine.specs.Blocks.{with_new_owner, argument_tests}
 use Rattle.machine.specs.Frames.{method_at, variables_at_entry, entered_at, addresses}
 use Rattle.machine.specs.Outcomes.{Moved, QueueBounds}
 use Rattle.machine.specs.World.{no_type, Block, Frame, World, block_at, stack_at, read, owns, is_process}
@@ -48,7 +48,7 @@ use Rattle.sound.proofs.Kept.{went}
 use Rattle.sound.proofs.Lists.{each_map}
 use Rattle.sound.proofs.Quiet.{contains_first}
 use Rattle.sound.proofs.Here.{IsGood, tested_good, Here}
-use Rattle.machine.specs.Instructions.{outcome_from, argument_tests}
+use Rattle.machine.specs.Instructions.{outcome_from}
 use Rattle.machine.proofs.ChangeLemmas.{changed_length, eqb_same, eqb_apart, true≢false}
 use Rattle.machine.proofs.Holding.{owned_there}
 
@@ -274,7 +274,7 @@ good_start p bound w self choice f rest m place method arguments next h g =
     let top : Frame = record { method = method.0; point = (graph_of x).first; variables = variables_at_entry x.variables (given_of vs arguments) } in
     let cut = cut_now p w self h.holds (addresses vs arguments) mine in
     let bs' = taken p w self h.holds (addresses vs arguments) mine in
-    tested_good p w (argument_tests p bound w self f rest [] arguments) _
+    tested_good p w (argument_tests w.blocks self f.variables [] arguments) _
     (arguments_hold p bound w self f rest h.row (types_among x.variables) [] arguments all own apart (none_taken vs arguments) args)
     (subst (λ (t : Frame). IsGood p w (Moved record {
       processes = set w.processes self (went f next us ∷ rest) ++ (t ∷ []) ∷ [];

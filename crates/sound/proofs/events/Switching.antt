@@ -34,7 +34,7 @@ use Rattle.rows.specs.declared.row.Leaf.{Leaf}
 use Rattle.analyse.specs.Reach.{Reached}
 use Rattle.machine.specs.Frames.{address, bound_to}
 use Rattle.machine.specs.Outcomes.{Moved, QueueBounds, test, Waits}
-use Rattle.machine.specs.World.{MessageHeld, Block, Frame, World, block_at, read, is_freed_at, cut_off, is_empty}
+use Rattle.machine.specs.World.{MessageHeld, Block, Frame, World, block_at, read, is_freed_at, cut_off, is_empty, is_own}
 use Rattle.machine.specs.declared.halts.Fault.TheVariants.{F1}
 use Rattle.sound.specs.GraphFit.{IsSwitch, IsEntrance, IsBoundAt}
 use Rattle.sound.specs.Operands.{stateless, IsEndVariable}
@@ -56,7 +56,8 @@ use Rattle.sound.proofs.Here.{IsGood, tested_good, nothing_none, Here, Owned, ow
 use Rattle.sound.proofs.Parameters.{type_known}
 use Rattle.sound.proofs.Cases.{passed_flat, passed_map, Found, found_in, bound_fits, bound_counts}
 use Rattle.sound.proofs.Cases.{bound_stays, and_false, InState, in_state_is, tests_own, brings}
-use Rattle.machine.specs.Instructions.{outcome_from, is_own, receives, receives_from, receives_at, closes_at, state_by_receive}
+use Rattle.machine.specs.Instructions.{outcome_from, receives, receives_from, receives_at, closes_at}
+use Rattle.machine.specs.Blocks.{state_after_receive}
 use Rattle.rules.proofs.EndLemmas.{each_at}
 use Rattle.analyse.proofs.FrontLemmas.{contains_at}
 use Rattle.contracts.proofs.CandidateLemmas.{in_flat}
@@ -159,7 +160,7 @@ module _ (p : ProgramModel) (bound : QueueBounds) (w : World) (self choice : ℕ
       edges_are = ap (λ (z : Option ContractModel). option_map_or (λ u. u.parts.edges) z []) front.there
 
       abbrev state' : ℕ
-      state' = unwrap_or (state_by_receive p bound w self f rest own.at y.message) (block_at w.blocks own.at).state
+      state' = state_after_receive p w.blocks own.at y.message
 
       state'_is : state' ≡ front.to
       state'_is = ap (λ (z : Option ℕ). unwrap_or z (block_at w.blocks own.at).state) front.state_by_receive
@@ -304,6 +305,6 @@ module _ (p : ProgramModel) (bound : QueueBounds) (w : World) (self choice : ℕ
   from_choice (Some v) is = chosen_good v is
 
   pub good_switch : IsGood p w (outcome_from p bound w self f rest (Switch place cases) choice)
-  good_switch = tested_good p w (map (λ e. test (is_own p bound w self f rest (read f.variables e.variable.0)) F1) es)
+  good_switch = tested_good p w (map (λ e. test (is_own w.blocks self (read f.variables e.variable.0)) F1) es)
       (receives_from p bound w self f rest cases (slice_get es choice))
       (tests_own p bound w self f rest m h.row es h.holds h.is h.fits owned_all) (from_choice (slice_get es choice) refl)

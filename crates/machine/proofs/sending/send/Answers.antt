@@ -9,7 +9,7 @@ use Rattle.machine.proofs.SendLemmas.{send_moves}
 use Rattle.machine.proofs.sending.send.Goals as goal
 
 pub returns-then-not-send-clause-tells : goal.returns-then-not-send-clause-tells
-returns-then-not-send-clause-tells c = λ bound w rest are is.
+returns-then-not-send-clause-tells c = λ bound are w rest is.
     let sending = c.args.sending.now in (
       _,
       send_moves (model_of c.args.turn.now.program.now) bound w.blocks (blocks_model c.blocks-2.result.now) (blocks_model c.blocks-3.result.now) (blocks_model c.blocks-4.result.now) c.args.turn.now.process (variables_model c.args.frame.now.variables)

@@ -1,7 +1,7 @@
 use Rattle.std.proofs.Common.{◌≡◌, [], Some, refl, sym, subst, ap, ◌∙◌, length, map, reverse}
 use Rattle.std.proofs.lemmas.List.{get_or-map}
 use Rattle.rules.specs.Programs.{model_of}
-use Rattle.machine.specs.Blocks.{argument_tests_in, with_new_owner}
+use Rattle.machine.specs.Blocks.{argument_tests, with_new_owner}
 use Rattle.machine.specs.Frames.{addresses}
 use Rattle.machine.specs.Views.{blocks_model, frame_model, stack_of, stack_model, variables_model, world_model}
 use Rattle.machine.specs.World.{change_each, stack_at}
@@ -22,7 +22,7 @@ returns-in-Some-first_fault-clause-tells c = λ bound.
     let start = c.args.starting.now in
     let here : stack_model s ≡ stack_at (map stack_model c.args.world.now.processes.items) c.args.turn.now.process =
     ap stack_model c.index.ensures ∙ sym (get_or-map stack_model c.args.world.now.processes.items c.args.turn.now.process s [] c.requires.there) in
-    let tests = argument_tests_in (blocks_model c.blocks-2.result.now) c.args.turn.now.process (variables_model f.variables) [] c.deref.result.now in
+    let tests = argument_tests (blocks_model c.blocks-2.result.now) c.args.turn.now.process (variables_model f.variables) [] c.deref.result.now in
     refused_alone tests c.in-Some-first_fault.fault (started_to p w c.args.turn.now.process f (map frame_model (reverse s.waiting.items)) start.method start.arguments.items start.next) _ c.in-Some-first_fault.ensures
     (start_is p bound w c.args.turn.now.process start.place start.method start.arguments.items c.deref.result.now start.next _ s f (blocks_model c.blocks-2.result.now) here c.in-Some.is (ap blocks_model c.blocks-2.ensures) c.deref.ensures.value)
 
@@ -36,7 +36,7 @@ returns-in_err-owned-clause-tells c = λ bound.
     ap stack_model c.index.ensures ∙ sym (get_or-map stack_model c.args.world.now.processes.items c.args.turn.now.process s [] c.requires.there) in
     memory_tells _ c.from_residual.result x _ _ _ (passed_on _ c.from_residual.result x c.from_residual.ensures.1) c.in_err-owned.ensures.memory
     (start_goes p bound (world_model c.args.world.now) c.args.turn.now.process start.place start.method start.arguments.items c.deref.result.now start.next _ s c.in-Some.frame (blocks_model c.blocks-2.result.now)
-    here c.in-Some.is (ap blocks_model c.blocks-2.ensures) c.deref.ensures.value (none_passes (argument_tests_in (blocks_model c.blocks-2.result.now) c.args.turn.now.process (variables_model c.in-Some.frame.variables) [] c.deref.result.now) c.first_fault.result c.in_default-first_fault.is c.first_fault.ensures))
+    here c.in-Some.is (ap blocks_model c.blocks-2.ensures) c.deref.ensures.value (none_passes (argument_tests (blocks_model c.blocks-2.result.now) c.args.turn.now.process (variables_model c.in-Some.frame.variables) [] c.deref.result.now) c.first_fault.result c.in_default-first_fault.is c.first_fault.ensures))
 
 pub returns-in_err-begun-clause-tells : goal.returns-in_err-begun-clause-tells
 returns-in_err-begun-clause-tells c = λ bound.
@@ -48,7 +48,7 @@ returns-in_err-begun-clause-tells c = λ bound.
     ap stack_model c.index.ensures ∙ sym (get_or-map stack_model c.args.world.now.processes.items c.args.turn.now.process s [] c.requires.there) in
     memory_tells _ c.from_residual-in_err-begun.result x _ _ _ (passed_on _ c.from_residual-in_err-begun.result x c.from_residual-in_err-begun.ensures.1) c.in_err-begun.ensures.memory
     (start_goes p bound (world_model c.args.world.now) c.args.turn.now.process start.place start.method start.arguments.items c.deref.result.now start.next _ s c.in-Some.frame (blocks_model c.blocks-2.result.now)
-    here c.in-Some.is (ap blocks_model c.blocks-2.ensures) c.deref.ensures.value (none_passes (argument_tests_in (blocks_model c.blocks-2.result.now) c.args.turn.now.process (variables_model c.in-Some.frame.variables) [] c.deref.result.now) c.first_fault.result c.in_default-first_fault.is c.first_fault.ensures))
+    here c.in-Some.is (ap blocks_model c.blocks-2.ensures) c.deref.ensures.value (none_passes (argument_tests (blocks_model c.blocks-2.result.now) c.args.turn.now.process (variables_model c.in-Some.frame.variables) [] c.deref.result.now) c.first_fault.result c.in_default-first_fault.is c.first_fault.ensures))
 
 pub returns-in_err-list-clause-tells : goal.returns-in_err-list-clause-tells
 returns-in_err-list-clause-tells c = λ bound.
@@ -60,7 +60,7 @@ returns-in_err-list-clause-tells c = λ bound.
     ap stack_model c.index.ensures ∙ sym (get_or-map stack_model c.args.world.now.processes.items c.args.turn.now.process s [] c.requires.there) in
     memory_tells _ c.from_residual-in_err-list.result x _ _ _ (passed_on _ c.from_residual-in_err-list.result x c.from_residual-in_err-list.ensures.1) c.in_err-list.ensures.memory
     (start_goes p bound (world_model c.args.world.now) c.args.turn.now.process start.place start.method start.arguments.items c.deref.result.now start.next _ s c.in-Some.frame (blocks_model c.blocks-2.result.now)
-    here c.in-Some.is (ap blocks_model c.blocks-2.ensures) c.deref.ensures.value (none_passes (argument_tests_in (blocks_model c.blocks-2.result.now) c.args.turn.now.process (variables_model c.in-Some.frame.variables) [] c.deref.result.now) c.first_fault.result c.in_default-first_fault.is c.first_fault.ensures))
+    here c.in-Some.is (ap blocks_model c.blocks-2.ensures) c.deref.ensures.value (none_passes (argument_tests (blocks_model c.blocks-2.result.now) c.args.turn.now.process (variables_model c.in-Some.frame.variables) [] c.deref.result.now) c.first_fault.result c.in_default-first_fault.is c.first_fault.ensures))
 
 pub returns-in_err-push-clause-tells : goal.returns-in_err-push-clause-tells
 returns-in_err-push-clause-tells c = λ bound.
@@ -71,7 +71,7 @@ returns-in_err-push-clause-tells c = λ bound.
     ap stack_model c.index.ensures ∙ sym (get_or-map stack_model c.args.world.now.processes.items c.args.turn.now.process s [] c.requires.there) in
     memory_tells _ c.from_residual-in_err-push.result refusal.Memory _ _ _ (passed_on _ c.from_residual-in_err-push.result refusal.Memory c.from_residual-in_err-push.ensures.1) refl
     (start_goes p bound (world_model c.args.world.now) c.args.turn.now.process start.place start.method start.arguments.items c.deref.result.now start.next _ s c.in-Some.frame (blocks_model c.blocks-2.result.now)
-    here c.in-Some.is (ap blocks_model c.blocks-2.ensures) c.deref.ensures.value (none_passes (argument_tests_in (blocks_model c.blocks-2.result.now) c.args.turn.now.process (variables_model c.in-Some.frame.variables) [] c.deref.result.now) c.first_fault.result c.in_default-first_fault.is c.first_fault.ensures))
+    here c.in-Some.is (ap blocks_model c.blocks-2.ensures) c.deref.ensures.value (none_passes (argument_tests (blocks_model c.blocks-2.result.now) c.args.turn.now.process (variables_model c.in-Some.frame.variables) [] c.deref.result.now) c.first_fault.result c.in_default-first_fault.is c.first_fault.ensures))
 
 pub returns-clause-tells : goal.returns-clause-tells
 returns-clause-tells c = λ bound.
@@ -83,7 +83,7 @@ returns-clause-tells c = λ bound.
     let start = c.args.starting.now in
     let here : stack_model s ≡ stack_at (map stack_model ps) c.args.turn.now.process = ap stack_model c.index.ensures ∙ sym (get_or-map stack_model ps c.args.turn.now.process s [] c.requires.there) in
     let many : c.len-number.result ≡ length ps = c.len-number.ensures ∙ c.args.world.now.processes.ok.0 in
-    start_goes p bound w c.args.turn.now.process start.place start.method start.arguments.items c.deref.result.now start.next _ s f (blocks_model c.blocks-2.result.now) here c.in-Some.is (ap blocks_model c.blocks-2.ensures) c.deref.ensures.value (none_passes (argument_tests_in (blocks_model c.blocks-2.result.now) c.args.turn.now.process (variables_model c.in-Some.frame.variables) [] c.deref.result.now) c.first_fault.result c.in_default-first_fault.is c.first_fault.ensures)
+    start_goes p bound w c.args.turn.now.process start.place start.method start.arguments.items c.deref.result.now start.next _ s f (blocks_model c.blocks-2.result.now) here c.in-Some.is (ap blocks_model c.blocks-2.ensures) c.deref.ensures.value (none_passes (argument_tests (blocks_model c.blocks-2.result.now) c.args.turn.now.process (variables_model c.in-Some.frame.variables) [] c.deref.result.now) c.first_fault.result c.in_default-first_fault.is c.first_fault.ensures)
     ∙ started_is p ps c.args.turn.now.process s f start.method start.arguments.items c.deref-3.result.now c.deref-5.result.now start.next c.in_ok-begun.begun _ c.push.new.self.items c.index_mut.result.now c.go_on.new.stack c.len-number.result c.deref-4.result.now
     (blocks_model c.args.world.now.heap.blocks.items) (blocks_model c.hand_over.new.self.blocks.items)
     c.requires.there c.index.ensures c.in-Some.is c.deref-3.ensures.value c.in_ok-begun.ensures.entered (ap (λ ws. stack_of (Some c.in_ok-begun.begun) ws) c.new.ensures.items) c.in_ok-push.ensures.items c.index_mut.ensures.value c.deref-5.ensures.value c.go_on.ensures many
@@ -98,4 +98,4 @@ hand_over-requires-clause-owned c =
     c.deref-4.ensures.value ∙ (c.in_ok-owned.ensures.value ∙ ap (λ l. addresses variables l) (c.deref-2.ensures.value ∙ sym c.deref.ensures.value)) in
     let same : blocks ≡ blocks_model c.list.new.self.blocks.items = ap blocks_model c.blocks-2.ensures ∙ sym c.list.ensures.same in
     subst (λ bs. AreOwned bs c.deref-4.result.now) same
-    (subst (AreOwned blocks) (sym given) (pass_owned blocks c.args.turn.now.process variables [] arguments (none_passes (argument_tests_in (blocks_model c.blocks-2.result.now) c.args.turn.now.process (variables_model c.in-Some.frame.variables) [] c.deref.result.now) c.first_fault.result c.in_default-first_fault.is c.first_fault.ensures)))
+    (subst (AreOwned blocks) (sym given) (pass_owned blocks c.args.turn.now.process variables [] arguments (none_passes (argument_tests (blocks_model c.blocks-2.result.now) c.args.turn.now.process (variables_model c.in-Some.frame.variables) [] c.deref.result.now) c.first_fault.result c.in_default-first_fault.is c.first_fault.ensures)))

@@ -3,20 +3,19 @@ use Rattle.std.specs.Prelude.{get_or}
 use Rattle.std.proofs.lemmas.Option.{slice_get-get_or}
 use Rattle.flow.specs.Graphs.{cases_model}
 use Rattle.rules.specs.Programs.{model_of}
-use Rattle.machine.specs.Answers.{Tells, on_top}
+use Rattle.machine.specs.Answers.{Tells, on_top, own_tests}
 use Rattle.machine.specs.Frames.{address}
 use Rattle.machine.specs.Machine.{receives_from}
 use Rattle.machine.specs.Outcomes.{after_tests}
 use Rattle.machine.specs.Views.{blocks_model, frame_model}
 use Rattle.machine.specs.World.{owns, read}
 use Rattle.machine.proofs.CallLemmas.{pass_alone, passed_on, told_alone}
-use Rattle.machine.proofs.FrameLemmas.{own_tests}
 use Rattle.machine.proofs.PassLemmas.{own_at, pass_each}
 use Rattle.machine.proofs.SwitchLemmas.{no_mention, switch_goes, switch_is}
 use Rattle.machine.proofs.switching.switch.Goals as goal
 
 pub returns-in_err-are_own-clause-tells : goal.returns-in_err-are_own-clause-tells
-returns-in_err-are_own-clause-tells c = λ bound w rest place is.
+returns-in_err-are_own-clause-tells c = λ bound place w rest is.
     let p = model_of c.args.turn.now.program.now in
     let bs = blocks_model c.blocks-2.result.now in
     let es = c.endpoints-endpoints.result.now in
@@ -27,7 +26,7 @@ returns-in_err-are_own-clause-tells c = λ bound w rest place is.
     (switch_is p bound w c.args.turn.now.process f rest place (cases_model c.args.cases.now) c.args.choice bs es (is ∙ ap blocks_model (sym c.blocks-2.ensures)) c.endpoints-endpoints.ensures)
 
 pub returns-clause-tells : goal.returns-clause-tells
-returns-clause-tells c = λ bound w rest place is.
+returns-clause-tells c = λ bound place w rest is.
     let p = model_of c.args.turn.now.program.now in
     let bs = blocks_model c.args.heap.now.blocks.items in
     let es = c.endpoints-endpoints.result.now in

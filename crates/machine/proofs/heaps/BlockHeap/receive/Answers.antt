@@ -1,11 +1,12 @@
 use Rattle.std.proofs.Common.{◌≡◌, [], ◌∙◌, None, Some, refl, sym, ap, subst}
-use Rattle.std.specs.Prelude.{option_map}
+use Rattle.std.specs.Prelude.{IsSome, Option, option_map}
 use Rattle.std.specs.Option.{option_map_or}
 use Rattle.machine.specs.Answers.{in_state, left_in}
 use Rattle.machine.specs.BlockViews.{blocks_model, held_model}
 use Rattle.machine.specs.Blocks.{with_new_owner, received_block}
 use Rattle.machine.specs.Heaps.{QueuesBring, IsCounted, FieldsHold}
 use Rattle.machine.specs.World.{MessageHeld, block_at, change_each}
+use Rattle.machine.specs.declared.worlds.Held.{Held}
 use Rattle.machine.specs.declared.worlds.Owner.TheVariants.{Process}
 use Rattle.machine.proofs.ChangeLemmas.{received_is}
 use Rattle.machine.proofs.CountLemmas.{counted_kept, listed_own}
@@ -13,13 +14,18 @@ use Rattle.machine.proofs.HeapLemmas.{brought_received, cons_of}
 use Rattle.machine.proofs.HeldLemmas.{held_received}
 use Rattle.machine.proofs.heaps.BlockHeap.receive.Goals as goal
 
-pub unreachable-requires : goal.unreachable-requires
-unreachable-requires c =
-    let front = cons_of (block_at (blocks_model c.args.self.now.blocks.items) c.args.at).queue c.requires.some in
-    none_some front.0 (ap (option_map held_model) (sym c.in_default.is) ∙ c.take_front.ensures.taken front.0 front.1 front.2)
+-- If the model of what was taken is a message, something was taken.
+is_there : (o : Option Held) (m : MessageHeld) → option_map held_model o ≡ Some m → IsSome o
+is_there None m e = absurd (none_some e)
   where
-    none_some : (m : MessageHeld) → None ≡ Some m → ⊥
-    none_some m e = absurd (cc)
+    none_some : None ≡ Some m → ⊥
+    none_some e = absurd (cc)
+is_there (Some h) m e = refl
+
+pub unwrap-payload-requires : goal.unwrap-payload-requires
+unwrap-payload-requires c =
+    let front = cons_of (block_at (blocks_model c.args.self.now.blocks.items) c.args.at).queue c.requires.some in
+    is_there c.take_front.result front.0 (c.take_front.ensures.taken front.0 front.1 front.2)
 
 pub hand-requires-clause-counted : goal.hand-requires-clause-counted
 hand-requires-clause-counted c =
@@ -34,10 +40,10 @@ hand-requires-clause-listed c = listed_own (blocks_model c.args.self.now.blocks.
 pub returns-clause-received : goal.returns-clause-received
 returns-clause-received c = λ m ms is.
     let old = blocks_model c.args.self.now.blocks.items in
-    let brings : c.deref.result.now ≡ m.payload = c.deref.ensures.value ∙ ap (λ o. option_map_or (λ h. h.payload) o []) (c.in-Some.ensures.taken m ms is) in
+    let brings : c.deref.result.now ≡ m.payload = c.deref.ensures.value ∙ ap (λ o. option_map_or (λ h. h.payload) o []) (ap (option_map held_model) (sym c.unwrap-payload.ensures) ∙ c.take_front.ensures.taken m ms is) in
     c.set_state.ensures
     ∙ (ap (change_each (in_state c.args.at c.args.state.0)) (c.hand.ensures.handed
-    ∙ (ap (change_each (with_new_owner (Process c.args.process) c.deref.result.now)) (c.in-Some.ensures.left m ms is)
+    ∙ (ap (change_each (with_new_owner (Process c.args.process) c.deref.result.now)) (c.take_front.ensures.left m ms is)
     ∙ ap (λ xs. change_each (with_new_owner (Process c.args.process) xs) (change_each (left_in c.args.at ms) old)) brings))
     ∙ received_is c.args.process c.args.at c.args.state.0 m ms old)
 
@@ -48,11 +54,11 @@ invariant_of-self c =
     let m = front.0 in
     let ms = front.1 in
     let state = in_state c.args.at c.args.state.0 in
-    let brings : c.deref.result.now ≡ m.payload = c.deref.ensures.value ∙ ap (λ o. option_map_or (λ h. h.payload) o []) (c.in-Some.ensures.taken m ms front.2) in
+    let brings : c.deref.result.now ≡ m.payload = c.deref.ensures.value ∙ ap (λ o. option_map_or (λ h. h.payload) o []) (ap (option_map held_model) (sym c.unwrap-payload.ensures) ∙ c.take_front.ensures.taken m ms front.2) in
     let received : blocks_model c.set_state.new.blocks.items ≡ change_each (received_block c.args.process c.args.at c.args.state.0 m ms) old =
     c.set_state.ensures
     ∙ (ap (change_each state) (c.hand.ensures.handed
-    ∙ (ap (change_each (with_new_owner (Process c.args.process) c.deref.result.now)) (c.in-Some.ensures.left m ms front.2)
+    ∙ (ap (change_each (with_new_owner (Process c.args.process) c.deref.result.now)) (c.take_front.ensures.left m ms front.2)
     ∙ ap (λ xs. change_each (with_new_owner (Process c.args.process) xs) (change_each (left_in c.args.at ms) old)) brings))
     ∙ received_is c.args.process c.args.at c.args.state.0 m ms old) in
     record {

@@ -9,7 +9,7 @@ use Rattle.machine.specs.Machine.{outcome_from}
 use Rattle.machine.specs.Views.{blocks_model, frame_model, stack_model, world_model}
 use Rattle.machine.specs.World.{Frame, stack_at}
 use Rattle.machine.specs.declared.worlds as worlds
-use Rattle.machine.proofs.StepLemmas.{frame_read, frame_same, frame_tells, kept, one_choice, slice_tells, stack_same, stack_tells, tells_at, the_world, topped}
+use Rattle.machine.proofs.StepLemmas.{frame_read, frame_same, frame_tells, same_blocks, one_choice, slice_tells, stack_same, stack_tells, tells_at, the_world, with_top}
 use Rattle.machine.proofs.worlds.World.run.Goals as goal
 
 pub returns-in-Use-clause-tells : goal.returns-in-Use-clause-tells
@@ -28,7 +28,7 @@ pub returns-in-Use-clause-same : goal.returns-in-Use-clause-same
 returns-in-Use-clause-same c =
     let bs = blocks_model c.args.self.now.heap.blocks.items in
     frame_same c.use_.result c.args.self.now.processes.items c.args.turn.now.process c.index_mut-stack.result.now c.in-Some.frame
-    c.use_.new.frame bs (bs) c.index_mut-stack.ensures.value c.in-Some.is c.use_.ensures.same (kept c.use_.result bs)
+    c.use_.new.frame bs (bs) c.index_mut-stack.ensures.value c.in-Some.is c.use_.ensures.same (same_blocks c.use_.result bs)
 
 pub returns-in-New-clause-tells : goal.returns-in-New-clause-tells
 returns-in-New-clause-tells c = λ bound are.
@@ -78,7 +78,7 @@ pub returns-in-Move-clause-same : goal.returns-in-Move-clause-same
 returns-in-Move-clause-same c =
     let bs = blocks_model c.args.self.now.heap.blocks.items in
     frame_same c.move_.result c.args.self.now.processes.items c.args.turn.now.process c.index_mut-stack.result.now c.in-Some.frame
-    c.move_.new.frame bs (bs) c.index_mut-stack.ensures.value c.in-Some.is c.move_.ensures.same (kept c.move_.result bs)
+    c.move_.new.frame bs (bs) c.index_mut-stack.ensures.value c.in-Some.is c.move_.ensures.same (same_blocks c.move_.result bs)
 
 pub returns-in-Delete-clause-tells : goal.returns-in-Delete-clause-tells
 returns-in-Delete-clause-tells c = λ bound are.
@@ -120,7 +120,7 @@ returns-in-Send-clause-tells c = λ bound are.
     frame_tells c.send.result p bound c.args.self.now.processes.items q c.index_mut-stack.result.now c.in-Some.frame c.send.new.frame
     (instruction_model c.args.instr.now) (instruction_model (made.Send c.in-Send.sending)) c.args.choice w.blocks (blocks_model c.send.new.heap.blocks.items) c.requires.there c.index_mut-stack.ensures.value c.in-Some.is
     (ap instruction_model c.in-Send.is)
-    (λ rest. c.send.ensures.tells bound w rest are refl)
+    (λ rest. c.send.ensures.tells bound are w rest refl)
 
 pub returns-in-Send-clause-same : goal.returns-in-Send-clause-same
 returns-in-Send-clause-same c =
@@ -136,7 +136,7 @@ returns-in-Switch-clause-tells c = λ bound are.
     frame_tells c.switch.result p bound c.args.self.now.processes.items q c.index_mut-stack.result.now c.in-Some.frame c.switch.new.frame
     (instruction_model c.args.instr.now) (Switch c.in-Switch.place (cases_model c.in-Switch.cases)) c.args.choice w.blocks (blocks_model c.switch.new.heap.blocks.items) c.requires.there c.index_mut-stack.ensures.value c.in-Some.is
     (ap instruction_model c.in-Switch.is)
-    (λ rest. c.switch.ensures.tells bound w rest c.in-Switch.place refl)
+    (λ rest. c.switch.ensures.tells bound c.in-Switch.place w rest refl)
 
 pub returns-in-Switch-clause-same : goal.returns-in-Switch-clause-same
 returns-in-Switch-clause-same c =
@@ -179,7 +179,7 @@ pub returns-in-Call-clause-same : goal.returns-in-Call-clause-same
 returns-in-Call-clause-same c =
     let bs = blocks_model c.args.self.now.heap.blocks.items in
     stack_same c.call.result c.args.self.now.processes.items c.args.turn.now.process c.index_mut-stack.result.now c.call.new.stack c.in-Some.frame bs bs
-    c.index_mut-stack.ensures.value c.in-Some.is c.call.ensures.same (kept c.call.result bs)
+    c.index_mut-stack.ensures.value c.in-Some.is c.call.ensures.same (same_blocks c.call.result bs)
 
 pub returns-in-Start-clause-tells : goal.returns-in-Start-clause-tells
 returns-in-Start-clause-tells c = λ bound are.
@@ -188,10 +188,10 @@ returns-in-Start-clause-tells c = λ bound are.
     let ps = c.args.self.now.processes.items in
     let bs = blocks_model c.args.self.now.heap.blocks.items in
     let s = c.index_mut-stack.result.now in
-    let read : List (List Frame) = map stack_model (set ps q (topped s c.in-Some.frame)) in
+    let read : List (List Frame) = map stack_model (set ps q (with_top s c.in-Some.frame)) in
     let started = c.in-Start.starting-1-own.given.0.0 in
     let is : c.args.instr.now ≡ made.Start started = c.in-Start.starting-1-own.given.1 in
-    let lent : worlds.World.World = record { processes = with_item c.args.self.now.processes q (topped s c.in-Some.frame); heap = c.args.self.now.heap } in
+    let lent : worlds.World.World = record { processes = with_item c.args.self.now.processes q (with_top s c.in-Some.frame); heap = c.args.self.now.heap } in
     let chosen = subst (λ o. Tells c.start.result o (world_model c.start.new.world)) (sym (one_choice p bound (world_model lent) q
     (instruction_model c.args.instr.now) (instruction_model (made.Start started)) c.args.choice (stack_at read q) (ap instruction_model is) (λ f rest. refl)))
     (c.start.ensures.tells bound) in
@@ -207,13 +207,13 @@ returns-in-Return-clause-tells c = λ bound are.
     stack_tells c.return_.result p bound c.args.self.now.processes.items q c.index_mut-stack.result.now c.return_.new.stack c.in-Some.frame
     (instruction_model c.args.instr.now) (Return c.in-Return.returning.place c.in-Return.returning.value c.in-Return.returning.scope) c.args.choice w.blocks w.blocks c.requires.there c.index_mut-stack.ensures.value c.in-Some.is
     (ap instruction_model c.in-Return.is)
-    (c.return_.ensures.tells bound w c.in-Return.returning.place c.in-Return.returning.scope refl)
+    (c.return_.ensures.tells bound c.in-Return.returning.place c.in-Return.returning.scope w refl)
 
 pub returns-in-Return-clause-same : goal.returns-in-Return-clause-same
 returns-in-Return-clause-same c =
     let bs = blocks_model c.args.self.now.heap.blocks.items in
     stack_same c.return_.result c.args.self.now.processes.items c.args.turn.now.process c.index_mut-stack.result.now c.return_.new.stack c.in-Some.frame bs bs
-    c.index_mut-stack.ensures.value c.in-Some.is c.return_.ensures.same (kept c.return_.result bs)
+    c.index_mut-stack.ensures.value c.in-Some.is c.return_.ensures.same (same_blocks c.return_.result bs)
 
 pub returns-in-Stop-clause-tells : goal.returns-in-Stop-clause-tells
 returns-in-Stop-clause-tells c = λ bound are.
@@ -229,4 +229,4 @@ pub returns-in-Stop-clause-same : goal.returns-in-Stop-clause-same
 returns-in-Stop-clause-same c =
     let bs = blocks_model c.args.self.now.heap.blocks.items in
     stack_same c.end.result c.args.self.now.processes.items c.args.turn.now.process c.index_mut-stack.result.now c.end.new.stack c.in-Some.frame bs bs
-    c.index_mut-stack.ensures.value c.in-Some.is c.end.ensures.same (kept c.end.result bs)
+    c.index_mut-stack.ensures.value c.in-Some.is c.end.ensures.same (same_blocks c.end.result bs)
