@@ -1,11 +1,12 @@
 -- The variables in scope, and what stands round a statement, as the code has them.
-use Rattle.std.specs.Prelude.{◌≡◌, ℕ, ◌+◌, min, List, map}
+use Rattle.std.specs.Prelude.{◌≡◌, ℕ, ◌+◌, min, List, map, Result, OnOk}
 use Rattle.declarations.specs.declared.mistake.Mistake.{Mistake}
 use Rattle.names.specs.Bodies as bodies
 use Rattle.tables.specs.Firsts.{IsApart}
 use Rattle.declarations.specs.Mistakes.{Adds}
 use Rattle.declarations.specs.Scopes.{IsScope, AreMethods}
 use Rattle.tables.specs.Tables.{IsTable}
+use Rattle.names.specs.Values.{Inside}
 use Rattle.names.specs.Variables as model
 use Rattle.names.specs.Variables.{NameFrame, CheckedPiece}
 use Rattle.tables.specs.Words.{words_at}
@@ -44,6 +45,20 @@ pub record AreSurroundings (m : bodies.Surroundings) (s : Surroundings) : Type 0
   pub result : s.result ≡ m.result
   pub breaks : s.breaks ≡ m.breaks
   pub continues : s.continues ≡ m.continues
+
+-- Whatever stands round a statement and whatever variables are in scope, what is added and what is in scope behind it are those of a turn.
+abbrev pub Turns : {X E : Type 0} → Surroundings → (before behind : ScopeVariables) → (old new : List Mistake) → Result X E →
+    (bodies.Surroundings → NameFrame → CheckedPiece) → Type 0
+Turns around before behind old new answer turn =
+    (m : bodies.Surroundings) (f : NameFrame) → AreSurroundings m around → IsNameFrame m.program.text f before
+    → OnOk answer (Turned m.program.text old new behind (turn m f))
+
+-- Whatever these are, these mistakes are added.
+abbrev pub FindsAround : {X E : Type 0} → Surroundings → ScopeVariables → (old new : List Mistake) → Result X E →
+    (Inside → List Mistake) → Type 0
+FindsAround around variables old new answer more =
+    (m : bodies.Surroundings) (f : NameFrame) → AreSurroundings m around → IsNameFrame m.program.text f variables
+    → OnOk answer (Adds old new (more (bodies.inside_of m f)))
 
 -- this program and the variables of this frame are what names can mean
 pub record IsContext (p : ProgramText) (f : NameFrame) (c : NameContext) : Type 0 where

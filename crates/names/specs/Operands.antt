@@ -1,11 +1,11 @@
 -- What the parts of an expression are judged to be.
-use Rattle.std.specs.Prelude.{◌≡◌, ◌++◌, ◌||◌, List, if◌then◌else◌}
+use Rattle.std.specs.Prelude.{◌≡◌, ◌++◌, ◌||◌, List, Result, OnOk, if◌then◌else◌}
 use Rattle.declarations.specs.declared.mistake.Mistake.{Mistake}
 use Rattle.source.specs.declared.place.Place.{Place}
 use Rattle.names.specs.Expressions.{InScope, type_of, place_of, expression_mistakes, whole_mistakes}
 use Rattle.names.specs.Expressions.{joined_type, left_asked, right_asked, signed_type, sign_asked}
 use Rattle.declarations.specs.Mistakes.{Adds}
-use Rattle.names.specs.Frames.{IsNameFrame}
+use Rattle.names.specs.Frames.{IsContext, IsNameFrame}
 use Rattle.declarations.specs.Types.{is_unknown}
 use Rattle.declarations.specs.Program.{ProgramText}
 use Rattle.declarations.specs.Scopes.{IsScope}
@@ -13,12 +13,22 @@ use Rattle.names.specs.Shapes.{Shape, Joint, OperandSign}
 use Rattle.names.specs.Variables.{NameFrame}
 use Rattle.declarations.specs.declared.value_type.ValueType.TheVariants as ty
 use Rattle.names.specs.declared.operands.Operand.{Operand}
+use Rattle.names.specs.declared.surroundings.NameContext.{NameContext}
 use Rattle.declarations.specs.declared.scope.Scope.{Scope}
 use Rattle.names.specs.declared.variables.ScopeVariables.{ScopeVariables}
 
 -- what a program and the variables of a frame bring into scope
 abbrev pub in_frame : ProgramText → NameFrame → InScope
 in_frame p f = record { program = p; variables = f.variables }
+
+-- Whatever the program and the variables of a frame are, these mistakes are added.
+abbrev pub FindsIn : {X E : Type 0} → Scope → ScopeVariables → (old new : List Mistake) → Result X E → (InScope → List Mistake) → Type 0
+FindsIn scope variables old new answer more =
+    (p : ProgramText) (f : NameFrame) → IsScope p scope → IsNameFrame p.text f variables → OnOk answer (Adds old new (more (in_frame p f)))
+
+abbrev pub Finds : {X E : Type 0} → NameContext → (old new : List Mistake) → Result X E → (InScope → List Mistake) → Type 0
+Finds context old new answer more =
+    (p : ProgramText) (f : NameFrame) → IsContext p f context → OnOk answer (Adds old new (more (in_frame p f)))
 
 -- an operand is of the type and at the place of this expression, and what is wrong in it was added
 pub record IsOperand (s : InScope) (e : Shape) (old new : List Mistake) (o : Operand) : Type 0 where

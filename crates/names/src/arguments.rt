@@ -1,16 +1,14 @@
 //! What is wrong with the names and types of arguments.
 
-ghost use Rattle.std.specs.Prelude.{◌≡◌, map, take, List, OnOk, IfOk, slice_get};
+ghost use Rattle.std.specs.Prelude.{◌≡◌, map, take, IfOk, slice_get};
 ghost use Rattle.tree.specs.ExpressionTrees.{expression_tree};
 ghost use Rattle.tree.specs.declared.types.«Type».{«Type» as TypeModel};
-ghost use Rattle.declarations.specs.Mistakes.{Adds};
-ghost use Rattle.names.specs.Frames.{IsNameFrame};
 ghost use Rattle.declarations.specs.Types.{type_meant};
 ghost use Rattle.declarations.specs.Program.{ProgramText};
 ghost use Rattle.declarations.specs.Scopes.{IsScope};
 ghost use Rattle.names.specs.Shapes.{shape};
-ghost use Rattle.names.specs.Values.{asked_mistakes, argument_asked, argument_mistakes};
-ghost use Rattle.names.specs.Variables.{NameFrame};
+ghost use Rattle.names.specs.Values.{argument_asked, argument_mistakes};
+ghost use Rattle.names.specs.Operands.{FindsIn};
 
 use crate::expressions::judge_whole;
 use crate::variables::ScopeVariables;
@@ -28,9 +26,8 @@ fn judge_argument(
     argument: &Expression,
     found: &mut Vec<Mistake>,
 ) -> Result<(), Memory>
-    ensures { (p : ProgramText) (f : NameFrame) → IsScope p scope.now
-        → IsNameFrame p.text f variables.now → OnOk result (Adds found.old.items found.new.items
-        (argument_asked (record { program = p; variables = f.variables }) asked (shape (expression_tree argument.now)))) }
+    ensures { FindsIn scope.now variables.now found.old.items found.new.items result
+        (λ s. argument_asked s asked (shape (expression_tree argument.now))) }
 {
     match asked {
         Some(ty) => judge_asked(scope, variables, ty, argument, found),
@@ -55,9 +52,8 @@ pub(crate) fn judge_arguments(
     arguments: &[Expression],
     found: &mut Vec<Mistake>,
 ) -> Result<(), Memory>
-    ensures { (p : ProgramText) (f : NameFrame) → IsScope p scope.now → IsNameFrame p.text f variables.now
-        → OnOk result (Adds found.old.items found.new.items (argument_mistakes
-        (record { program = p; variables = f.variables }) asked.now (map shape (map expression_tree arguments.now)))) }
+    ensures { FindsIn scope.now variables.now found.old.items found.new.items result
+        (λ s. argument_mistakes s asked.now (map shape (map expression_tree arguments.now))) }
 {
     for (index, argument) in arguments.iter().enumerate() {
         let ty = type_at(asked, index);
@@ -126,9 +122,9 @@ pub(crate) fn judge_typed_arguments<T: Typed>(
     arguments: &[Expression],
     found: &mut Vec<Mistake>,
 ) -> Result<(), Memory>
-    ensures { (p : ProgramText) (f : NameFrame) → IsScope p scope.now → IsNameFrame p.text f variables.now
-        → OnOk result (Adds found.old.items found.new.items (argument_mistakes (record { program = p; variables = f.variables })
-        (map (λ x. type_meant p (T.as_written x)) typed.now) (map shape (map expression_tree arguments.now)))) }
+    ensures { FindsIn scope.now variables.now found.old.items found.new.items result
+        (λ s. argument_mistakes s (map (λ x. type_meant s.program (T.as_written x)) typed.now)
+        (map shape (map expression_tree arguments.now))) }
 {
     let types = types_of(alloc, scope, typed, arguments.len())?;
     judge_arguments(scope, variables, &types, arguments, found)

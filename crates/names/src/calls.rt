@@ -1,26 +1,22 @@
 //! What is wrong with the names and types in calls.
 
-ghost use Rattle.std.specs.Prelude.{◌≡◌, ◌++◌, ◌&&◌, ◌∷◌, ℕ, [], map, drop, take, codes, List};
-ghost use Rattle.std.specs.Prelude.{Option, Some, None, OnOk, IfOk, option_map, if◌then◌else◌};
+ghost use Rattle.std.specs.Prelude.{◌≡◌, ◌&&◌, ◌∷◌, ℕ, [], map};
+ghost use Rattle.std.specs.Prelude.{Option, Some, OnOk};
 ghost use Rattle.tree.specs.ExpressionTrees.{expression_tree};
-ghost use Rattle.tree.specs.Trees.{ContractTree, MethodTree, ClassTree, message_tree, method_tree};
+ghost use Rattle.tree.specs.Trees.{MethodTree, message_tree, method_tree};
 ghost use Rattle.tree.specs.Values.{call_tree};
-ghost use Rattle.names.specs.Bodies as bodies;
-ghost use Rattle.names.specs.Expressions.{variable_of, variable_type};
+ghost use Rattle.names.specs.Expressions.{variable_of};
 ghost use Rattle.declarations.specs.Mistakes.{Adds};
-ghost use Rattle.names.specs.Frames.{IsContext, IsNameFrame, AreSurroundings, variable_model};
 ghost use Rattle.declarations.specs.Program.{ProgramText, class_named};
 ghost use Rattle.declarations.specs.Scopes.{IsScope, IsCallee};
-ghost use Rattle.names.specs.Operands.{in_frame};
 ghost use Rattle.names.specs.Shapes.{shape};
 ghost use Rattle.names.specs.Values.{argument_mistakes, result_fits, result_type, demand_of, start_mistakes, method_mistakes};
 ghost use Rattle.declarations.specs.Owning.{can_start};
 ghost use Rattle.names.specs.Values.{sends, is_alone, message_mistakes, contract_message, send_mismatch, send_mistakes};
 ghost use Rattle.names.specs.Values.{class_mistakes, class_meant, member_mistakes, call_mistakes};
-ghost use Rattle.names.specs.Variables.{NameFrame};
-ghost use Rattle.names.specs.Variables as model;
 ghost use Rattle.source.specs.declared.token.Span.{Span as SpanModel};
-ghost use Rattle.tables.specs.Words.{word_at, same_word};
+ghost use Rattle.names.specs.Operands.{Finds};
+ghost use Rattle.names.specs.Frames.{FindsAround};
 
 use crate::arguments::{judge_arguments, judge_typed_arguments};
 use crate::operands::ask;
@@ -108,11 +104,12 @@ fn judge_known_method(
     site: &CallSite<'_>,
     found: &mut Vec<Mistake>,
 ) -> Result<(), Memory>
-    ensures { (p : ProgramText) (f : NameFrame) (class : Option SpanModel) → IsContext p f context.now
+    ensures { (class : Option SpanModel)
         → callee.entry.startable ≡ can_start (method_tree callee.entry.method.now)
-        → OnOk result (Adds found.old.items found.new.items (method_mistakes (in_frame p f)
-        (Some (method_tree callee.entry.method.now)) class site.now.purpose site.now.name
-        (map shape (map expression_tree site.now.arguments.now)))) }
+        → Finds context.now found.old.items found.new.items result
+        (λ s. method_mistakes s (Some
+        (method_tree callee.entry.method.now)) class site.now.purpose site.now.name
+        (map shape (map expression_tree site.now.arguments.now))) }
 {
     let NameContext {
         alloc,
@@ -142,9 +139,9 @@ pub(crate) fn judge_unknown(
     arguments: &[Expression],
     found: &mut Vec<Mistake>,
 ) -> Result<(), Memory>
-    ensures { (p : ProgramText) (f : NameFrame) → IsContext p f context.now
-        → OnOk result (Adds found.old.items found.new.items (Mistake.Unknown name sort
-        ∷ argument_mistakes (in_frame p f) [] (map shape (map expression_tree arguments.now)))) }
+    ensures { Finds context.now found.old.items found.new.items result
+        (λ s. Mistake.Unknown name sort
+        ∷ argument_mistakes s [] (map shape (map expression_tree arguments.now))) }
 {
     let NameContext {
         scope,
@@ -163,9 +160,10 @@ fn judge_method(
     site: &CallSite<'_>,
     found: &mut Vec<Mistake>,
 ) -> Result<(), Memory>
-    ensures { (p : ProgramText) (f : NameFrame) (m : Option MethodTree) → IsContext p f context.now → IsCallee m callee.entry
-        → OnOk result (Adds found.old.items found.new.items (method_mistakes (in_frame p f) m class site.now.purpose site.now.name
-        (map shape (map expression_tree site.now.arguments.now)))) }
+    ensures { (m : Option MethodTree) → IsCallee m callee.entry
+        → Finds context.now found.old.items found.new.items result
+        (λ s. method_mistakes s m class site.now.purpose site.now.name
+        (map shape (map expression_tree site.now.arguments.now))) }
 {
     match callee {
         Some(callee) => judge_known_method(context, callee, site, found),
@@ -210,10 +208,10 @@ fn judge_known_message(
     site: &CallSite<'_>,
     found: &mut Vec<Mistake>,
 ) -> Result<(), Memory>
-    ensures { (p : ProgramText) (f : NameFrame) (n : ℕ) → IsContext p f context.now
-        → OnOk result (Adds found.old.items found.new.items (message_mistakes (in_frame p f) n
+    ensures { (n : ℕ) → Finds context.now found.old.items found.new.items result
+        (λ s. message_mistakes s n
         (Some (message_tree message.now)) end site.now.purpose site.now.name
-        (map shape (map expression_tree site.now.arguments.now)))) }
+        (map shape (map expression_tree site.now.arguments.now))) }
 {
     let NameContext {
         alloc,
@@ -251,10 +249,10 @@ fn judge_end(
     site: &CallSite<'_>,
     found: &mut Vec<Mistake>,
 ) -> Result<(), Memory>
-    ensures { (p : ProgramText) (f : NameFrame) → IsContext p f context.now
-        → OnOk result (Adds found.old.items found.new.items (message_mistakes (in_frame p f) index
-        (contract_message (in_frame p f) index site.now.name) end site.now.purpose site.now.name
-        (map shape (map expression_tree site.now.arguments.now)))) }
+    ensures { Finds context.now found.old.items found.new.items result
+        (λ s. message_mistakes s index
+        (contract_message s index site.now.name) end site.now.purpose site.now.name
+        (map shape (map expression_tree site.now.arguments.now))) }
 {
     match context.scope.sent_message(index, site.name) {
         Some(message) => judge_known_message(context, message, end, site, found),
@@ -276,9 +274,9 @@ fn judge_send(
     site: &CallSite<'_>,
     found: &mut Vec<Mistake>,
 ) -> Result<(), Memory>
-    ensures { (p : ProgramText) (f : NameFrame) → IsContext p f context.now
-        → OnOk result (Adds found.old.items found.new.items (send_mistakes (in_frame p f) ty site.now.purpose variable site.now.name
-        (map shape (map expression_tree site.now.arguments.now)))) }
+    ensures { Finds context.now found.old.items found.new.items result
+        (λ s. send_mistakes s ty site.now.purpose variable site.now.name
+        (map shape (map expression_tree site.now.arguments.now))) }
 {
     let NameContext {
         scope,
@@ -302,10 +300,10 @@ fn judge_class(
     site: &CallSite<'_>,
     found: &mut Vec<Mistake>,
 ) -> Result<(), Memory>
-    ensures { (p : ProgramText) (f : NameFrame) → IsContext p f context.now
-        → OnOk result (Adds found.old.items found.new.items (class_mistakes (in_frame p f)
-        (class_meant (class_named p class)) site.now.purpose class site.now.name
-        (map shape (map expression_tree site.now.arguments.now)))) }
+    ensures { Finds context.now found.old.items found.new.items result
+        (λ s. class_mistakes s (class_meant
+        (class_named s.program class)) site.now.purpose class site.now.name
+        (map shape (map expression_tree site.now.arguments.now))) }
 {
     match context.scope.class(class) {
         Some(methods) => {
@@ -326,10 +324,9 @@ fn judge_member(
     site: &CallSite<'_>,
     found: &mut Vec<Mistake>,
 ) -> Result<(), Memory>
-    ensures { (p : ProgramText) (f : NameFrame) → IsContext p f context.now
-        → OnOk result (Adds found.old.items found.new.items (member_mistakes (in_frame p f)
-        (variable_of (in_frame p f) front) site.now.purpose front site.now.name
-        (map shape (map expression_tree site.now.arguments.now)))) }
+    ensures { Finds context.now found.old.items found.new.items result
+        (λ s. member_mistakes s (variable_of s front) site.now.purpose front site.now.name
+        (map shape (map expression_tree site.now.arguments.now))) }
 {
     match context.variables.find(context.scope.text, front) {
         Some(variable) => judge_send(context, variable.ty, front, site, found),
@@ -345,8 +342,8 @@ pub(crate) fn judge_call<'a>(
     call: &Call,
     found: &mut Vec<Mistake>,
 ) -> Result<(), Memory>
-    ensures { (m : bodies.Surroundings) (f : NameFrame) → AreSurroundings m around.now → IsNameFrame m.program.text f variables.now
-        → OnOk result (Adds found.old.items found.new.items (call_mistakes (bodies.inside_of m f) purpose (call_tree call.now))) }
+    ensures { FindsAround around.now variables.now found.old.items found.new.items result
+        (λ i. call_mistakes i purpose (call_tree call.now)) }
 {
     let context = around.context(variables);
     match call.member {

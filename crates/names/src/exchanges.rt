@@ -1,15 +1,11 @@
 //! What is wrong with the names and types in exchanges.
 
-ghost use Rattle.std.specs.Prelude.{◌++◌, ◌||◌, OnOk, IfOk};
+ghost use Rattle.std.specs.Prelude.{◌++◌, ◌||◌, IfOk};
 ghost use Rattle.names.specs.Bodies.{exchanged_type, holder_mistakes, exchange_mistakes};
 ghost use Rattle.names.specs.Expressions.{field_type, field_mistakes};
-ghost use Rattle.declarations.specs.Mistakes.{Adds};
-ghost use Rattle.names.specs.Frames.{IsNameFrame};
 ghost use Rattle.declarations.specs.Types.{unless, is_silent, is_block};
 ghost use Rattle.names.specs.Mentions.{GivesIn};
-ghost use Rattle.declarations.specs.Program.{ProgramText};
-ghost use Rattle.declarations.specs.Scopes.{IsScope};
-ghost use Rattle.names.specs.Variables.{NameFrame};
+ghost use Rattle.names.specs.Operands.{FindsIn};
 
 use crate::mentions::{judge_field, judge_variable};
 use crate::operands::ask;
@@ -25,8 +21,8 @@ pub(crate) fn judge_exchange(
     exchange: Exchange,
     found: &mut Vec<Mistake>,
 ) -> Result<(), Memory>
-    ensures { (p : ProgramText) (f : NameFrame) → IsScope p scope.now → IsNameFrame p.text f variables.now → OnOk result
-        (Adds found.old.items found.new.items (exchange_mistakes (record { program = p; variables = f.variables }) exchange)) }
+    ensures { FindsIn scope.now variables.now found.old.items found.new.items result
+        (λ s. exchange_mistakes s exchange) }
 {
     let held = judge_variable(scope, variables, exchange.holder, found)?;
     let asked = judge_holder(scope, held, exchange.holder, exchange.field, found)?;

@@ -1,23 +1,19 @@
 //! What is wrong with the names and types in statements that hold no other statement.
 
-ghost use Rattle.std.specs.Prelude.{◌≡◌, ◌++◌, ℕ, Option, None, Some, OnOk, IfOk, option_map};
+ghost use Rattle.std.specs.Prelude.{◌≡◌, ◌++◌, None, Some, OnOk, option_map};
 ghost use Rattle.tree.specs.ExpressionTrees.{expression_tree};
 ghost use Rattle.tree.specs.StatementTrees.{declare_tree, assign_tree};
 ghost use Rattle.tree.specs.Values.{value_tree};
-ghost use Rattle.names.specs.Bodies as bodies;
 ghost use Rattle.names.specs.Bodies.{given_mistakes, declaration_turn, delete_mistakes, is_end_of, same_end};
 ghost use Rattle.names.specs.Bodies.{demand_beside, ends_mistakes, new_ends_mistakes, channel_mistakes, return_mistakes};
 ghost use Rattle.names.specs.Expressions.{variable_mistakes, variable_of, variable_type};
 ghost use Rattle.declarations.specs.Mistakes.{Adds};
-ghost use Rattle.names.specs.Frames.{IsContext, IsNameFrame, Turned, AreSurroundings};
-ghost use Rattle.names.specs.Operands.{in_frame};
-ghost use Rattle.declarations.specs.Types.{unless, is_heap};
-ghost use Rattle.program.specs.Types.{same_side};
+ghost use Rattle.names.specs.Frames.{FindsAround, IsNameFrame, Turns};
 ghost use Rattle.declarations.specs.Program.{ProgramText, contract_named};
 ghost use Rattle.declarations.specs.Scopes.{IsScope};
-ghost use Rattle.names.specs.Shapes.{shape};
 ghost use Rattle.names.specs.Values.{target_type, target_mistakes, value_mistakes};
 ghost use Rattle.names.specs.Variables.{NameFrame};
+ghost use Rattle.names.specs.Operands.{Finds, FindsIn};
 
 use crate::expressions::judge_whole;
 use crate::mentions::judge_variable;
@@ -42,8 +38,8 @@ fn judge_given<'a>(
     value: &Option<Value>,
     found: &mut Vec<Mistake>,
 ) -> Result<(), Memory>
-    ensures { (m : bodies.Surroundings) (f : NameFrame) → AreSurroundings m around.now → IsNameFrame m.program.text f variables.now → OnOk
-        result (Adds found.old.items found.new.items (given_mistakes (bodies.inside_of m f) asked (option_map value_tree value.now))) }
+    ensures { FindsAround around.now variables.now found.old.items found.new.items result
+        (λ i. given_mistakes i asked (option_map value_tree value.now)) }
 {
     match value {
         Some(value) => judge_value(around, variables, asked, value, found),
@@ -58,8 +54,8 @@ pub(crate) fn judge_declare<'a>(
     declare: &Declare,
     found: &mut Vec<Mistake>,
 ) -> Result<(), Memory>
-    ensures { (m : bodies.Surroundings) (f : NameFrame) → AreSurroundings m around.now → IsNameFrame m.program.text f variables.old → OnOk
-        result (Turned m.program.text found.old.items found.new.items variables.new (declaration_turn m (declare_tree declare.now) f)) }
+    ensures { Turns around.now variables.old variables.new found.old.items found.new.items result
+        (λ m. declaration_turn m (declare_tree declare.now)) }
 {
     let (alloc, scope) = (around.alloc, around.scope);
     let ty = scope.type_meant(declare.ty);
@@ -80,10 +76,10 @@ pub(crate) fn judge_assign<'a>(
     assign: &Assign,
     found: &mut Vec<Mistake>,
 ) -> Result<(), Memory>
-    ensures { (m : bodies.Surroundings) (f : NameFrame) → AreSurroundings m around.now
-        → IsNameFrame m.program.text f variables.now → OnOk result
-        (Adds found.old.items found.new.items (target_mistakes (bodies.scope_in m f) (assign_tree assign.now).target ++ value_mistakes
-        (bodies.inside_of m f) (target_type (bodies.scope_in m f) (assign_tree assign.now).target) (assign_tree assign.now).value)) }
+    ensures { FindsAround around.now variables.now found.old.items found.new.items result
+        (λ i. target_mistakes i.scope (assign_tree assign.now).target
+        ++ value_mistakes i (target_type i.scope (assign_tree assign.now).target)
+        (assign_tree assign.now).value) }
 {
     let asked = judge_target(around.scope, variables, &assign.target, found)?;
     judge_value(around, variables, asked, &assign.value, found)
@@ -107,8 +103,8 @@ pub(crate) fn judge_use(
     name: Span,
     found: &mut Vec<Mistake>,
 ) -> Result<(), Memory>
-    ensures { (p : ProgramText) (f : NameFrame) → IsScope p scope.now → IsNameFrame p.text f variables.now → OnOk result
-        (Adds found.old.items found.new.items (variable_mistakes (record { program = p; variables = f.variables }) name)) }
+    ensures { FindsIn scope.now variables.now found.old.items found.new.items result
+        (λ s. variable_mistakes s name) }
 {
     judge_variable(scope, variables, name, found)?;
     Ok(())
@@ -121,8 +117,8 @@ pub(crate) fn judge_delete(
     name: Span,
     found: &mut Vec<Mistake>,
 ) -> Result<(), Memory>
-    ensures { (p : ProgramText) (f : NameFrame) → IsScope p scope.now → IsNameFrame p.text f variables.now
-        → OnOk result (Adds found.old.items found.new.items (delete_mistakes (record { program = p; variables = f.variables }) name)) }
+    ensures { FindsIn scope.now variables.now found.old.items found.new.items result
+        (λ s. delete_mistakes s name) }
 {
     judge_use(scope, variables, name, found)?;
     let ty = held_type(scope, variables, name);
@@ -198,9 +194,9 @@ fn judge_new_ends(
     channel: NewChannel,
     found: &mut Vec<Mistake>,
 ) -> Result<(), Memory>
-    ensures { (p : ProgramText) (f : NameFrame) → IsScope p scope.now → IsNameFrame p.text f variables.now
-        → OnOk result (Adds found.old.items found.new.items (new_ends_mistakes (record { program = p; variables = f.variables })
-        (contract_named p channel.contract) channel.contract channel.first channel.second)) }
+    ensures { FindsIn scope.now variables.now found.old.items found.new.items result
+        (λ s. new_ends_mistakes s
+        (contract_named s.program channel.contract) channel.contract channel.first channel.second) }
 {
     let left = held_type(scope, variables, channel.first);
     let right = held_type(scope, variables, channel.second);
@@ -217,9 +213,8 @@ pub(crate) fn judge_channel(
     channel: NewChannel,
     found: &mut Vec<Mistake>,
 ) -> Result<(), Memory>
-    ensures { (p : ProgramText) (f : NameFrame) → IsScope p scope.now
-        → IsNameFrame p.text f variables.now → OnOk result (Adds found.old.items found.new.items
-        (channel_mistakes (record { program = p; variables = f.variables }) channel.contract channel.first channel.second)) }
+    ensures { FindsIn scope.now variables.now found.old.items found.new.items result
+        (λ s. channel_mistakes s channel.contract channel.first channel.second) }
 {
     judge_new_ends(scope, variables, channel, found)?;
     judge_use(scope, variables, channel.first, found)?;
@@ -233,8 +228,8 @@ fn judge_needless(
     value: &Option<Box<Expression>>,
     found: &mut Vec<Mistake>,
 ) -> Result<(), Memory>
-    ensures { (p : ProgramText) (f : NameFrame) → IsContext p f context.now → OnOk result (Adds found.old.items found.new.items
-        (return_mistakes (in_frame p f) None word (option_map (λ e. expression_tree e.value) value.now))) }
+    ensures { Finds context.now found.old.items found.new.items result
+        (λ s. return_mistakes s None word (option_map (λ e. expression_tree e.value) value.now)) }
 {
     match value {
         Some(value) => {
@@ -253,8 +248,9 @@ fn judge_returned(
     value: &Option<Box<Expression>>,
     found: &mut Vec<Mistake>,
 ) -> Result<(), Memory>
-    ensures { (p : ProgramText) (f : NameFrame) → IsContext p f context.now → OnOk result (Adds found.old.items found.new.items
-        (return_mistakes (in_frame p f) (Some asked) word (option_map (λ e. expression_tree e.value) value.now))) }
+    ensures { Finds context.now found.old.items found.new.items result
+        (λ s. return_mistakes s (Some asked) word
+        (option_map (λ e. expression_tree e.value) value.now)) }
 {
     let NameContext {
         scope,
@@ -276,8 +272,8 @@ pub(crate) fn judge_return(
     value: &Option<Box<Expression>>,
     found: &mut Vec<Mistake>,
 ) -> Result<(), Memory>
-    ensures { (p : ProgramText) (f : NameFrame) → IsContext p f context.now → OnOk result (Adds found.old.items found.new.items
-        (return_mistakes (in_frame p f) asked word (option_map (λ e. expression_tree e.value) value.now))) }
+    ensures { Finds context.now found.old.items found.new.items result
+        (λ s. return_mistakes s asked word (option_map (λ e. expression_tree e.value) value.now)) }
 {
     match asked {
         Some(asked) => judge_returned(context, asked, word, value, found),

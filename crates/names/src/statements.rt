@@ -7,7 +7,7 @@ ghost use Rattle.names.specs.Bodies as bodies;
 ghost use Rattle.names.specs.Bodies.{in_loop, in_switch, statement_turn, statements_turn, block_turn};
 ghost use Rattle.names.specs.Bodies.{test_turn, others_turn, case_turn, cases_turn, head_of};
 ghost use Rattle.names.specs.Cases.{Head};
-ghost use Rattle.names.specs.Frames.{IsNameFrame, Turned, AreSurroundings};
+ghost use Rattle.names.specs.Frames.{AreSurroundings, IsNameFrame, Turned, Turns};
 ghost use Rattle.names.specs.Heads.{IsHeads, switch_heads};
 ghost use Rattle.names.specs.Variables.{NameFrame, follow};
 
@@ -55,8 +55,8 @@ pub(crate) fn judge_block<'a>(
     block: &Block,
     found: &mut Vec<Mistake>,
 ) -> Result<(), Memory>
-    ensures { (m : bodies.Surroundings) (f : NameFrame) → AreSurroundings m around.now → IsNameFrame m.program.text f variables.old
-        → OnOk result (Turned m.program.text found.old.items found.new.items variables.new (block_turn m (block_tree block.now) f)) }
+    ensures { Turns around.now variables.old variables.new found.old.items found.new.items result
+        (λ m. block_turn m (block_tree block.now)) }
 {
     let outer = variables.len();
     judge_statements(around, variables, &block.statements, found)?;
@@ -72,9 +72,8 @@ fn judge_statements<'a>(
     statements: &[Statement],
     found: &mut Vec<Mistake>,
 ) -> Result<(), Memory>
-    ensures { (m : bodies.Surroundings) (f : NameFrame) → AreSurroundings m around.now → IsNameFrame m.program.text f variables.old
-        → OnOk result (Turned m.program.text found.old.items found.new.items variables.new
-        (statements_turn m (statement_sequence (map statement_tree statements.now)) f)) }
+    ensures { Turns around.now variables.old variables.new found.old.items found.new.items result
+        (λ m. statements_turn m (statement_sequence (map statement_tree statements.now))) }
 {
     for statement in statements {
         judge_statement(around, variables, statement, found)?;
@@ -90,9 +89,8 @@ fn judge_statement<'a>(
     statement: &Statement,
     found: &mut Vec<Mistake>,
 ) -> Result<(), Memory>
-    ensures { (m : bodies.Surroundings) (f : NameFrame) → AreSurroundings m around.now
-        → IsNameFrame m.program.text f variables.old → OnOk result
-        (Turned m.program.text found.old.items found.new.items variables.new (statement_turn m (statement_tree statement.now) f)) }
+    ensures { Turns around.now variables.old variables.new found.old.items found.new.items result
+        (λ m. statement_turn m (statement_tree statement.now)) }
 {
     let scope = around.scope;
     match statement {
@@ -132,8 +130,8 @@ fn judge_test<'a>(
     test: &Test,
     found: &mut Vec<Mistake>,
 ) -> Result<(), Memory>
-    ensures { (m : bodies.Surroundings) (f : NameFrame) → AreSurroundings m around.now → IsNameFrame m.program.text f variables.old
-        → OnOk result (Turned m.program.text found.old.items found.new.items variables.new (test_turn m (test_tree test.now) f)) }
+    ensures { Turns around.now variables.old variables.new found.old.items found.new.items result
+        (λ m. test_turn m (test_tree test.now)) }
 {
     judge_truth(around.scope, variables, &test.test, found)?;
     judge_block(around, variables, &test.body, found)
@@ -147,9 +145,9 @@ fn judge_if<'a>(
     branches: &If,
     found: &mut Vec<Mistake>,
 ) -> Result<(), Memory>
-    ensures { (m : bodies.Surroundings) (f : NameFrame) → AreSurroundings m around.now → IsNameFrame m.program.text f variables.old
-        → OnOk result (Turned m.program.text found.old.items found.new.items variables.new
-        (follow (test_turn m (if_tree branches.now).first f) (others_turn m (if_tree branches.now).others))) }
+    ensures { Turns around.now variables.old variables.new found.old.items found.new.items result
+        (λ m f. follow (test_turn m (if_tree branches.now).first f)
+        (others_turn m (if_tree branches.now).others)) }
 {
     judge_test(around, variables, &branches.first, found)?;
     for test in &branches.others {
@@ -169,10 +167,12 @@ fn judge_switch<'a>(
     switch: &Switch,
     found: &mut Vec<Mistake>,
 ) -> Result<(), Memory>
-    ensures { (m : bodies.Surroundings) (f : NameFrame) → AreSurroundings m around.now → IsNameFrame m.program.text f variables.old
-        → OnOk result (Turned m.program.text found.old.items found.new.items variables.new
-        (follow (case_turn m (switch_heads (switch_tree switch.now)) [] (switch_tree switch.now).first f) (cases_turn m (switch_heads
-        (switch_tree switch.now)) (head_of (switch_tree switch.now).first ∷ []) (case_sequence (switch_tree switch.now).others)))) }
+    ensures { Turns around.now variables.old variables.new found.old.items found.new.items result
+        (λ m f. follow (case_turn m (switch_heads (switch_tree switch.now)) []
+        (switch_tree switch.now).first f)
+        (cases_turn m (switch_heads (switch_tree switch.now))
+        (head_of (switch_tree switch.now).first ∷ [])
+        (case_sequence (switch_tree switch.now).others))) }
 {
     let heads = Heads::of(around.alloc, around.scope.text, switch)?;
     judge_case(around, variables, &heads, 0, &switch.first, found)?;

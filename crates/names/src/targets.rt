@@ -1,13 +1,13 @@
 //! What is wrong with the names and types in targets.
 
-ghost use Rattle.std.specs.Prelude.{◌++◌, not, IfOk, OnOk};
+ghost use Rattle.std.specs.Prelude.{IfOk, OnOk};
 ghost use Rattle.tree.specs.ExpressionTrees.{target_tree};
-ghost use Rattle.names.specs.Expressions.{InScope, variable_of, variable_type, variable_mistakes, field_type, field_mistakes, owns};
+ghost use Rattle.names.specs.Expressions.{InScope};
 ghost use Rattle.declarations.specs.Mistakes.{Adds};
-ghost use Rattle.declarations.specs.Types.{unless};
 ghost use Rattle.names.specs.Mentions.{GivesOperand};
 ghost use Rattle.declarations.specs.Scopes.{IsScope};
 ghost use Rattle.names.specs.Values.{target_type, target_mistakes, length_mistakes};
+ghost use Rattle.tree.specs.Expressions.{Field};
 
 use crate::expressions::judge_operand;
 use crate::mentions::{is_length, judge_element_of, judge_field, judge_variable, owns};
@@ -48,11 +48,9 @@ fn judge_field_target(
     field: Span,
     found: &mut Vec<Mistake>,
 ) -> Result<ValueType, Memory>
-    ensures { IfOk result (GivesOperand scope.now variables.now (λ s. field_type s (variable_type (variable_of s variable)) field)
-        (λ s. variable_mistakes s variable ++ (field_mistakes s (variable_type (variable_of s variable)) variable field
-        ++ (length_mistakes s (variable_type (variable_of s variable)) field
-        ++ unless (not (owns s (variable_type (variable_of s variable)) field)) field.place Mismatch.FieldOwns)))
-        found.old.items found.new.items) }
+    ensures { IfOk result (GivesOperand scope.now variables.now
+        (λ s. target_type s (Field variable field))
+        (λ s. target_mistakes s (Field variable field)) found.old.items found.new.items) }
 {
     let held = judge_variable(scope, variables, variable, found)?;
     let ty = judge_field(scope, held, variable, field, found)?;

@@ -1,18 +1,16 @@
 //! What is wrong with the names and types in values.
 
-ghost use Rattle.std.specs.Prelude.{◌≡◌, map, OnOk, IfOk};
+ghost use Rattle.std.specs.Prelude.{◌≡◌, map, IfOk};
 ghost use Rattle.tree.specs.ExpressionTrees.{expression_tree};
 ghost use Rattle.tree.specs.Values.{value_tree, new_tree, made_tree};
-ghost use Rattle.names.specs.Bodies as bodies;
-ghost use Rattle.declarations.specs.Mistakes.{Adds};
-ghost use Rattle.names.specs.Frames.{AreSurroundings, IsContext, IsNameFrame};
-ghost use Rattle.names.specs.Operands.{in_frame};
+ghost use Rattle.names.specs.Operands.{Finds, in_frame};
 ghost use Rattle.declarations.specs.Types.{pointer_type};
 ghost use Rattle.declarations.specs.Program.{ProgramText, struct_named};
 ghost use Rattle.declarations.specs.Scopes.{IsScope};
 ghost use Rattle.names.specs.Shapes.{shape};
 ghost use Rattle.names.specs.Values.{made_type, made_mistakes, struct_made_mistakes, new_mistakes, value_mistakes};
 ghost use Rattle.names.specs.Variables.{NameFrame};
+ghost use Rattle.names.specs.Frames.{FindsAround};
 
 use crate::arguments::judge_typed_arguments;
 use crate::calls::{Purpose, judge_call, judge_unknown};
@@ -34,9 +32,9 @@ fn judge_structure(
     found: &mut Vec<Mistake>,
 ) -> Result<ValueType, Memory>
     ensures ty { IfOk result (λ ty. (p : ProgramText) → IsScope p context.now.scope.now → ty ≡ pointer_type (struct_named p name)) }
-    ensures found { (p : ProgramText) (f : NameFrame) → IsContext p f context.now
-        → OnOk result (Adds found.old.items found.new.items (struct_made_mistakes (in_frame p f)
-        (struct_named p name) name (map shape (map expression_tree arguments.now)))) }
+    ensures found { Finds context.now found.old.items found.new.items result
+        (λ s. struct_made_mistakes s (struct_named s.program name) name
+        (map shape (map expression_tree arguments.now))) }
 {
     let NameContext {
         alloc,
@@ -64,8 +62,8 @@ fn judge_made(
 ) -> Result<ValueType, Memory>
     ensures ty { IfOk result (λ ty. (p : ProgramText) (f : NameFrame) → IsScope p context.now.scope.now
         → ty ≡ made_type (in_frame p f) (made_tree made.now)) }
-    ensures found { (p : ProgramText) (f : NameFrame) → IsContext p f context.now
-        → OnOk result (Adds found.old.items found.new.items (made_mistakes (in_frame p f) (made_tree made.now))) }
+    ensures found { Finds context.now found.old.items found.new.items result
+        (λ s. made_mistakes s (made_tree made.now)) }
 {
     match made {
         Made::Struct {
@@ -90,8 +88,8 @@ fn judge_new(
     new: &New,
     found: &mut Vec<Mistake>,
 ) -> Result<(), Memory>
-    ensures { (p : ProgramText) (f : NameFrame) → IsContext p f context.now
-        → OnOk result (Adds found.old.items found.new.items (new_mistakes (in_frame p f) asked (new_tree new.now))) }
+    ensures { Finds context.now found.old.items found.new.items result
+        (λ s. new_mistakes s asked (new_tree new.now)) }
 {
     let ty = judge_made(context, &new.made, found)?;
     let mismatch = Mismatch::Given(Demand::OfType(asked), ty);
@@ -106,8 +104,8 @@ pub(crate) fn judge_value<'a>(
     value: &Value,
     found: &mut Vec<Mistake>,
 ) -> Result<(), Memory>
-    ensures { (m : bodies.Surroundings) (f : NameFrame) → AreSurroundings m around.now → IsNameFrame m.program.text f variables.now
-        → OnOk result (Adds found.old.items found.new.items (value_mistakes (bodies.inside_of m f) asked (value_tree value.now))) }
+    ensures { FindsAround around.now variables.now found.old.items found.new.items result
+        (λ i. value_mistakes i asked (value_tree value.now)) }
 {
     match value {
         Value::Expression(e) => { judge_asked(around.scope, variables, asked, e, found) }

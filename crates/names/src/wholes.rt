@@ -1,16 +1,11 @@
 //! Expressions that are the whole of something: of a value, of an argument, of what is returned.
 
-ghost use Rattle.std.specs.Prelude.{IfOk, OnOk};
+ghost use Rattle.std.specs.Prelude.{IfOk};
 ghost use Rattle.tree.specs.ExpressionTrees.{expression_tree};
 ghost use Rattle.names.specs.Expressions.{truth_mistakes, number_mistakes};
-ghost use Rattle.declarations.specs.Mistakes.{Adds};
-ghost use Rattle.names.specs.Frames.{IsNameFrame};
-ghost use Rattle.names.specs.Operands.{JudgesWhole, in_frame};
-ghost use Rattle.declarations.specs.Program.{ProgramText};
-ghost use Rattle.declarations.specs.Scopes.{IsScope};
+ghost use Rattle.names.specs.Operands.{FindsIn, JudgesWhole};
 ghost use Rattle.names.specs.Shapes.{shape};
 ghost use Rattle.names.specs.Values.{asked_mistakes};
-ghost use Rattle.names.specs.Variables.{NameFrame};
 
 use crate::expressions::judge_operand;
 use crate::mentions::judge_variable;
@@ -49,8 +44,8 @@ pub(crate) fn judge_asked(
     expression: &Expression,
     found: &mut Vec<Mistake>,
 ) -> Result<(), Memory>
-    ensures { (p : ProgramText) (f : NameFrame) → IsScope p scope.now → IsNameFrame p.text f variables.now → OnOk result
-        (Adds found.old.items found.new.items (asked_mistakes (in_frame p f) asked (shape (expression_tree expression.now)))) }
+    ensures { FindsIn scope.now variables.now found.old.items found.new.items result
+        (λ s. asked_mistakes s asked (shape (expression_tree expression.now))) }
 {
     let operand = judge_whole_operand(scope, variables, expression, found)?;
     let mismatch = Mismatch::Given(Demand::OfType(asked), operand.ty);
@@ -64,8 +59,8 @@ pub(crate) fn judge_truth(
     expression: &Expression,
     found: &mut Vec<Mistake>,
 ) -> Result<(), Memory>
-    ensures { (p : ProgramText) (f : NameFrame) → IsScope p scope.now → IsNameFrame p.text f variables.now
-        → OnOk result (Adds found.old.items found.new.items (truth_mistakes (in_frame p f) (shape (expression_tree expression.now)))) }
+    ensures { FindsIn scope.now variables.now found.old.items found.new.items result
+        (λ s. truth_mistakes s (shape (expression_tree expression.now))) }
 {
     let operand = judge_operand(scope, variables, expression, found)?;
     ask_truth(operand.ty, operand.place, found)
@@ -78,8 +73,8 @@ pub(crate) fn judge_number(
     expression: &Expression,
     found: &mut Vec<Mistake>,
 ) -> Result<(), Memory>
-    ensures { (p : ProgramText) (f : NameFrame) → IsScope p scope.now → IsNameFrame p.text f variables.now
-        → OnOk result (Adds found.old.items found.new.items (number_mistakes (in_frame p f) (shape (expression_tree expression.now)))) }
+    ensures { FindsIn scope.now variables.now found.old.items found.new.items result
+        (λ s. number_mistakes s (shape (expression_tree expression.now))) }
 {
     let operand = judge_operand(scope, variables, expression, found)?;
     ask_number(operand.ty, operand.place, found)

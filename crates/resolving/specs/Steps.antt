@@ -1,14 +1,18 @@
 -- What a step of the walk adds, and what it makes, whatever variables are in scope.
-use Rattle.std.specs.Prelude.{◌≡◌, ℕ, List, [], ◌∷◌, ◌++◌, Option, option_map}
+use Rattle.std.specs.Prelude.{◌≡◌, ℕ, List, [], ◌∷◌, ◌++◌, Option, option_map, Result, IfOk}
+use Rattle.declarations.specs.Program.{ProgramText}
+use Rattle.tree.specs.Trees.{ItemTree}
 use Rattle.program.specs.Statements.{CallModel, SendModel, StatementModel, call_model, send_model, statement_model}
 use Rattle.program.specs.declared.statement.Mention.{Mention}
 use Rattle.program.specs.declared.statement.Statement.{Statement}
 use Rattle.program.specs.declared.call.Call.{Call}
 use Rattle.program.specs.declared.call.Send.{Send}
 use Rattle.program.specs.declared.number.VarId.{VarId}
+use Rattle.resolving.specs.Around.{IsAround, program_in}
 use Rattle.resolving.specs.Frames.{IsLocalFrame}
 use Rattle.resolving.specs.Locals.{LocalFrame}
 use Rattle.resolving.specs.Told.{ResolvedPiece, follow}
+use Rattle.resolving.specs.declared.around.Around.{Around}
 use Rattle.resolving.specs.declared.locals.Locals.{Locals}
 
 -- the new list has these mentions behind those of the old one
@@ -36,6 +40,14 @@ pub record AddsBinds (text : List ℕ) (old new : List VarId) (locals : Locals) 
 pub record IsResolvedPiece (text : List ℕ) {X : Type 0} (t : ResolvedPiece X) (what : X) (locals : Locals) : Type 0 where
   pub is : what ≡ t.what
   pub frame : IsLocalFrame text t.frame locals
+
+-- Whatever the items of the program and the variables in scope are, a piece is what this one comes to, and the frame behind it is the one
+-- that stands now.
+abbrev pub TellsPiece : {X Y E : Type 0} → (text : List ℕ) → Around → (old new : Locals) → (X → Y) → Result X E →
+    (ProgramText → ℕ → LocalFrame → ResolvedPiece Y) → Type 0
+TellsPiece text around old new model answer told =
+    (items : List ItemTree) (own : ℕ) (f : LocalFrame) → IsAround (program_in text items) own around → IsLocalFrame text f old
+    → IfOk answer (λ x. IsResolvedPiece text (told (program_in text items) own f) (model x) new)
 
 -- what pieces in a row come to, each in the frame behind those before it
 abbrev pub pieces_in_order : {T X : Type 0} → (T → LocalFrame → ResolvedPiece X) → List T → LocalFrame → ResolvedPiece (List X)

@@ -1,6 +1,6 @@
 //! The heads of cases: what they wait for, and what they bind.
 
-ghost use Rattle.std.specs.Prelude.{◌≡◌, ◌++◌, ℕ, List, IfOk, OnOk, option_map, slice_get};
+ghost use Rattle.std.specs.Prelude.{◌≡◌, ◌++◌, ℕ, List, OnOk, option_map, slice_get};
 ghost use Rattle.tree.specs.Trees.{ItemTree};
 ghost use Rattle.declarations.specs.Types.{brought_type};
 ghost use Rattle.declarations.specs.Program.{ProgramText};
@@ -8,7 +8,7 @@ ghost use Rattle.resolving.specs.Around.{IsAround, meant_model, program_in};
 ghost use Rattle.resolving.specs.Binds as model;
 ghost use Rattle.resolving.specs.Frames.{IsLocalFrame, number_model};
 ghost use Rattle.resolving.specs.Locals.{LocalFrame};
-ghost use Rattle.resolving.specs.Steps.{AddsBinds, IsResolvedPiece};
+ghost use Rattle.resolving.specs.Steps.{AddsBinds, TellsPiece};
 ghost use Rattle.resolving.specs.Told as told;
 
 use crate::around::Around;
@@ -173,9 +173,8 @@ pub(crate) fn declare_binds<'a>(
     params: &[MessageParameter],
     binds: &[Bind],
 ) -> Result<Vec<VarId>, AllocError>
-    ensures { (items : List ItemTree) (own : ℕ) (f : LocalFrame) → IsAround (program_in text.now items) own around.now
-        → IsLocalFrame text.now f locals.old → IfOk result (λ bound. IsResolvedPiece text.now
-        (model.binds_told (program_in text.now items) params.now binds.now f) bound.items locals.new) }
+    ensures { TellsPiece text.now around.now locals.old locals.new (λ bound. bound.items) result
+        (λ p own. model.binds_told p params.now binds.now) }
 {
     let mut bound = Vec::new(around.alloc);
     for (index, bind) in binds.iter().enumerate() {

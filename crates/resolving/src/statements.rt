@@ -1,15 +1,12 @@
 //! What statements come to.
 
-ghost use Rattle.std.specs.Prelude.{◌≡◌, ℕ, List, map, IfOk, option_map};
+ghost use Rattle.std.specs.Prelude.{◌≡◌, map, IfOk, option_map};
 ghost use Rattle.program.specs.Statements as seen;
 ghost use Rattle.program.specs.Statements.{statement_model, block_model, test_model, if_model, case_model};
-ghost use Rattle.resolving.specs.Around.{IsAround, program_in};
-ghost use Rattle.resolving.specs.Frames.{IsLocalFrame, staying_model};
-ghost use Rattle.resolving.specs.Locals.{LocalFrame};
-ghost use Rattle.resolving.specs.Steps.{IsResolvedPiece, pieces_in_order};
+ghost use Rattle.resolving.specs.Frames.{staying_model};
+ghost use Rattle.resolving.specs.Steps.{TellsPiece, pieces_in_order};
 ghost use Rattle.resolving.specs.Plain.{plain_told, frame_behind};
 ghost use Rattle.resolving.specs.Told.{follow, statement_told, statements_told, block_told, test_told, others_told, case_told, cases_told};
-ghost use Rattle.tree.specs.Trees.{ItemTree};
 ghost use Rattle.tree.specs.StatementTrees.{MoreCases, statement_tree, statement_sequence, block_tree, test_tree};
 ghost use Rattle.tree.specs.StatementTrees.{if_tree, last_other, case_tree, case_sequence, switch_tree};
 
@@ -32,13 +29,11 @@ fn tell_alone<'a>(
     locals: &mut Locals<'a>,
     statement: &tree::Statement,
 ) -> Result<Statement, AllocError>
-    ensures { (items : List ItemTree) (own : ℕ) (f : LocalFrame) → IsAround (program_in text.now items) own around.now
-        → IsLocalFrame text.now f locals.old → IfOk result (λ s. IsResolvedPiece text.now
-        (record {
-          what = plain_told (program_in text.now items) own f (statement_tree statement.now);
-          frame = frame_behind
-              (program_in text.now items) own f (statement_tree statement.now);
-        }) (statement_model s) locals.new) }
+    ensures { TellsPiece text.now around.now locals.old locals.new statement_model result
+        (λ p own f. record {
+          what = plain_told p own f (statement_tree statement.now);
+          frame = frame_behind p own f (statement_tree statement.now);
+        }) }
 {
     let told = tell_plain(text, around, locals, statement)?;
     declare_in(text, around, locals, statement)?;
@@ -54,9 +49,8 @@ fn tell_statement<'a>(
     stays: Staying,
     statement: &tree::Statement,
 ) -> Result<Statement, AllocError>
-    ensures { (items : List ItemTree) (own : ℕ) (f : LocalFrame) → IsAround (program_in text.now items) own around.now
-        → IsLocalFrame text.now f locals.old → IfOk result (λ s. IsResolvedPiece text.now (statement_told (program_in
-        text.now items) own (staying_model stays) (statement_tree statement.now) f) (statement_model s) locals.new) }
+    ensures { TellsPiece text.now around.now locals.old locals.new statement_model result
+        (λ p own. statement_told p own (staying_model stays) (statement_tree statement.now)) }
 {
     match statement {
         tree::Statement::Block(block) => {
@@ -111,10 +105,10 @@ pub(crate) fn tell_statements<'a>(
     stays: Staying,
     statements: &[tree::Statement],
 ) -> Result<Vec<Statement>, AllocError>
-    ensures { (items : List ItemTree) (own : ℕ) (f : LocalFrame) → IsAround (program_in text.now items) own around.now
-        → IsLocalFrame text.now f locals.old → IfOk result
-        (λ list. IsResolvedPiece text.now (statements_told (program_in text.now items) own (staying_model stays)
-        (statement_sequence (map statement_tree statements.now)) f) (seen.statement_sequence (map statement_model list.items)) locals.new) }
+    ensures { TellsPiece text.now around.now locals.old locals.new
+        (λ list. seen.statement_sequence (map statement_model list.items)) result
+        (λ p own. statements_told p own (staying_model stays)
+        (statement_sequence (map statement_tree statements.now))) }
 {
     let mut told = Vec::with_capacity(around.alloc, statements.len())?;
     for statement in statements {
@@ -132,9 +126,8 @@ fn tell_block<'a>(
     stays: Staying,
     block: &tree::Block,
 ) -> Result<Block, AllocError>
-    ensures { (items : List ItemTree) (own : ℕ) (f : LocalFrame) → IsAround (program_in text.now items) own around.now
-        → IsLocalFrame text.now f locals.old → IfOk result (λ b. IsResolvedPiece text.now (block_told
-        (program_in text.now items) own (staying_model stays) (block_tree block.now) f) (block_model b) locals.new) }
+    ensures { TellsPiece text.now around.now locals.old locals.new block_model result
+        (λ p own. block_told p own (staying_model stays) (block_tree block.now)) }
 {
     let outer = locals.len();
     let last = locals.last();
@@ -153,9 +146,8 @@ fn tell_test<'a>(
     stays: Staying,
     test: &tree::Test,
 ) -> Result<Test, AllocError>
-    ensures { (items : List ItemTree) (own : ℕ) (f : LocalFrame) → IsAround (program_in text.now items) own around.now
-        → IsLocalFrame text.now f locals.old → IfOk result (λ t. IsResolvedPiece text.now
-        (test_told (program_in text.now items) own (staying_model stays) (test_tree test.now) f) (test_model t) locals.new) }
+    ensures { TellsPiece text.now around.now locals.old locals.new test_model result
+        (λ p own. test_told p own (staying_model stays) (test_tree test.now)) }
 {
     let mut reads = Vec::new(around.alloc);
     add_reads(text, locals, &test.test, &mut reads)?;
@@ -177,9 +169,10 @@ fn tell_tests<'a>(
     stays: Staying,
     tests: &[tree::Test],
 ) -> Result<Vec<Test>, AllocError>
-    ensures { (items : List ItemTree) (own : ℕ) (f : LocalFrame) → IsAround (program_in text.now items) own around.now
-        → IsLocalFrame text.now f locals.old → IfOk result (λ list. IsResolvedPiece text.now (pieces_in_order (test_told (program_in
-        text.now items) own (staying_model stays)) (map test_tree tests.now) f) (map test_model list.items) locals.new) }
+    ensures { TellsPiece text.now around.now locals.old locals.new
+        (λ list. map test_model list.items) result
+        (λ p own. pieces_in_order (test_told p own (staying_model stays))
+        (map test_tree tests.now)) }
 {
     let mut told = Vec::with_capacity(around.alloc, tests.len())?;
     for test in tests {
@@ -197,10 +190,10 @@ fn tell_otherwise<'a>(
     stays: Staying,
     otherwise: &Option<tree::Block>,
 ) -> Result<Option<Block>, AllocError>
-    ensures { (items : List ItemTree) (own : ℕ) (f : LocalFrame)
-        → IsAround (program_in text.now items) own around.now → IsLocalFrame text.now f locals.old
-        → IfOk result (λ b. IsResolvedPiece text.now (others_told (program_in text.now items) own (staying_model stays)
-        (last_other (option_map block_tree otherwise.now)) f) (seen.last_other (option_map block_model b)) locals.new) }
+    ensures { TellsPiece text.now around.now locals.old locals.new
+        (λ b. seen.last_other (option_map block_model b)) result
+        (λ p own. others_told p own (staying_model stays)
+        (last_other (option_map block_tree otherwise.now))) }
 {
     match otherwise {
         Some(block) => {
@@ -220,11 +213,11 @@ fn tell_if<'a>(
     stays: Staying,
     branches: &tree::If,
 ) -> Result<If, AllocError>
-    ensures { (items : List ItemTree) (own : ℕ) (f : LocalFrame) → IsAround (program_in text.now items) own around.now
-        → IsLocalFrame text.now f locals.old → IfOk result (λ i. IsResolvedPiece text.now
-        (follow seen.If (test_told (program_in text.now items) own (staying_model stays) (if_tree branches.now).first f)
-        (others_told (program_in text.now items) own (staying_model stays) (if_tree branches.now).others))
-        (seen.If (if_model i).first (if_model i).others) locals.new) }
+    ensures { TellsPiece text.now around.now locals.old locals.new
+        (λ i. seen.If (if_model i).first (if_model i).others) result
+        (λ p own f. follow seen.If
+        (test_told p own (staying_model stays) (if_tree branches.now).first f)
+        (others_told p own (staying_model stays) (if_tree branches.now).others)) }
 {
     let first = tell_test(text, around, locals, stays, &branches.first)?;
     let others = tell_tests(text, around, locals, stays, &branches.others)?;
@@ -245,11 +238,11 @@ fn tell_cases<'a>(
     stays: Staying,
     switch: &Switch,
 ) -> Result<Vec<Case>, AllocError>
-    ensures { (items : List ItemTree) (own : ℕ) (f : LocalFrame)
-        → IsAround (program_in text.now items) own around.now → IsLocalFrame text.now f locals.old
-        → IfOk result (λ list. IsResolvedPiece text.now (cases_told (program_in text.now items) own
-        (staying_model stays) (MoreCases (switch_tree switch.now).first (case_sequence (switch_tree switch.now).others))
-        (switch_tree switch.now).close.place f) (seen.case_sequence (map case_model list.items)) locals.new) }
+    ensures { TellsPiece text.now around.now locals.old locals.new
+        (λ list. seen.case_sequence (map case_model list.items)) result
+        (λ p own. cases_told p own (staying_model stays)
+        (MoreCases (switch_tree switch.now).first (case_sequence (switch_tree switch.now).others))
+        (switch_tree switch.now).close.place) }
 {
     let mut told = Vec::new(around.alloc);
     let mut case = &switch.first;
@@ -272,9 +265,8 @@ fn tell_case<'a>(
     behind: Place,
     case: &tree::Case,
 ) -> Result<Case, AllocError>
-    ensures { (items : List ItemTree) (own : ℕ) (f : LocalFrame) → IsAround (program_in text.now items) own around.now
-        → IsLocalFrame text.now f locals.old → IfOk result (λ c. IsResolvedPiece text.now (case_told
-        (program_in text.now items) own (staying_model stays) behind (case_tree case.now) f) (case_model c) locals.new) }
+    ensures { TellsPiece text.now around.now locals.old locals.new case_model result
+        (λ p own. case_told p own (staying_model stays) behind (case_tree case.now)) }
 {
     let kept = locals.len();
     let last = locals.last();

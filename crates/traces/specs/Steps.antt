@@ -1,14 +1,27 @@
--- For proofs within the crate: the pairs of a step, and the cases of a switch that were told.
-use Rattle.std.specs.Prelude.{◌≡◌, List, [], ◌∷◌, ◌++◌, Option, Some, None, map}
+-- For proofs within the crate: the method of which lines are told, the pairs of a step, and the cases of a switch that were told.
+use Rattle.std.specs.Prelude.{◌≡◌, List, [], ◌∷◌, ◌++◌, Option, Some, None, Result, OnOk, map}
 use Rattle.flow.specs.Cases.{EntranceModel}
-use Rattle.program.specs.Methods.{MethodModel}
+use Rattle.program.specs.Methods.{MethodModel, method_model}
 use Rattle.program.specs.Programs.{ProgramModel}
 use Rattle.rules.specs.Outcomes.{Pair}
+use Rattle.rules.specs.Programs.{model_of}
 use Rattle.rows.specs.Rows.{row_model}
 use Rattle.source.specs.declared.place.Place.{Place}
 use Rattle.traces.specs.Lines.{LineModel, case_lines, line_model}
 use Rattle.traces.specs.declared.line.Line.{Line}
 use Rattle.traces.specs.declared.step.PathStep.{PathStep}
+use Rattle.traces.specs.declared.teller.Teller.{Teller}
+
+-- the program and the method of which lines are told
+abbrev pub program_of : Teller → ProgramModel
+program_of teller = model_of teller.program.now
+
+abbrev pub method_of : Teller → MethodModel
+method_of teller = method_model teller.method.now
+
+-- these lines are added
+abbrev pub AddsLines : {X E : Type 0} → (old new : List Line) → Result X E → List LineModel → Type 0
+AddsLines old new answer more = OnOk answer (map line_model new ≡ map line_model old ++ more)
 
 abbrev pub step_before : PathStep → Pair
 step_before s = (s.point, row_model s.before.now)

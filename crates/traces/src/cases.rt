@@ -1,13 +1,11 @@
 //! The choices that steps make.
 
-ghost use Rattle.std.specs.Prelude.{◌≡◌, ◌++◌, ◌∷◌, [], IfOk, List, OnOk, map};
+ghost use Rattle.std.specs.Prelude.{◌≡◌, ◌++◌, ◌∷◌, [], IfOk, List, OnOk};
 ghost use Rattle.flow.specs.Cases.{EntranceModel, entrance_model};
 ghost use Rattle.flow.specs.Graphs.{cases_model, instruction_model};
-ghost use Rattle.program.specs.Methods.{method_model};
-ghost use Rattle.rules.specs.Programs.{model_of};
 ghost use Rattle.traces.specs.Lines as told;
-ghost use Rattle.traces.specs.Lines.{LineModel, line_model};
-ghost use Rattle.traces.specs.Steps.{HasCases, step_after, step_before};
+ghost use Rattle.traces.specs.Lines.{LineModel};
+ghost use Rattle.traces.specs.Steps.{AddsLines, HasCases, method_of, program_of, step_after, step_before};
 
 use crate::changes::leaf_of;
 use crate::line::{Line, line_of};
@@ -25,11 +23,12 @@ impl Teller<'_> {
         step: &PathStep<'_>,
         lines: &mut Vec<Line>,
     ) -> Result<Place, Memory>
-        ensures lines { OnOk result (map line_model lines.new.items ≡ map line_model lines.old.items
-            ++ told.choice (model_of self.now.program.now) (method_model self.now.method.now) (instruction_model instr.now)
+        ensures lines { AddsLines lines.old.items lines.new.items result
+            (told.choice (program_of self.now) (method_of self.now) (instruction_model instr.now)
             (step_before step.now) (step_after step.now)) }
-        ensures came { IfOk result (λ came. came ≡ told.came_at (model_of self.now.program.now) (method_model self.now.method.now)
-            (instruction_model instr.now) (step_before step.now) (step_after step.now)) }
+        ensures came { IfOk result (λ came. came
+            ≡ told.came_at (program_of self.now) (method_of self.now) (instruction_model instr.now)
+            (step_before step.now) (step_after step.now)) }
     {
         match instr {
             Instr::Branch { place, branches } => {
@@ -52,7 +51,8 @@ impl Teller<'_> {
         next: usize,
         lines: &mut Vec<Line>,
     ) -> Result<(), Memory>
-        ensures { OnOk result (map line_model lines.new.items ≡ map line_model lines.old.items ++ told.branch_lines place branches next) }
+        ensures { AddsLines lines.old.items lines.new.items result
+            (told.branch_lines place branches next) }
     {
         let Branches::Either { inside, past } = branches else {
             return Ok(());
@@ -74,12 +74,13 @@ impl Teller<'_> {
         step: &PathStep<'_>,
         lines: &mut Vec<Line>,
     ) -> Result<Place, Memory>
-        ensures lines { OnOk result (map line_model lines.new.items ≡ map line_model lines.old.items
-            ++ told.case_lines (model_of self.now.program.now) (method_model self.now.method.now)
-            (told.cases_taken (model_of self.now.program.now) (method_model self.now.method.now) (cases_model cases.now)
+        ensures lines { AddsLines lines.old.items lines.new.items result
+            (told.case_lines (program_of self.now) (method_of self.now)
+            (told.cases_taken (program_of self.now) (method_of self.now) (cases_model cases.now)
             (step_before step.now) (step_after step.now))) }
-        ensures place { IfOk result (λ at. at ≡ told.case_place (model_of self.now.program.now) (method_model self.now.method.now) place
-            (told.cases_taken (model_of self.now.program.now) (method_model self.now.method.now) (cases_model cases.now)
+        ensures place { IfOk result (λ at. at
+            ≡ told.case_place (program_of self.now) (method_of self.now) place
+            (told.cases_taken (program_of self.now) (method_of self.now) (cases_model cases.now)
             (step_before step.now) (step_after step.now))) }
     {
         let mut first = None;
@@ -100,9 +101,10 @@ impl Teller<'_> {
         lines: &mut Vec<Line>,
     ) -> Result<(), Memory>
         ensures { OnOk result ((before : List LineModel) (taken : List EntranceModel)
-            → HasCases (model_of self.now.program.now) (method_model self.now.method.now) before taken first.old lines.old.items
-            → HasCases (model_of self.now.program.now) (method_model self.now.method.now) before (taken ++ entrance_model case.now ∷ [])
-            first.new lines.new.items) }
+            → HasCases (program_of self.now)
+            (method_of self.now) before taken first.old lines.old.items
+            → HasCases (program_of self.now) (method_of self.now) before
+            (taken ++ entrance_model case.now ∷ []) first.new lines.new.items) }
     {
         match first {
             None => {
@@ -116,8 +118,9 @@ impl Teller<'_> {
 
     /// Adds a case.
     fn add_case(&self, front: &[u8], case: &Entrance, lines: &mut Vec<Line>) -> Result<(), Memory>
-        ensures { OnOk result (map line_model lines.new.items ≡ map line_model lines.old.items
-            ++ told.case_line (model_of self.now.program.now) (method_model self.now.method.now) front.now (entrance_model case.now) ∷ []) }
+        ensures { AddsLines lines.old.items lines.new.items result
+            (told.case_line (program_of self.now) (method_of self.now) front.now
+            (entrance_model case.now) ∷ []) }
     {
         let endpoint = case.endpoint;
         let mut text = Vec::new(self.alloc);
@@ -134,7 +137,8 @@ impl Teller<'_> {
 
     /// How what is awaited at an endpoint is written.
     fn awaited_name(&self, endpoint: VarId, awaited: Awaited) -> &[u8]
-        ensures { result.now ≡ told.awaited_name (model_of self.now.program.now) (method_model self.now.method.now) endpoint.0 awaited }
+        ensures { result.now ≡ told.awaited_name (program_of self.now)
+            (method_of self.now) endpoint.0 awaited }
     {
         match awaited {
             Awaited::Message(message) => self.message_name(endpoint, message),
@@ -145,7 +149,7 @@ impl Teller<'_> {
     /// Whether a step led on by a case: it goes on there, the case's endpoint has what its message or close leaves, and the other
     /// endpoints have what they had.
     fn came_by(&self, endpoints: &[Mention], step: &PathStep<'_>, case: &Entrance) -> bool
-        ensures { result ≡ told.came_by (model_of self.now.program.now) (method_model self.now.method.now) endpoints.now
+        ensures { result ≡ told.came_by (program_of self.now) (method_of self.now) endpoints.now
             (step_before step.now) (step_after step.now) (entrance_model case.now) }
     {
         if case.next != step.next {

@@ -1,15 +1,13 @@
 //! What instructions change of the variables that are watched.
 
-ghost use Rattle.std.specs.Prelude.{◌≡◌, ◌++◌, ◌∷◌, [], IfOk, None, OnOk, map};
+ghost use Rattle.std.specs.Prelude.{◌≡◌, ◌∷◌, [], IfOk, None, map};
 ghost use Rattle.flow.specs.Graphs.{Call, New, instruction_model};
 ghost use Rattle.flow.specs.declared.graph.Instr.TheVariants as instr;
-ghost use Rattle.program.specs.Methods.{method_model};
-ghost use Rattle.rules.specs.Programs.{model_of};
 ghost use Rattle.rows.specs.Rows.{leaf_at, row_model};
 ghost use Rattle.rows.specs.declared.row.Leaf.TheVariants.{Nothing};
 ghost use Rattle.traces.specs.Lines as told;
 ghost use Rattle.traces.specs.Lines.{line, line_model};
-ghost use Rattle.traces.specs.Steps.{step_after, step_before};
+ghost use Rattle.traces.specs.Steps.{AddsLines, method_of, program_of, step_after, step_before};
 
 use crate::line::{Line, line_of};
 use crate::step::PathStep;
@@ -33,7 +31,7 @@ impl Teller<'_> {
     /// That a variable has this, at a place.
     pub(crate) fn has(&self, place: Place, variable: VarId, leaf: Leaf) -> Result<Line, Memory>
         ensures { IfOk result (λ it. line_model it
-            ≡ line place (told.has (model_of self.now.program.now) (method_model self.now.method.now) variable.0 leaf)) }
+            ≡ line place (told.has (program_of self.now) (method_of self.now) variable.0 leaf)) }
     {
         let name = self.name_of(variable);
         match leaf {
@@ -62,7 +60,7 @@ impl Teller<'_> {
     /// What comes of a variable that has this behind a new block for the target.
     fn line_of_new(&self, target: Mention, variable: VarId, leaf: Leaf) -> Result<Line, Memory>
         ensures { IfOk result (λ it. line_model it ∷ []
-            ≡ told.change (model_of self.now.program.now) (method_model self.now.method.now) target.place
+            ≡ told.change (program_of self.now) (method_of self.now) target.place
             (New target [] 0) variable.0 leaf) }
     {
         let name = self.name_of(variable);
@@ -76,8 +74,9 @@ impl Teller<'_> {
 
     /// What comes of a variable that has this behind a send.
     fn line_of_send(&self, sending: &Sending, variable: VarId, leaf: Leaf) -> Result<Line, Memory>
-        ensures { IfOk result (λ it. line_model it ∷ [] ≡ told.change (model_of self.now.program.now) (method_model self.now.method.now)
-            sending.now.place (instruction_model (instr.Send sending.now)) variable.0 leaf) }
+        ensures { IfOk result (λ it. line_model it ∷ []
+            ≡ told.change (program_of self.now) (method_of self.now) sending.now.place
+            (instruction_model (instr.Send sending.now)) variable.0 leaf) }
     {
         match leaf {
             Leaf::Nothing => self.goes(sending, variable),
@@ -89,8 +88,9 @@ impl Teller<'_> {
 
     /// That a variable goes with a message.
     fn goes(&self, sending: &Sending, variable: VarId) -> Result<Line, Memory>
-        ensures { IfOk result (λ it. line_model it ∷ [] ≡ told.change (model_of self.now.program.now) (method_model self.now.method.now)
-            sending.now.place (instruction_model (instr.Send sending.now)) variable.0 Nothing) }
+        ensures { IfOk result (λ it. line_model it ∷ []
+            ≡ told.change (program_of self.now) (method_of self.now) sending.now.place
+            (instruction_model (instr.Send sending.now)) variable.0 Nothing) }
     {
         let endpoint = sending.endpoint.variable;
         let mut text = Vec::new(self.alloc);
@@ -107,8 +107,9 @@ impl Teller<'_> {
 
     /// What comes of a variable that has this behind a call.
     fn line_of_call(&self, place: Place, variable: VarId, leaf: Leaf) -> Result<Line, Memory>
-        ensures { IfOk result (λ it. line_model it ∷ [] ≡ told.change (model_of self.now.program.now) (method_model self.now.method.now)
-            place (Call place (record { 0 = 0 }) [] None 0) variable.0 leaf) }
+        ensures { IfOk result (λ it. line_model it ∷ []
+            ≡ told.change (program_of self.now) (method_of self.now) place
+            (Call place (record { 0 = 0 }) [] None 0) variable.0 leaf) }
     {
         match leaf {
             Leaf::Nothing => self.takes(place, b"the call", self.name_of(variable)),
@@ -125,8 +126,8 @@ impl Teller<'_> {
         leaf: Leaf,
         lines: &mut Vec<Line>,
     ) -> Result<(), Memory>
-        ensures { OnOk result (map line_model lines.new.items ≡ map line_model lines.old.items
-            ++ told.change (model_of self.now.program.now) (method_model self.now.method.now) came
+        ensures { AddsLines lines.old.items lines.new.items result
+            (told.change (program_of self.now) (method_of self.now) came
             (instruction_model instr.now) variable.0 leaf) }
     {
         let name = self.name_of(variable);
@@ -155,9 +156,10 @@ impl Teller<'_> {
         step: &PathStep<'_>,
         lines: &mut Vec<Line>,
     ) -> Result<(), Memory>
-        ensures { OnOk result (map line_model lines.new.items ≡ map line_model lines.old.items
-            ++ told.changes (model_of self.now.program.now) (method_model self.now.method.now) came (instruction_model instr.now)
-            (map (λ v. v.0) watched.now) (step_before step.now).1 (step_after step.now).1) }
+        ensures { AddsLines lines.old.items lines.new.items result
+            (told.changes (program_of self.now) (method_of self.now) came
+            (instruction_model instr.now) (map (λ v. v.0) watched.now) (step_before step.now).1
+            (step_after step.now).1) }
     {
         if let Instr::Move { target, source, .. } = instr {
             if !step.keeps_all(watched) {
@@ -183,8 +185,8 @@ impl Teller<'_> {
         first: &Row,
         lines: &mut Vec<Line>,
     ) -> Result<(), Memory>
-        ensures { OnOk result (map line_model lines.new.items ≡ map line_model lines.old.items
-            ++ told.start_lines (model_of self.now.program.now) (method_model self.now.method.now)
+        ensures { AddsLines lines.old.items lines.new.items result
+            (told.start_lines (program_of self.now) (method_of self.now)
             (map (λ v. v.0) watched.now) (row_model first.now)) }
     {
         for variable in watched {

@@ -2,12 +2,11 @@
 
 ghost use Rattle.std.specs.Prelude.{◌≡◌, ℕ, option_map};
 ghost use Rattle.contracts.specs.Leaving.{end_on};
-ghost use Rattle.program.specs.Methods.{method_model};
 ghost use Rattle.program.specs.Programs.{ProgramModel};
 ghost use Rattle.rules.specs.Endpoints as table;
 ghost use Rattle.rules.specs.Mentions as mentioned;
-ghost use Rattle.rules.specs.Programs.{model_of};
 ghost use Rattle.traces.specs.Lines as told;
+ghost use Rattle.traces.specs.Steps.{program_of, method_of};
 
 use crate::teller::Teller;
 use program::{Awaited, HeapType, MessageId, Side, StateId, VarId};
@@ -16,7 +15,7 @@ use rules::Leaf;
 impl Teller<'_> {
     /// The name of a variable: none, where there is no such variable.
     pub(crate) fn name_of(&self, variable: VarId) -> &[u8]
-        ensures { result.now ≡ mentioned.name_of (method_model self.now.method.now) variable.0 }
+        ensures { result.now ≡ mentioned.name_of (method_of self.now) variable.0 }
     {
         match self.method.variables.get(variable.0) {
             Some(variable) => &variable.name,
@@ -26,7 +25,7 @@ impl Teller<'_> {
 
     /// What a variable holds, if there is such a variable.
     fn type_of(&self, variable: VarId) -> Option<HeapType>
-        ensures { result ≡ table.type_of (method_model self.now.method.now) variable.0 }
+        ensures { result ≡ table.type_of (method_of self.now) variable.0 }
     {
         match self.method.variables.get(variable.0) {
             Some(variable) => Some(variable.ty),
@@ -36,8 +35,8 @@ impl Teller<'_> {
 
     /// The name of a message of the contract of an endpoint.
     pub(crate) fn message_name(&self, endpoint: VarId, message: MessageId) -> &[u8]
-        ensures { result.now ≡ table.message_name (model_of self.now.program.now)
-            (table.type_of (method_model self.now.method.now) endpoint.0) message.0 }
+        ensures { result.now ≡ table.message_name (program_of self.now)
+            (table.type_of (method_of self.now) endpoint.0) message.0 }
     {
         let Some(HeapType::Endpoint { contract, .. }) = self.type_of(endpoint) else {
             return &[];
@@ -50,8 +49,8 @@ impl Teller<'_> {
 
     /// How a state of the contract of an endpoint is printed.
     pub(crate) fn state_name(&self, endpoint: VarId, state: u32) -> &[u8]
-        ensures { result.now ≡ told.state_name (model_of self.now.program.now)
-            (table.type_of (method_model self.now.method.now) endpoint.0) state }
+        ensures { result.now ≡ told.state_name (program_of self.now)
+            (table.type_of (method_of self.now) endpoint.0) state }
     {
         let Some(HeapType::Endpoint { contract, .. }) = self.type_of(endpoint) else {
             return &[];
@@ -68,7 +67,8 @@ impl Teller<'_> {
 
     /// What an endpoint that has this has behind what is awaited there.
     pub(crate) fn awaited_leaf(&self, endpoint: VarId, awaited: Awaited, before: Leaf) -> Leaf
-        ensures { result ≡ told.awaited_leaf (model_of self.now.program.now) (method_model self.now.method.now) endpoint.0 awaited before }
+        ensures { result ≡ told.awaited_leaf (program_of self.now)
+            (method_of self.now) endpoint.0 awaited before }
     {
         let Awaited::Message(message) = awaited else {
             return Leaf::CutOff;
@@ -84,8 +84,9 @@ impl Teller<'_> {
 
     /// Where an endpoint is behind a message that it receives in a state, if it may receive it there.
     fn next_state(&self, endpoint: VarId, state: u32, message: MessageId) -> Option<StateId>
-        ensures { option_map (λ q. q.0) result ≡ end_on (table.edges_in (model_of self.now.program.now)
-            (table.type_of (method_model self.now.method.now) endpoint.0) state) message.0 }
+        ensures { option_map (λ q. q.0) result
+            ≡ end_on (table.edges_in (program_of self.now)
+            (table.type_of (method_of self.now) endpoint.0) state) message.0 }
     {
         self.program
             .state_after_send(across(self.type_of(endpoint)), state, message)

@@ -1,18 +1,16 @@
 //! The lines of a path.
 
-ghost use Rattle.std.specs.Prelude.{◌≡◌, ◌<◌, ◌++◌, ◌∷◌, [], All, IfOk, List, OnOk, Some, length, map, option_map, slice_get};
+ghost use Rattle.std.specs.Prelude.{◌≡◌, ◌<◌, ◌++◌, ◌∷◌, All, IfOk, List, Some, length, map, option_map, slice_get};
 ghost use Rattle.std.specs.List.{AllZip};
 ghost use Rattle.flow.specs.Graphs.{graph_model, instruction_model};
 ghost use Rattle.flow.specs.Lowering.{graph_of};
-ghost use Rattle.program.specs.Methods.{method_model};
 ghost use Rattle.rules.specs.Outcomes.{Pair as PairModel};
-ghost use Rattle.rules.specs.Programs.{model_of};
 ghost use Rattle.analyse.specs.Noted.{pairs_of};
 ghost use Rattle.analyse.specs.Reach.{Differ};
 ghost use Rattle.analyse.specs.Workers.{HasSeen, IsWorkerOf, own_of};
 ghost use Rattle.traces.specs.Lines as told;
 ghost use Rattle.traces.specs.Lines.{line_model};
-ghost use Rattle.traces.specs.Steps.{step_after, step_before};
+ghost use Rattle.traces.specs.Steps.{AddsLines, method_of, program_of, step_after, step_before};
 
 use crate::line::Line;
 use crate::step::PathStep;
@@ -27,9 +25,9 @@ use source::Memory;
 impl Teller<'_> {
     /// The instruction at a point, if there is one.
     pub(crate) fn instruction_at(&self, point: usize) -> Option<&Instr>
-        requires graph { graph_model self.now.graph.now ≡ graph_of (method_model self.now.method.now) }
+        requires graph { graph_model self.now.graph.now ≡ graph_of (method_of self.now) }
         ensures { option_map (λ i. instruction_model i.now) result
-            ≡ slice_get (graph_of (method_model self.now.method.now)).instructions point }
+            ≡ slice_get (graph_of (method_of self.now)).instructions point }
     {
         match self.graph.instructions.get(point) {
             Some(instr) => Some(instr),
@@ -44,11 +42,11 @@ impl Teller<'_> {
         step: &PathStep<'_>,
         lines: &mut Vec<Line>,
     ) -> Result<(), Memory>
-        requires graph { graph_model self.now.graph.now ≡ graph_of (method_model self.now.method.now) }
-        ensures { OnOk result (map line_model lines.new.items ≡ map line_model lines.old.items
-            ++ told.step_lines (model_of self.now.program.now) (method_model self.now.method.now)
-            (slice_get (graph_of (method_model self.now.method.now)).instructions step.now.point) (map (λ v. v.0) watched.now)
-            (step_before step.now) (step_after step.now)) }
+        requires graph { graph_model self.now.graph.now ≡ graph_of (method_of self.now) }
+        ensures { AddsLines lines.old.items lines.new.items result
+            (told.step_lines (program_of self.now) (method_of self.now)
+            (slice_get (graph_of (method_of self.now)).instructions step.now.point)
+            (map (λ v. v.0) watched.now) (step_before step.now) (step_after step.now)) }
     {
         let Some(instr) = self.instruction_at(step.point) else {
             return Ok(());
@@ -67,7 +65,7 @@ impl Teller<'_> {
         rows: &Rows,
         worker: &mut Worker,
     ) -> Result<Vec<Line>, Memory>
-        requires graph { graph_model self.now.graph.now ≡ graph_of (method_model self.now.method.now) }
+        requires graph { graph_model self.now.graph.now ≡ graph_of (method_of self.now) }
         requires worker { IsWorkerOf rows.now worker.old }
         requires differ { Differ (own_of worker.old) }
         requires seen { (pairs : List PairModel) × HasSeen worker.old pairs }
@@ -76,11 +74,13 @@ impl Teller<'_> {
         ensures worker { IsWorkerOf rows.now worker.new }
         ensures differ { Differ (own_of worker.new) }
         ensures seen { (pairs : List PairModel) → HasSeen worker.old pairs → HasSeen worker.new pairs }
-        ensures lines { IfOk result (λ lines. (pairs steps : List PairModel) (first : PairModel) → HasSeen worker.old pairs
-            → slice_get pairs 0 ≡ Some first → AllZip (λ index x. slice_get pairs index ≡ Some x) indices.now steps
-            → map line_model lines.items ≡ told.start_lines (model_of self.now.program.now) (method_model self.now.method.now)
+        ensures lines { IfOk result (λ lines. (pairs steps : List PairModel) (first : PairModel)
+            → HasSeen worker.old pairs → slice_get pairs 0 ≡ Some first
+            → AllZip (λ index x. slice_get pairs index ≡ Some x) indices.now steps
+            → map line_model lines.items
+            ≡ told.start_lines (program_of self.now) (method_of self.now)
             (map (λ v. v.0) watched.now) first.1
-            ++ told.path_lines (model_of self.now.program.now) (method_model self.now.method.now)
+            ++ told.path_lines (program_of self.now) (method_of self.now)
             (map (λ v. v.0) watched.now) (first ∷ steps)) }
     {
         let mut before = Row::empty(self.alloc);

@@ -25,7 +25,7 @@ returns-in-Some c = λ p f here.
     let own = subst (λ t. AreMethods t looked.class c.in-Some.methods.now) (sym here.scope.text_is) looked.methods in
     let found = subst (λ t. IsCallee (method_named t looked.class name) c.find-callee.result) here.scope.text_is (c.find-callee.ensures looked.class own) in
     subst (λ o. OnOk result (Adds old new (class_mistakes s o c.args.site.now.purpose c.args.class name args))) (sym looked.is)
-    (c.judge_method.ensures p f (method_named p.text looked.class name) here found)
+    (c.judge_method.ensures (method_named p.text looked.class name) found p f here)
 
 pub returns-in-None : goal.returns-in-None
 returns-in-None c = λ p f here.

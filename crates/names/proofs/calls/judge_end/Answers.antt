@@ -11,4 +11,4 @@ pub returns-in-Some : goal.returns-in-Some
 returns-in-Some c = λ p f here.
     subst (λ o. OnOk c.judge_known_message.result (Adds c.args.found.now.items c.judge_known_message.new.found.items
     (message_mistakes (in_frame p f) c.args.index o c.args.end c.args.site.now.purpose c.args.site.now.name (map shape (map expression_tree c.args.site.now.arguments.now)))))
-    (c.in-Some.ensures p here.scope) (c.judge_known_message.ensures p f c.args.index here)
+    (c.in-Some.ensures p here.scope) (c.judge_known_message.ensures c.args.index p f here)

@@ -12,7 +12,7 @@ use Rattle.names.proofs.PendingLemmas.{numbered}
 use Rattle.names.proofs.calls.judge_known_message.Goals as goal
 
 pub returns : goal.returns
-returns c = λ p f n here.
+returns c = λ n p f here.
     let s = in_frame p f in
     let message = c.args.message.now in
     let params = message.params.items in

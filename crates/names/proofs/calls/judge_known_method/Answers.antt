@@ -13,7 +13,7 @@ use Rattle.names.proofs.PendingLemmas.{numbered}
 use Rattle.names.proofs.calls.judge_known_method.Goals as goal
 
 pub returns : goal.returns
-returns c = λ p f class here startable.
+returns c = λ class startable p f here.
     let s = in_frame p f in
     let method = c.args.callee.method.now in
     let params = method.params.items in

@@ -11,7 +11,7 @@ use Rattle.names.specs.Values.{method_mistakes}
 use Rattle.names.proofs.calls.judge_method.Goals as goal
 
 pub returns-in-Some : goal.returns-in-Some
-returns-in-Some c = λ p f m here known.
+returns-in-Some c = λ m known p f here.
     let callee = c.in-Some.callee in
     let method = method_tree callee.method.now in
     let is : Some method ≡ m = ap (option_map (λ (x : Callee). method_tree x.method.now)) (sym c.in-Some.is) ∙ known.method in
@@ -19,4 +19,4 @@ returns-in-Some c = λ p f m here known.
     let startable : callee.startable ≡ can_start method = cc in
     subst (λ o. OnOk c.judge_known_method.result (Adds c.args.found.now.items c.judge_known_method.new.found.items
     (method_mistakes (in_frame p f) o c.args.class c.args.site.now.purpose c.args.site.now.name (map shape (map expression_tree c.args.site.now.arguments.now))))) is
-    (c.judge_known_method.ensures p f c.args.class here startable)
+    (c.judge_known_method.ensures c.args.class startable p f here)
