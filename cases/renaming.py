@@ -3,6 +3,7 @@ import importlib.util
 import pathlib
 import shutil
 import subprocess
+import sys
 import tempfile
 
 TOP = pathlib.Path(__file__).resolve().parent.parent
@@ -55,7 +56,7 @@ DEFINED = {
 
 
 def called(top, *words):
-    return subprocess.run([top / words[0], *words[1:]], cwd=top, capture_output=True, text=True, timeout=60)
+    return subprocess.run([sys.executable, top / words[0], *words[1:]], cwd=top, capture_output=True, text=True, timeout=60)
 
 
 def made(top, files=FILES, crate='low', mutant='first_one'):

@@ -3,6 +3,7 @@ import os
 import pathlib
 import shutil
 import subprocess
+import sys
 import tempfile
 
 TOP = pathlib.Path(__file__).resolve().parent.parent
@@ -134,8 +135,9 @@ FOUND = ['crates/low/src/lib.rt:3 no doc comment on Bare, it is public',
 
 
 def run(top, *words):
-    return subprocess.run([top / 'tools' / 'tidy', *words], stdin=subprocess.DEVNULL, stdout=subprocess.PIPE, stderr=subprocess.STDOUT,
-                          timeout=60, text=True, env=dict(os.environ, PYTHONDONTWRITEBYTECODE='1'))
+    # Not the file itself: it was just written, and while another thread starts a program the system may take it for open.
+    return subprocess.run([sys.executable, top / 'tools' / 'tidy', *words], stdin=subprocess.DEVNULL, stdout=subprocess.PIPE,
+                          stderr=subprocess.STDOUT, timeout=60, text=True, env=dict(os.environ, PYTHONDONTWRITEBYTECODE='1'))
 
 
 def made(folder, known):
