@@ -55,7 +55,7 @@ abbrev pub TellsFrame : {X : Type 0} → ProgramModel → QueueBounds → (self 
 TellsFrame p bound self i choice answer old new = (w : World) (rest : List Frame) → w.blocks ≡ old.1 →
     Tells answer (outcome_from p bound w self old.0 rest i choice) (on_top w.processes self rest new.0 new.1)
 
--- If those are the frames of a process and the blocks, an instruction without choice comes to what was answered.
+-- If a process has those frames, and the blocks are those, an instruction without choice comes to what was answered.
 abbrev pub TellsStack : {X : Type 0} → ProgramModel → QueueBounds → (self : ℕ) → Instruction → Result X Refusal →
     (old new : List Frame) → List Block → Type 0
 TellsStack p bound self i answer old new blocks = (w : World) → w.blocks ≡ blocks →

@@ -54,9 +54,9 @@ Turns around before behind old new answer turn =
     → OnOk answer (Turned m.program.text old new behind (turn m f))
 
 -- Whatever these are, these mistakes are added.
-abbrev pub FindsAround : {X E : Type 0} → Surroundings → ScopeVariables → (old new : List Mistake) → Result X E →
+abbrev pub AddsAround : {X E : Type 0} → Surroundings → ScopeVariables → (old new : List Mistake) → Result X E →
     (Inside → List Mistake) → Type 0
-FindsAround around variables old new answer more =
+AddsAround around variables old new answer more =
     (m : bodies.Surroundings) (f : NameFrame) → AreSurroundings m around → IsNameFrame m.program.text f variables
     → OnOk answer (Adds old new (more (bodies.inside_of m f)))
 

@@ -22,12 +22,13 @@ abbrev pub in_frame : ProgramText → NameFrame → InScope
 in_frame p f = record { program = p; variables = f.variables }
 
 -- Whatever the program and the variables of a frame are, these mistakes are added.
-abbrev pub FindsIn : {X E : Type 0} → Scope → ScopeVariables → (old new : List Mistake) → Result X E → (InScope → List Mistake) → Type 0
-FindsIn scope variables old new answer more =
+abbrev pub AddsIn : {X E : Type 0} → Scope → ScopeVariables → (old new : List Mistake) → Result X E → (InScope → List Mistake) → Type 0
+AddsIn scope variables old new answer more =
     (p : ProgramText) (f : NameFrame) → IsScope p scope → IsNameFrame p.text f variables → OnOk answer (Adds old new (more (in_frame p f)))
 
-abbrev pub Finds : {X E : Type 0} → NameContext → (old new : List Mistake) → Result X E → (InScope → List Mistake) → Type 0
-Finds context old new answer more =
+-- the same, where both are the context of what is judged
+abbrev pub AddsHere : {X E : Type 0} → NameContext → (old new : List Mistake) → Result X E → (InScope → List Mistake) → Type 0
+AddsHere context old new answer more =
     (p : ProgramText) (f : NameFrame) → IsContext p f context → OnOk answer (Adds old new (more (in_frame p f)))
 
 -- an operand is of the type and at the place of this expression, and what is wrong in it was added

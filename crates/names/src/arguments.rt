@@ -8,7 +8,7 @@ ghost use Rattle.declarations.specs.Program.{ProgramText};
 ghost use Rattle.declarations.specs.Scopes.{IsScope};
 ghost use Rattle.names.specs.Shapes.{shape};
 ghost use Rattle.names.specs.Values.{argument_asked, argument_mistakes};
-ghost use Rattle.names.specs.Operands.{FindsIn};
+ghost use Rattle.names.specs.Operands.{AddsIn};
 
 use crate::expressions::judge_whole;
 use crate::variables::ScopeVariables;
@@ -26,7 +26,7 @@ fn judge_argument(
     argument: &Expression,
     found: &mut Vec<Mistake>,
 ) -> Result<(), Memory>
-    ensures { FindsIn scope.now variables.now found.old.items found.new.items result
+    ensures { AddsIn scope.now variables.now found.old.items found.new.items result
         (λ s. argument_asked s asked (shape (expression_tree argument.now))) }
 {
     match asked {
@@ -52,7 +52,7 @@ pub(crate) fn judge_arguments(
     arguments: &[Expression],
     found: &mut Vec<Mistake>,
 ) -> Result<(), Memory>
-    ensures { FindsIn scope.now variables.now found.old.items found.new.items result
+    ensures { AddsIn scope.now variables.now found.old.items found.new.items result
         (λ s. argument_mistakes s asked.now (map shape (map expression_tree arguments.now))) }
 {
     for (index, argument) in arguments.iter().enumerate() {
@@ -122,7 +122,7 @@ pub(crate) fn judge_typed_arguments<T: Typed>(
     arguments: &[Expression],
     found: &mut Vec<Mistake>,
 ) -> Result<(), Memory>
-    ensures { FindsIn scope.now variables.now found.old.items found.new.items result
+    ensures { AddsIn scope.now variables.now found.old.items found.new.items result
         (λ s. argument_mistakes s (map (λ x. type_meant s.program (T.as_written x)) typed.now)
         (map shape (map expression_tree arguments.now))) }
 {

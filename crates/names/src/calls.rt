@@ -15,8 +15,8 @@ ghost use Rattle.declarations.specs.Owning.{can_start};
 ghost use Rattle.names.specs.Values.{sends, is_alone, message_mistakes, contract_message, send_mismatch, send_mistakes};
 ghost use Rattle.names.specs.Values.{class_mistakes, class_meant, member_mistakes, call_mistakes};
 ghost use Rattle.source.specs.declared.token.Span.{Span as SpanModel};
-ghost use Rattle.names.specs.Operands.{Finds};
-ghost use Rattle.names.specs.Frames.{FindsAround};
+ghost use Rattle.names.specs.Operands.{AddsHere};
+ghost use Rattle.names.specs.Frames.{AddsAround};
 
 use crate::arguments::{judge_arguments, judge_typed_arguments};
 use crate::operands::ask;
@@ -106,7 +106,7 @@ fn judge_known_method(
 ) -> Result<(), Memory>
     ensures { (class : Option SpanModel)
         → callee.entry.startable ≡ can_start (method_tree callee.entry.method.now)
-        → Finds context.now found.old.items found.new.items result
+        → AddsHere context.now found.old.items found.new.items result
         (λ s. method_mistakes s (Some
         (method_tree callee.entry.method.now)) class site.now.purpose site.now.name
         (map shape (map expression_tree site.now.arguments.now))) }
@@ -139,7 +139,7 @@ pub(crate) fn judge_unknown(
     arguments: &[Expression],
     found: &mut Vec<Mistake>,
 ) -> Result<(), Memory>
-    ensures { Finds context.now found.old.items found.new.items result
+    ensures { AddsHere context.now found.old.items found.new.items result
         (λ s. Mistake.Unknown name sort
         ∷ argument_mistakes s [] (map shape (map expression_tree arguments.now))) }
 {
@@ -161,7 +161,7 @@ fn judge_method(
     found: &mut Vec<Mistake>,
 ) -> Result<(), Memory>
     ensures { (m : Option MethodTree) → IsCallee m callee.entry
-        → Finds context.now found.old.items found.new.items result
+        → AddsHere context.now found.old.items found.new.items result
         (λ s. method_mistakes s m class site.now.purpose site.now.name
         (map shape (map expression_tree site.now.arguments.now))) }
 {
@@ -208,7 +208,7 @@ fn judge_known_message(
     site: &CallSite<'_>,
     found: &mut Vec<Mistake>,
 ) -> Result<(), Memory>
-    ensures { (n : ℕ) → Finds context.now found.old.items found.new.items result
+    ensures { (n : ℕ) → AddsHere context.now found.old.items found.new.items result
         (λ s. message_mistakes s n
         (Some (message_tree message.now)) end site.now.purpose site.now.name
         (map shape (map expression_tree site.now.arguments.now))) }
@@ -249,7 +249,7 @@ fn judge_end(
     site: &CallSite<'_>,
     found: &mut Vec<Mistake>,
 ) -> Result<(), Memory>
-    ensures { Finds context.now found.old.items found.new.items result
+    ensures { AddsHere context.now found.old.items found.new.items result
         (λ s. message_mistakes s index
         (contract_message s index site.now.name) end site.now.purpose site.now.name
         (map shape (map expression_tree site.now.arguments.now))) }
@@ -274,7 +274,7 @@ fn judge_send(
     site: &CallSite<'_>,
     found: &mut Vec<Mistake>,
 ) -> Result<(), Memory>
-    ensures { Finds context.now found.old.items found.new.items result
+    ensures { AddsHere context.now found.old.items found.new.items result
         (λ s. send_mistakes s ty site.now.purpose variable site.now.name
         (map shape (map expression_tree site.now.arguments.now))) }
 {
@@ -300,7 +300,7 @@ fn judge_class(
     site: &CallSite<'_>,
     found: &mut Vec<Mistake>,
 ) -> Result<(), Memory>
-    ensures { Finds context.now found.old.items found.new.items result
+    ensures { AddsHere context.now found.old.items found.new.items result
         (λ s. class_mistakes s (class_meant
         (class_named s.program class)) site.now.purpose class site.now.name
         (map shape (map expression_tree site.now.arguments.now))) }
@@ -324,7 +324,7 @@ fn judge_member(
     site: &CallSite<'_>,
     found: &mut Vec<Mistake>,
 ) -> Result<(), Memory>
-    ensures { Finds context.now found.old.items found.new.items result
+    ensures { AddsHere context.now found.old.items found.new.items result
         (λ s. member_mistakes s (variable_of s front) site.now.purpose front site.now.name
         (map shape (map expression_tree site.now.arguments.now))) }
 {
@@ -342,7 +342,7 @@ pub(crate) fn judge_call<'a>(
     call: &Call,
     found: &mut Vec<Mistake>,
 ) -> Result<(), Memory>
-    ensures { FindsAround around.now variables.now found.old.items found.new.items result
+    ensures { AddsAround around.now variables.now found.old.items found.new.items result
         (λ i. call_mistakes i purpose (call_tree call.now)) }
 {
     let context = around.context(variables);

@@ -5,7 +5,7 @@ ghost use Rattle.names.specs.Bodies.{exchanged_type, holder_mistakes, exchange_m
 ghost use Rattle.names.specs.Expressions.{field_type, field_mistakes};
 ghost use Rattle.declarations.specs.Types.{unless, is_silent, is_block};
 ghost use Rattle.names.specs.Mentions.{GivesIn};
-ghost use Rattle.names.specs.Operands.{FindsIn};
+ghost use Rattle.names.specs.Operands.{AddsIn};
 
 use crate::mentions::{judge_field, judge_variable};
 use crate::operands::ask;
@@ -21,7 +21,7 @@ pub(crate) fn judge_exchange(
     exchange: Exchange,
     found: &mut Vec<Mistake>,
 ) -> Result<(), Memory>
-    ensures { FindsIn scope.now variables.now found.old.items found.new.items result
+    ensures { AddsIn scope.now variables.now found.old.items found.new.items result
         (λ s. exchange_mistakes s exchange) }
 {
     let held = judge_variable(scope, variables, exchange.holder, found)?;

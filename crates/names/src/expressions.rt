@@ -6,7 +6,7 @@ ghost use Rattle.tree.specs.ExpressionTrees.{expression_tree, disjunction_tree, 
 ghost use Rattle.tree.specs.ExpressionTrees.{sum_tree, factors_tree, factor_tree, unary_tree, prefixed_tree, atom_tree, target_tree};
 ghost use Rattle.names.specs.Expressions.{InScope, type_of, expression_mistakes, whole_mistakes};
 ghost use Rattle.names.specs.Frames.{IsNameFrame};
-ghost use Rattle.names.specs.Operands.{FindsIn, IsOperand, Judges};
+ghost use Rattle.names.specs.Operands.{AddsIn, IsOperand, Judges};
 ghost use Rattle.declarations.specs.Program.{ProgramText};
 ghost use Rattle.declarations.specs.Scopes.{IsScope};
 ghost use Rattle.names.specs.Shapes.{Shape, shape, atom_shape, target_shape, with_signs};
@@ -281,7 +281,7 @@ pub(crate) fn judge_expression(
 ) -> Result<ValueType, Memory>
     ensures ty { IfOk result (λ ty. (p : ProgramText) (f : NameFrame) → IsScope p scope.now → IsNameFrame p.text f variables.now
         → ty ≡ type_of (record { program = p; variables = f.variables }) (shape (expression_tree expression.now))) }
-    ensures found { FindsIn scope.now variables.now found.old.items found.new.items result
+    ensures found { AddsIn scope.now variables.now found.old.items found.new.items result
         (λ s. expression_mistakes s (shape (expression_tree expression.now))) }
 {
     let operand = judge_operand(scope, variables, expression, found)?;
@@ -298,7 +298,7 @@ pub(crate) fn judge_whole(
 ) -> Result<ValueType, Memory>
     ensures ty { IfOk result (λ ty. (p : ProgramText) (f : NameFrame) → IsScope p scope.now → IsNameFrame p.text f variables.now
         → ty ≡ type_of (record { program = p; variables = f.variables }) (shape (expression_tree expression.now))) }
-    ensures found { FindsIn scope.now variables.now found.old.items found.new.items result
+    ensures found { AddsIn scope.now variables.now found.old.items found.new.items result
         (λ s. whole_mistakes s (shape (expression_tree expression.now))) }
 {
     let operand = judge_whole_operand(scope, variables, expression, found)?;

@@ -8,12 +8,12 @@ ghost use Rattle.names.specs.Bodies.{given_mistakes, declaration_turn, delete_mi
 ghost use Rattle.names.specs.Bodies.{demand_beside, ends_mistakes, new_ends_mistakes, channel_mistakes, return_mistakes};
 ghost use Rattle.names.specs.Expressions.{variable_mistakes, variable_of, variable_type};
 ghost use Rattle.declarations.specs.Mistakes.{Adds};
-ghost use Rattle.names.specs.Frames.{FindsAround, IsNameFrame, Turns};
+ghost use Rattle.names.specs.Frames.{AddsAround, IsNameFrame, Turns};
 ghost use Rattle.declarations.specs.Program.{ProgramText, contract_named};
 ghost use Rattle.declarations.specs.Scopes.{IsScope};
 ghost use Rattle.names.specs.Values.{target_type, target_mistakes, value_mistakes};
 ghost use Rattle.names.specs.Variables.{NameFrame};
-ghost use Rattle.names.specs.Operands.{Finds, FindsIn};
+ghost use Rattle.names.specs.Operands.{AddsHere, AddsIn};
 
 use crate::expressions::judge_whole;
 use crate::mentions::judge_variable;
@@ -38,7 +38,7 @@ fn judge_given<'a>(
     value: &Option<Value>,
     found: &mut Vec<Mistake>,
 ) -> Result<(), Memory>
-    ensures { FindsAround around.now variables.now found.old.items found.new.items result
+    ensures { AddsAround around.now variables.now found.old.items found.new.items result
         (λ i. given_mistakes i asked (option_map value_tree value.now)) }
 {
     match value {
@@ -76,7 +76,7 @@ pub(crate) fn judge_assign<'a>(
     assign: &Assign,
     found: &mut Vec<Mistake>,
 ) -> Result<(), Memory>
-    ensures { FindsAround around.now variables.now found.old.items found.new.items result
+    ensures { AddsAround around.now variables.now found.old.items found.new.items result
         (λ i. target_mistakes i.scope (assign_tree assign.now).target
         ++ value_mistakes i (target_type i.scope (assign_tree assign.now).target)
         (assign_tree assign.now).value) }
@@ -103,7 +103,7 @@ pub(crate) fn judge_use(
     name: Span,
     found: &mut Vec<Mistake>,
 ) -> Result<(), Memory>
-    ensures { FindsIn scope.now variables.now found.old.items found.new.items result
+    ensures { AddsIn scope.now variables.now found.old.items found.new.items result
         (λ s. variable_mistakes s name) }
 {
     judge_variable(scope, variables, name, found)?;
@@ -117,7 +117,7 @@ pub(crate) fn judge_delete(
     name: Span,
     found: &mut Vec<Mistake>,
 ) -> Result<(), Memory>
-    ensures { FindsIn scope.now variables.now found.old.items found.new.items result
+    ensures { AddsIn scope.now variables.now found.old.items found.new.items result
         (λ s. delete_mistakes s name) }
 {
     judge_use(scope, variables, name, found)?;
@@ -194,7 +194,7 @@ fn judge_new_ends(
     channel: NewChannel,
     found: &mut Vec<Mistake>,
 ) -> Result<(), Memory>
-    ensures { FindsIn scope.now variables.now found.old.items found.new.items result
+    ensures { AddsIn scope.now variables.now found.old.items found.new.items result
         (λ s. new_ends_mistakes s
         (contract_named s.program channel.contract) channel.contract channel.first channel.second) }
 {
@@ -213,7 +213,7 @@ pub(crate) fn judge_channel(
     channel: NewChannel,
     found: &mut Vec<Mistake>,
 ) -> Result<(), Memory>
-    ensures { FindsIn scope.now variables.now found.old.items found.new.items result
+    ensures { AddsIn scope.now variables.now found.old.items found.new.items result
         (λ s. channel_mistakes s channel.contract channel.first channel.second) }
 {
     judge_new_ends(scope, variables, channel, found)?;
@@ -228,7 +228,7 @@ fn judge_needless(
     value: &Option<Box<Expression>>,
     found: &mut Vec<Mistake>,
 ) -> Result<(), Memory>
-    ensures { Finds context.now found.old.items found.new.items result
+    ensures { AddsHere context.now found.old.items found.new.items result
         (λ s. return_mistakes s None word (option_map (λ e. expression_tree e.value) value.now)) }
 {
     match value {
@@ -248,7 +248,7 @@ fn judge_returned(
     value: &Option<Box<Expression>>,
     found: &mut Vec<Mistake>,
 ) -> Result<(), Memory>
-    ensures { Finds context.now found.old.items found.new.items result
+    ensures { AddsHere context.now found.old.items found.new.items result
         (λ s. return_mistakes s (Some asked) word
         (option_map (λ e. expression_tree e.value) value.now)) }
 {
@@ -272,7 +272,7 @@ pub(crate) fn judge_return(
     value: &Option<Box<Expression>>,
     found: &mut Vec<Mistake>,
 ) -> Result<(), Memory>
-    ensures { Finds context.now found.old.items found.new.items result
+    ensures { AddsHere context.now found.old.items found.new.items result
         (λ s. return_mistakes s asked word (option_map (λ e. expression_tree e.value) value.now)) }
 {
     match asked {

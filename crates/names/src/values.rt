@@ -3,14 +3,14 @@
 ghost use Rattle.std.specs.Prelude.{◌≡◌, map, IfOk};
 ghost use Rattle.tree.specs.ExpressionTrees.{expression_tree};
 ghost use Rattle.tree.specs.Values.{value_tree, new_tree, made_tree};
-ghost use Rattle.names.specs.Operands.{Finds, in_frame};
+ghost use Rattle.names.specs.Operands.{AddsHere, in_frame};
 ghost use Rattle.declarations.specs.Types.{pointer_type};
 ghost use Rattle.declarations.specs.Program.{ProgramText, struct_named};
 ghost use Rattle.declarations.specs.Scopes.{IsScope};
 ghost use Rattle.names.specs.Shapes.{shape};
 ghost use Rattle.names.specs.Values.{made_type, made_mistakes, struct_made_mistakes, new_mistakes, value_mistakes};
 ghost use Rattle.names.specs.Variables.{NameFrame};
-ghost use Rattle.names.specs.Frames.{FindsAround};
+ghost use Rattle.names.specs.Frames.{AddsAround};
 
 use crate::arguments::judge_typed_arguments;
 use crate::calls::{Purpose, judge_call, judge_unknown};
@@ -32,7 +32,7 @@ fn judge_structure(
     found: &mut Vec<Mistake>,
 ) -> Result<ValueType, Memory>
     ensures ty { IfOk result (λ ty. (p : ProgramText) → IsScope p context.now.scope.now → ty ≡ pointer_type (struct_named p name)) }
-    ensures found { Finds context.now found.old.items found.new.items result
+    ensures found { AddsHere context.now found.old.items found.new.items result
         (λ s. struct_made_mistakes s (struct_named s.program name) name
         (map shape (map expression_tree arguments.now))) }
 {
@@ -62,7 +62,7 @@ fn judge_made(
 ) -> Result<ValueType, Memory>
     ensures ty { IfOk result (λ ty. (p : ProgramText) (f : NameFrame) → IsScope p context.now.scope.now
         → ty ≡ made_type (in_frame p f) (made_tree made.now)) }
-    ensures found { Finds context.now found.old.items found.new.items result
+    ensures found { AddsHere context.now found.old.items found.new.items result
         (λ s. made_mistakes s (made_tree made.now)) }
 {
     match made {
@@ -88,7 +88,7 @@ fn judge_new(
     new: &New,
     found: &mut Vec<Mistake>,
 ) -> Result<(), Memory>
-    ensures { Finds context.now found.old.items found.new.items result
+    ensures { AddsHere context.now found.old.items found.new.items result
         (λ s. new_mistakes s asked (new_tree new.now)) }
 {
     let ty = judge_made(context, &new.made, found)?;
@@ -104,7 +104,7 @@ pub(crate) fn judge_value<'a>(
     value: &Value,
     found: &mut Vec<Mistake>,
 ) -> Result<(), Memory>
-    ensures { FindsAround around.now variables.now found.old.items found.new.items result
+    ensures { AddsAround around.now variables.now found.old.items found.new.items result
         (λ i. value_mistakes i asked (value_tree value.now)) }
 {
     match value {

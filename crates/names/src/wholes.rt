@@ -3,7 +3,7 @@
 ghost use Rattle.std.specs.Prelude.{IfOk};
 ghost use Rattle.tree.specs.ExpressionTrees.{expression_tree};
 ghost use Rattle.names.specs.Expressions.{truth_mistakes, number_mistakes};
-ghost use Rattle.names.specs.Operands.{FindsIn, JudgesWhole};
+ghost use Rattle.names.specs.Operands.{AddsIn, JudgesWhole};
 ghost use Rattle.names.specs.Shapes.{shape};
 ghost use Rattle.names.specs.Values.{asked_mistakes};
 
@@ -44,7 +44,7 @@ pub(crate) fn judge_asked(
     expression: &Expression,
     found: &mut Vec<Mistake>,
 ) -> Result<(), Memory>
-    ensures { FindsIn scope.now variables.now found.old.items found.new.items result
+    ensures { AddsIn scope.now variables.now found.old.items found.new.items result
         (λ s. asked_mistakes s asked (shape (expression_tree expression.now))) }
 {
     let operand = judge_whole_operand(scope, variables, expression, found)?;
@@ -59,7 +59,7 @@ pub(crate) fn judge_truth(
     expression: &Expression,
     found: &mut Vec<Mistake>,
 ) -> Result<(), Memory>
-    ensures { FindsIn scope.now variables.now found.old.items found.new.items result
+    ensures { AddsIn scope.now variables.now found.old.items found.new.items result
         (λ s. truth_mistakes s (shape (expression_tree expression.now))) }
 {
     let operand = judge_operand(scope, variables, expression, found)?;
@@ -73,7 +73,7 @@ pub(crate) fn judge_number(
     expression: &Expression,
     found: &mut Vec<Mistake>,
 ) -> Result<(), Memory>
-    ensures { FindsIn scope.now variables.now found.old.items found.new.items result
+    ensures { AddsIn scope.now variables.now found.old.items found.new.items result
         (λ s. number_mistakes s (shape (expression_tree expression.now))) }
 {
     let operand = judge_operand(scope, variables, expression, found)?;

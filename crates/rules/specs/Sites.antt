@@ -33,12 +33,12 @@ abbrev pub says : Site → Breach → FindingModel
 says site = breach_model (model_of site.program.now) (method_model site.method.now)
 
 -- the answer is that of a check
-abbrev pub Answers : Here → Result (Unit {0}) Breach → Check → Type 0
-Answers here answer check = check_model (says here.site) answer ≡ check
+abbrev pub AnswersCheck : Here → Result (Unit {0}) Breach → Check → Type 0
+AnswersCheck here answer check = check_model (says here.site) answer ≡ check
 
 -- the answer is that of these checks in order, whatever checks come behind them
-abbrev pub AnswersAll : Here → Result (Unit {0}) Breach → List Check → Type 0
-AnswersAll here answer checks = StandsFor (says here.site) answer checks
+abbrev pub AnswersChecks : Here → Result (Unit {0}) Breach → List Check → Type 0
+AnswersChecks here answer checks = StandsFor (says here.site) answer checks
 
 -- where a rule goes on, and the row that it leaves, are those of the line of an instruction for the row before
 abbrev pub Follows : Site → Instruction → (old new : Row) → Result Onward Breach → Type 0
@@ -46,6 +46,6 @@ Follows site instruction old new answer =
     onward_model (says site) (onward_of answer) (row_model new)
     ≡ instruction_outcome (model_of site.program.now) (method_model site.method.now) instruction (row_model old)
 
--- so it is, where the row stays as it was
+-- the same for a rule that leaves the row as it was
 abbrev pub FollowsHere : Here → Instruction → Result Onward Breach → Type 0
 FollowsHere here instruction answer = Follows here.site instruction here.row.now here.row.now answer

@@ -9,7 +9,7 @@ ghost use Rattle.rules.specs.Repeats.{first_again};
 ghost use Rattle.rules.specs.Texts.{lent, wrong_for_call};
 ghost use Rattle.rows.specs.Leaves.{IsNumbered};
 ghost use Rattle.rows.specs.Rows.{leaf_at, row_model};
-ghost use Rattle.rules.specs.Sites.{Answers, AnswersAll, method_of, row_of};
+ghost use Rattle.rules.specs.Sites.{AnswersCheck, AnswersChecks, method_of, row_of};
 
 use crate::breach::{Breach, Reason};
 use crate::checks::{require_empty, require_none_again, require_not_lent, require_owned};
@@ -20,7 +20,7 @@ use rows::{Leaf, Row};
 
 /// That what is claimed of an argument is not lent.
 fn require_claimable(here: &Here<'_>, argument: Argument) -> Result<(), Breach>
-    ensures { Answers here.now result (refuse_if
+    ensures { AnswersCheck here.now result (refuse_if
         (argument.claimed && is_lent (method_of here.now) argument.mention.variable.0)
         (lent (name_of (method_of here.now) argument.mention.variable.0) argument.mention.place)) }
 {
@@ -32,7 +32,7 @@ fn require_claimable(here: &Here<'_>, argument: Argument) -> Result<(), Breach>
 
 /// That what is given for a parameter of this type is in its state.
 fn require_state(here: &Here<'_>, ty: HeapType, mention: Mention) -> Result<(), Breach>
-    ensures { Answers here.now result (refuse_if
+    ensures { AnswersCheck here.now result (refuse_if
         (is_wrong ty (leaf_at (row_of here.now) mention.variable.0))
         (wrong_for_call (name_of (method_of here.now) mention.variable.0) mention.place)) }
 {
@@ -44,7 +44,7 @@ fn require_state(here: &Here<'_>, ty: HeapType, mention: Mention) -> Result<(), 
 
 /// That what an argument gives is there, not lent where it is claimed, and in the state that the parameter asks.
 fn require_argument(here: &Here<'_>, ty: HeapType, argument: Argument) -> Result<(), Breach>
-    ensures { AnswersAll here.now result
+    ensures { AnswersChecks here.now result
         (argument_checks (method_of here.now) (row_of here.now) ty argument) }
 {
     require_owned(here, argument.mention)?;
@@ -60,7 +60,7 @@ pub(crate) fn require_arguments(
     arguments: &[Argument],
 ) -> Result<(), Breach>
     requires { again ≡ first_again [] arguments.now }
-    ensures { AnswersAll here.now result
+    ensures { AnswersChecks here.now result
         (all_arguments (method_of here.now) (row_of here.now) types.now arguments.now) }
 {
     require_none_again(here, again)?;
@@ -72,7 +72,7 @@ pub(crate) fn require_arguments(
 
 /// That what takes a block, if something does, is not lent and has nothing.
 pub(crate) fn require_target(here: &Here<'_>, target: Option<Mention>) -> Result<(), Breach>
-    ensures { AnswersAll here.now result
+    ensures { AnswersChecks here.now result
         (target_checks (method_of here.now) (row_of here.now) target) }
 {
     let Some(target) = target else {

@@ -10,7 +10,7 @@ ghost use Rattle.rows.specs.Leaves.{IsNumbered};
 ghost use Rattle.rules.specs.Onwards.{KeepsRow, onward_of};
 ghost use Rattle.rows.specs.Rows.{row_model};
 ghost use Rattle.rows.specs.declared.row.Leaf.TheVariants.{Nothing};
-ghost use Rattle.rules.specs.Sites.{AnswersAll, Follows, method_of, row_of};
+ghost use Rattle.rules.specs.Sites.{AnswersChecks, Follows, method_of, row_of};
 
 use crate::arguments::require_target;
 use crate::breach::Breach;
@@ -45,7 +45,7 @@ pub(crate) fn new(
 
 /// That what is given for a field, if there is such a field, is not lent, there, and in the state that the field asks.
 fn require_field(here: &Here<'_>, field: Option<HeapType>, given: Mention) -> Result<(), Breach>
-    ensures { AnswersAll here.now result
+    ensures { AnswersChecks here.now result
         (option_map_or
         (λ ty. field_checks (method_of here.now) (row_of here.now) ty (payload given)) field []) }
 {

@@ -15,7 +15,7 @@ ghost use Rattle.rules.specs.Outcomes.{refuse_if};
 ghost use Rattle.rules.specs.Repeats.{first_again};
 ghost use Rattle.rows.specs.Rows.{leaf_at, row_model};
 ghost use Rattle.rules.specs.Takers.{besides, wrong_in};
-ghost use Rattle.rules.specs.Sites.{Answers, AnswersAll, method_of, program_of, row_of};
+ghost use Rattle.rules.specs.Sites.{AnswersCheck, AnswersChecks, method_of, program_of, row_of};
 
 use crate::breach::{Breach, Reason};
 use crate::checks::{require_none_again, require_not_lent, require_owned};
@@ -101,7 +101,7 @@ fn require_state(
     ty: HeapType,
     mention: Mention,
 ) -> Result<(), Breach>
-    ensures { Answers here.now result (refuse_if
+    ensures { AnswersCheck here.now result (refuse_if
         (is_wrong ty (leaf_at (row_of here.now) mention.variable.0))
         (wrong_in (program_of here.now) (method_of here.now) taker
         (name_of (method_of here.now) mention.variable.0) mention.place)) }
@@ -120,7 +120,7 @@ pub(crate) fn require_payload(
     ty: HeapType,
     mention: Mention,
 ) -> Result<(), Breach>
-    ensures { AnswersAll here.now result
+    ensures { AnswersChecks here.now result
         (taken_checks (method_of here.now) (row_of here.now)
         (wrong_in (program_of here.now) (method_of here.now) taker) ty (payload mention)) }
 {
@@ -136,7 +136,7 @@ pub(crate) fn require_payloads(
     types: &[HeapType],
     payloads: &[Mention],
 ) -> Result<(), Breach>
-    ensures { AnswersAll here.now result
+    ensures { AnswersChecks here.now result
         (all_taken (method_of here.now) (besides taker) (row_of here.now)
         (wrong_in (program_of here.now) (method_of here.now) taker) types.now
         (map payload payloads.now)) }

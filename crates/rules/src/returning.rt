@@ -11,7 +11,7 @@ ghost use Rattle.rules.specs.Texts.{wrong_for_result};
 ghost use Rattle.rows.specs.Rows.{leaf_at};
 ghost use Rattle.rules.specs.RuleTable as table;
 ghost use Rattle.rules.specs.RuleTable.{back_checks, value_checks};
-ghost use Rattle.rules.specs.Sites.{Answers, AnswersAll, FollowsHere, method_of, program_of, row_of};
+ghost use Rattle.rules.specs.Sites.{AnswersCheck, AnswersChecks, FollowsHere, method_of, program_of, row_of};
 
 use crate::breach::{Breach, Reason};
 use crate::checks::{is_lent_role, require_not_lent, require_owned};
@@ -43,7 +43,7 @@ pub(crate) fn return_(here: &Here<'_>, returning: Returning) -> Result<Onward, B
 
 /// That what a method gives is in the state of its result.
 fn require_state(here: &Here<'_>, value: Mention) -> Result<(), Breach>
-    ensures { Answers here.now result (refuse_if
+    ensures { AnswersCheck here.now result (refuse_if
         (option_map_or (λ ty. endpoints.is_wrong ty (leaf_at (row_of here.now) value.variable.0))
         (method_of here.now).result false)
         (wrong_for_result (mentions.name_of (method_of here.now) value.variable.0) value.place)) }
@@ -59,7 +59,7 @@ fn require_state(here: &Here<'_>, value: Mention) -> Result<(), Breach>
 
 /// That what a method gives, if it is of the exchange heap, is not lent, there, and in the state of the result.
 fn require_value(here: &Here<'_>, value: Option<Mention>) -> Result<(), Breach>
-    ensures { AnswersAll here.now result
+    ensures { AnswersChecks here.now result
         (value_checks (program_of here.now) (method_of here.now) (row_of here.now) value) }
 {
     let Some(value) = value else {
@@ -96,7 +96,7 @@ fn is_lent_elsewhere(method: &Method, variable: VarId, state: u32) -> bool
 
 /// That each endpoint which was lent is cut off, or back in its state.
 fn require_back(here: &Here<'_>, place: Place) -> Result<(), Breach>
-    ensures { AnswersAll here.now result
+    ensures { AnswersChecks here.now result
         (back_checks (program_of here.now) (method_of here.now) (row_of here.now) place) }
 {
     for variable in 0..here.site.method.variables.len() {

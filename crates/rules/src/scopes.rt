@@ -8,7 +8,7 @@ ghost use Rattle.rules.specs.Checks.{AllLeadTo, IsFirstKept, IsPlain, LeadsTo};
 ghost use Rattle.rules.specs.Mentions as table;
 ghost use Rattle.rules.specs.Mentions.{given_back};
 ghost use Rattle.rules.specs.Scopes.{declared_between, is_this};
-ghost use Rattle.rules.specs.Sites.{AnswersAll, method_of, row_of};
+ghost use Rattle.rules.specs.Sites.{AnswersChecks, method_of, row_of};
 
 use crate::breach::{Breach, Reason};
 use crate::checks::lends;
@@ -187,7 +187,7 @@ pub(crate) fn require_given_back(
     outer: Option<VarId>,
     last: Option<VarId>,
 ) -> Result<(), Breach>
-    ensures { AnswersAll here.now result
+    ensures { AnswersChecks here.now result
         (given_back (method_of here.now) (row_of here.now) place given
         (declared_between (method_of here.now) outer last)) }
 {

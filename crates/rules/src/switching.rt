@@ -13,7 +13,7 @@ ghost use Rattle.rows.specs.Rows.{row_model};
 ghost use Rattle.rules.specs.Steps.{pair_model};
 ghost use Rattle.rules.specs.Switches as table;
 ghost use Rattle.rules.specs.Switches.{bound_leaves};
-ghost use Rattle.rules.specs.Sites.{AnswersAll, FollowsHere, method_of, program_of, row_of};
+ghost use Rattle.rules.specs.Sites.{AnswersChecks, FollowsHere, method_of, program_of, row_of};
 
 use crate::breach::{Breach, Reason};
 use crate::checks::require_owned;
@@ -45,7 +45,7 @@ pub(crate) fn switch(
 
 /// That each endpoint is there, that they are not all to send, and that each message which may come has a case.
 fn require_cases(here: &Here<'_>, place: Place, cases: &Cases) -> Result<(), Breach>
-    ensures { AnswersAll here.now result
+    ensures { AnswersChecks here.now result
         (table.switch_checks (program_of here.now) (method_of here.now) (row_of here.now) place
         (cases_model cases.now)) }
 {
@@ -58,7 +58,7 @@ fn require_cases(here: &Here<'_>, place: Place, cases: &Cases) -> Result<(), Bre
 
 /// That each endpoint has something.
 fn require_all_owned(here: &Here<'_>, endpoints: &[Mention]) -> Result<(), Breach>
-    ensures { AnswersAll here.now result
+    ensures { AnswersChecks here.now result
         (map (require_owned (method_of here.now) (row_of here.now)) endpoints.now) }
 {
     for endpoint in endpoints {
@@ -106,7 +106,7 @@ fn awaited_edges<'a>(here: &Here<'a>, endpoint: Mention) -> &'a [Edge]
 
 /// That each message which may come at an endpoint has a case.
 fn require_covered(here: &Here<'_>, cases: &Cases, endpoint: Mention) -> Result<(), Breach>
-    ensures { AnswersAll here.now result
+    ensures { AnswersChecks here.now result
         (table.cover_checks (program_of here.now) (method_of here.now) (row_of here.now)
         (cases_model cases.now)
         endpoint) }
@@ -124,7 +124,7 @@ fn require_covered(here: &Here<'_>, cases: &Cases, endpoint: Mention) -> Result<
 
 /// That each message which may come at one of the endpoints has a case.
 fn require_all_covered(here: &Here<'_>, cases: &Cases) -> Result<(), Breach>
-    ensures { AnswersAll here.now result
+    ensures { AnswersChecks here.now result
         (flat_map (table.cover_checks (program_of here.now) (method_of here.now) (row_of here.now)
         (cases_model cases.now)) (first_mentions [] (cases_model cases.now))) }
 {
