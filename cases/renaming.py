@@ -161,5 +161,63 @@ def a_file_moves_below(_):
         return found + unlike('high\n', called(top, './edits', '--due').stdout)
 
 
+LOW = """mod parts;
+
+pub use parts::{Part, Mark, Other};
+"""
+PARTS = """/// What is marked.
+pub struct Part {
+    place: usize,
+}
+
+pub struct Mark(pub usize);
+
+pub struct Other(pub usize);
+
+impl Part {
+    /// Its mark.
+    pub fn mark(&self) -> Mark
+        ensures { result.0 ≡ self.now.place }
+    {
+        Mark(self.place)
+    }
+
+    /// Another.
+    pub fn other(&self) -> Other
+        ensures { result.0 ≡ self.now.place }
+    {
+        Other(self.place)
+    }
+}
+"""
+HIGH = """use low::Part;
+
+fn first(part: &Part) -> usize {
+    part.mark().0
+}
+"""
+
+
+def what_a_crate_meets(_):
+    """A mutant is due by the types below that its crate meets, by a name or as what a call gives, and by the calls that it makes."""
+    with tempfile.TemporaryDirectory() as folder:
+        top = pathlib.Path(folder)
+        made(top, {'crates.txt': 'low:\nhigh: low\n', 'crates/low/src/lib.rt': LOW, 'crates/low/src/parts.rt': PARTS,
+                   'crates/high/src/lib.rt': HIGH,
+                   'crates/high/edits/last.edit': 'file: src/lib.rt\nold: .0\nnew: .0 + 1\n'}, 'high', 'last')
+        found = []
+        for old, new, due in (('Other(pub usize', 'Other(pub u32', ''), ('Mark(pub usize', 'Mark(pub u32', 'high\n'),
+                              ('    place: usize', '    place: u32', 'high\n'), ('    Other(self.place)', '    Other(0)', '')):
+            (top / 'crates/low/src/parts.rt').write_text(PARTS.replace(old, new))
+            found += unlike((old, due), (old, called(top, './edits', '--due').stdout))
+        front, _, back = PARTS.partition('pub fn other')
+        for old, text, due in (('of mark', front.replace('≡', '≢') + 'pub fn other' + back, 'high\n'),
+                               ('of other', front + 'pub fn other' + back.replace('≡', '≢'), '')):
+            (top / 'crates/low/src/parts.rt').write_text(text)
+            found += unlike((old, due), (old, called(top, './edits', '--due').stdout))
+        return found
+
+
 TESTS = [('renaming/' + test.__name__, test) for test in (
-    a_value_of_a_function, a_word_of_a_crate, a_definition, trials_are_carried_over, fields_taken_over, a_file_moves_below)]
+    a_value_of_a_function, a_word_of_a_crate, a_definition, trials_are_carried_over, fields_taken_over, a_file_moves_below,
+    what_a_crate_meets)]

@@ -10,7 +10,8 @@ TOP = pathlib.Path(__file__).resolve().parent.parent
 CRATES = TOP / 'crates'
 RULES = 'sound'  # its edits are the wrong rules
 NAMED = re.compile(r'\bRattle\.(\w+)\.specs\.(declared\.)?(\w+)')
-TYPE = re.compile(r' *pub (const|enum|struct|trait) ')
+TYPE = re.compile(r' *pub (?:const|enum|struct|trait) (\w+)')
+IMPL = re.compile(r'impl\b(?:<[^>]*>)?(?: .*? for)? (\w+)')
 CALL = re.compile(r' *pub (const )?fn ')
 IMPORT = re.compile(r'^ *(?:ghost |pub )?use .*\n', re.M)
 
@@ -38,41 +39,37 @@ def below(name):
     return sorted(found)
 
 
+@functools.cache
 def items(source):
-    """What a source shows to other crates: public types, each with no name, and public calls with theirs, up to the line that opens the
-    body."""
-    found, of = [], None
+    """What a source shows to other crates: its public types, each with its own name and no other; its public calls, up to the line that
+    opens the body, each with the type that it is of, if it is of one, and its name; and what it says of the values of a type."""
+    found, of, type_of = [], None, ''
     for line in source.splitlines():
+        if IMPL.match(line):
+            type_of = IMPL.match(line)[1]
+        elif line == '}' and of is None:
+            type_of = ''
         if CALL.match(line):
             of, claused = 'call', False
-            found.append((re.search(r'fn (\w+)', line)[1], []))
+            found.append((type_of, re.search(r'fn (\w+)', line)[1], []))
         elif TYPE.match(line) and of is None:
             of, indent = 'type', len(line) - len(line.lstrip())
-            found.append(('', []))
+            found.append((TYPE.match(line)[1], '', []))
             if re.search(r'[;}]$', line):
-                found[-1][1].append(line)
+                found[-1][2].append(line)
                 of = None
         if of == 'call':
-            found[-1][1].append(line)
+            found[-1][2].append(line)
             claused = claused or re.match(r' *(requires|ensures)', line) is not None
             if re.match(r' *\{\}?$', line) or not claused and re.search(r'\{\}?$', line):
                 of = None
         elif of == 'type':
-            found[-1][1].append(line)
+            found[-1][2].append(line)
             if len(line) - len(line.lstrip()) == indent and re.search(r'[\]})]', line) and not TYPE.match(line):
                 of = None
-    return [(name, '\n'.join(lines)) for name, lines in found]
-
-
-def held(source):
-    """What a source says of its types within their impls, as what holds of each value."""
-    return '\n'.join(re.findall(r'^ +ghost [^;]*;', source, re.M))
-
-
-def offered(path, named):
-    """What a source file shows to a crate that calls these names: its types, what holds of them, and the calls of these names."""
-    source = text_of(path)
-    return [(path, held(source))] + [(path, text) for name, text in items(source) if not name or name in named]
+    impls = re.findall(r'^(impl\b.*?)^}', source, re.M | re.S)
+    held = [(IMPL.match(it)[1], '', re.findall(r'^ +ghost [^;]*;', it, re.M)) for it in impls if IMPL.match(it)]
+    return [(of, name, '\n'.join(lines)) for of, name, lines in found + held if lines]
 
 
 @functools.cache
@@ -134,18 +131,45 @@ def exported(name):
     return sorted(it for it in files if it.exists())
 
 
-def called(name):
-    """The crates below whose calls a crate may make. The laws of `sound` call few, of crates that they name; any other crate may also have
-    a value of a type that it does not name."""
-    if name != RULES:
-        return below(name)
-    own = '\n'.join(text_of(path) for path in (CRATES / name / 'src').rglob('*.rt'))
-    return [it for it in below(name) if re.search(r'\b%s::' % it, own)]
-
-
 def own_files(name):
     """The sources and definitions of a crate."""
     return sorted([*(CRATES / name / 'src').rglob('*.rt'), *(CRATES / name / 'specs').rglob('*.antt')])
+
+
+@functools.cache
+def shown(crate):
+    """What a crate shows to those above it, each part with its file."""
+    return [(path, of, name, text) for path in exported(crate) for of, name, text in items(text_of(path))]
+
+
+@functools.cache
+def types_of(crate):
+    return {of for _, of, name, _ in shown(crate) if not name}
+
+
+@functools.cache
+def brought_in(path):
+    """What a source names of other crates: each name with the crate."""
+    source = text_of(path)
+    found = {(crate, word) for crate, words in re.findall(r'\b(\w+)::\{([^}]*)\}', source) for word in re.findall(r'\w+', words)}
+    return found | {(crate, word) for crate, way in re.findall(r'(?<!:)\b(\w+)((?:::\w+)+)', source) for word in re.findall(r'\w+', way)}
+
+
+def met(known, named):
+    """What a crate meets of those below it by what it names of them: types, what holds of their values, their calls of these names, and
+    calls of their own; and what the types are that these name."""
+    left, known, found = list(known), set(known), []
+    while left:
+        crate, word = left.pop()
+        for path, of, name, text in shown(crate):
+            if word == (of or name) and (not of or not name or name in named):
+                found.append((path, text))
+                words = set(re.findall(r'\w+', text))
+                more = {(crate, it) for it in types_of(crate) & words} | {it for it in brought_in(path) if it[1] in words}
+                more = {it for it in more if it[0] in needs()} - known
+                left += more
+                known |= more
+    return found
 
 
 @functools.cache
@@ -153,10 +177,17 @@ def basis(name):
     """What the refusal of any edit of a crate rests on."""
     own = own_files(name)
     named = set(re.findall(r'\w+(?=\()|(?<=::)\w+', '\n'.join(map(text_of, [*own, *edits_of(name)]))))
-    calls = sorted({path for it in called(name) for path in exported(it)})
-    definitions, sources = reached([(path, text_of(path)) for path in own] + [it for path in calls for it in offered(path, named)])
-    parts = [(path, text_of(path)) for path in own] + [(path, text) for path, text in definitions if path not in own]
-    parts += [it for path in sorted({it for it in sources if it.exists()}.union(calls).difference(own)) for it in offered(path, named)]
+    known = {it for path in own for it in brought_in(path) if it[0] in needs()}
+    while True:
+        found = met(known, named)
+        definitions, sources = reached([(path, text_of(path)) for path in own] + found)
+        sources = {it for it in sources.difference(own) if it.exists()}
+        more = {(it.parts[-3], of) for it in sources for of, call, _ in items(text_of(it)) if not call}
+        if more <= known:
+            break
+        known |= more
+    hidden = [(path, text) for path in sources for _, call, text in items(text_of(path)) if not call]
+    parts = [(path, text_of(path)) for path in own] + [it for it in definitions if it[0] not in own] + sorted({*found, *hidden})
     return '\0'.join('%s\0%s' % (path.relative_to(TOP), text) for path, text in parts)
 
 
