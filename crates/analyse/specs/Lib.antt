@@ -7,6 +7,7 @@ pub mod Noted
 pub mod Reach
 pub mod Remembering
 pub mod RowKeys
+pub mod SearchSites
 pub mod Searches
 pub mod Told
 pub mod Traces
