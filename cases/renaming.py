@@ -1,4 +1,5 @@
-"""`tools/rename` and `./edits --carry` in a small repository that is made for a test."""
+"""`tools/rename`, `./edits --carry` and `tools/together` in a small repository that is made for a test."""
+import importlib.machinery
 import importlib.util
 import pathlib
 import shutil
@@ -218,6 +219,40 @@ def what_a_crate_meets(_):
         return found
 
 
+SAID = """so far: fn low::lib::at: not proved
+./proofs/lib/at/Answers.antt:9:4: error: `returns`: expected another type
+fn low::lib::at: not proved
+fn low::lib::lies: no proof: it calls `low::lib::at`, which is not proved
+fn low::threads::fn::run_all::scope: not proved
+fn low::threads::run_all: no proof: it calls `low::threads::fn::run_all::scope`, which is not proved
+fn low::parts::Part::mark: no proof: expected answers in ./proofs/parts/Part/mark/Answers.antt; `search` did not prove `returns`
+"""
+
+
+def mutants_in_one_copy(_):
+    """Mutants of different functions share a copy, and one counts as refused only if its own function is."""
+    loader = importlib.machinery.SourceFileLoader('together', str(TOP / 'tools' / 'together'))
+    together = importlib.util.module_from_spec(importlib.util.spec_from_loader('together', loader))
+    sys.path.insert(0, str(TOP / 'tools'))
+    loader.exec_module(together)
+    with tempfile.TemporaryDirectory() as folder:
+        crate = pathlib.Path(folder)
+        texts = {'a': 'old:     work();\nnew:     rest();\n', 'b': 'old:     list[place].place\nnew:     list[0].place\n',
+                 'c': 'old:     place\n}\nnew:     0\n}\n', 'd': 'old: pub fn lies(place: usize)\nnew: pub fn lies(_: usize)\n'}
+        (crate / 'src').mkdir()
+        (crate / 'src/lib.rt').write_text(CODE)
+        edits = [crate / (name + '.edit') for name in texts]
+        for edit in edits:
+            edit.write_text('file: src/lib.rt\n' + texts[edit.stem])
+        shared = [sorted(it.stem for it in mutants) for mutants, _ in together.in_copies(crate, edits)]
+    found = unlike([['a', 'c'], ['b', 'd']], shared)
+    for file, function, refused in (('src/lib.rt', ('', 'at'), True), ('src/lib.rt', ('', 'lies'), False),
+                                    ('src/parts.rt', ('Part', 'mark'), True), ('src/parts.rt', ('', 'mark'), False),
+                                    ('src/threads.rt', ('', 'run_all'), True), ('src/threads.rt', ('', 'run_one'), False)):
+        found += unlike((function, refused), (function, together.fails(SAID, file, function)))
+    return found
+
+
 TESTS = [('renaming/' + test.__name__, test) for test in (
     a_value_of_a_function, a_word_of_a_crate, a_definition, trials_are_carried_over, fields_taken_over, a_file_moves_below,
-    what_a_crate_meets)]
+    what_a_crate_meets, mutants_in_one_copy)]

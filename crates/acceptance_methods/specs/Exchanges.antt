@@ -9,6 +9,7 @@ use Rattle.program.specs.declared.method.Role.TheVariants.{Local}
 use Rattle.program.specs.declared.number.VarId.{VarId}
 use Rattle.program.specs.declared.statement.Action.{Action}
 use Rattle.program.specs.declared.statement.Action.TheVariants as does
+use Rattle.program.specs.declared.statement.Effect.TheVariants as effects
 use Rattle.program.specs.declared.statement.Mention.{Mention}
 use Rattle.program.specs.declared.statement.Ways.TheVariants.{Either}
 
@@ -31,7 +32,7 @@ abbrev pub new : ℕ → List Mention → StatementModel
 new target arguments = New record { reads = []; target = mention target; arguments = arguments }
 
 abbrev pub acts : Action → StatementModel
-acts action = Simple [] action
+acts action = Simple [] (effects.Act action)
 
 abbrev pub deletes : ℕ → StatementModel
 deletes v = acts (does.Delete (mention v))

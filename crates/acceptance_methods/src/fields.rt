@@ -13,8 +13,8 @@ use analyse::Worker;
 use intern::Rows;
 use machine::{Event, Owner, Replayed, replay};
 use program::{
-    Action, Block, Exchange, HeapType, Mention, Method, MethodId, Methods, New, Resolved, Role,
-    Simple, Statement, StructId, Test, VarId, Variable, Ways,
+    Action, Block, Effect, Exchange, HeapType, Mention, Method, MethodId, Methods, New, Resolved,
+    Role, Simple, Statement, StructId, Test, VarId, Variable, Ways,
 };
 use rules::{Breach, Program, Reason};
 use source::{Code, Memory, Place};
@@ -98,7 +98,7 @@ fn acts(alloc: Global, action: Action) -> Statement
 {
     Statement::Simple(Simple {
         reads: Vec::new(alloc),
-        action,
+        effect: Effect::Act(action),
     })
 }
 

@@ -7,8 +7,8 @@ use analyse::{give_up_all, tasks};
 use flow::{Instr, lower};
 use names::{MOST_CONTRACTS, resolve};
 use program::{
-    Action, HeapType, MOST_STATES, MOST_VARIABLES, Mention, Method, MethodId, Methods, Role,
-    Simple, Statement, StructId, VarId, Variable,
+    Action, Effect, HeapType, MOST_STATES, MOST_VARIABLES, Mention, Method, MethodId, Methods,
+    Role, Simple, Statement, StructId, VarId, Variable,
 };
 use rules::{Leaf, Program, Row, StepOutcome, entry_pair, step};
 use source::{Memory, Place, lex};
@@ -58,8 +58,8 @@ fn freed_and_read(alloc: Global) -> Result<Method, Memory> {
     };
     statements.push(plain(alloc, moved))?;
     statements.push(plain(alloc, Action::Delete(mention(1, 20))))?;
-    let action = Action::Nothing;
-    statements.push(Statement::Simple(Simple { reads, action }))?;
+    let effect = Effect::Nothing;
+    statements.push(Statement::Simple(Simple { reads, effect }))?;
     Ok(Method {
         name: Place { line: 1, col: 1 },
         takes: true,
@@ -74,7 +74,8 @@ fn freed_and_read(alloc: Global) -> Result<Method, Memory> {
 
 fn plain(alloc: Global, action: Action) -> Statement {
     let reads = Vec::new(alloc);
-    Statement::Simple(Simple { reads, action })
+    let effect = Effect::Act(action);
+    Statement::Simple(Simple { reads, effect })
 }
 
 /// The program of a text without contracts that has one method.
@@ -99,27 +100,35 @@ pub(crate) fn only(alloc: Global, text: &str) -> Result<Program, Fail>
     Ok(program)
 }
 
+/// What it does with variables, and where it goes on behind that, if it does something with them.
+fn action_of(instruction: Option<&Instr>) -> Option<(Action, usize)> {
+    match instruction {
+        Some(Instr::Act { action, next }) => Some((*action, *next)),
+        _ => None,
+    }
+}
+
 /// Whether it reads what this variable has, and goes on there.
 fn is_use(instruction: Option<&Instr>, variable: usize, point: usize) -> bool {
-    match instruction {
-        Some(Instr::Use { at, next }) => at.variable == VarId(variable) && *next == point,
+    match action_of(instruction) {
+        Some((Action::Use(at), next)) => at.variable == VarId(variable) && next == point,
         _ => false,
     }
 }
 
 /// Whether it frees what this variable has, and goes on there.
 fn is_delete(instruction: Option<&Instr>, variable: usize, point: usize) -> bool {
-    match instruction {
-        Some(Instr::Delete { at, next }) => at.variable == VarId(variable) && *next == point,
+    match action_of(instruction) {
+        Some((Action::Delete(at), next)) => at.variable == VarId(variable) && next == point,
         _ => false,
     }
 }
 
 /// Whether it takes what this variable has, and goes on there.
 fn is_move(instruction: Option<&Instr>, variable: usize, point: usize) -> bool {
-    match instruction {
-        Some(Instr::Move { source, next, .. }) => {
-            source.variable == VarId(variable) && *next == point
+    match action_of(instruction) {
+        Some((Action::Move { source, .. }, next)) => {
+            source.variable == VarId(variable) && next == point
         }
         _ => false,
     }

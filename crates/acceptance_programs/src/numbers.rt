@@ -2,7 +2,7 @@
 
 use flow::{Entrance, Instr, lower};
 use names::{MOST_CONTRACTS, resolve};
-use program::{Awaited, Channel, Mention, Method, MethodId, Methods, VarId, Variable};
+use program::{Action, Awaited, Channel, Mention, Method, MethodId, Methods, VarId, Variable};
 use source::{Memory, Place, lex};
 use std::alloc::Global;
 use std::test::Fail;
@@ -78,8 +78,8 @@ fn line_of(alloc: Global, instruction: &Instr) -> Result<String, Memory> {
                 sending.message.0, sending.endpoint.variable.0, sending.next
             )?)
         }
-        Instr::NewChannel { channel, next } => {
-            let line = channel_line(alloc, *channel)?;
+        Instr::Act { action, next } => {
+            let line = action_line(alloc, *action)?;
             Ok(format!(in alloc; "{line} to {next}")?)
         }
         Instr::Switch { place, cases } => switch_line(alloc, *place, cases.list()),
@@ -87,13 +87,21 @@ fn line_of(alloc: Global, instruction: &Instr) -> Result<String, Memory> {
             let Place { line, col } = forget.place;
             Ok(format!(in alloc; "{line}:{col} forget from {} to {next}", forget.last.0)?)
         }
-        Instr::Use { at, next } => Ok(format!(in alloc; "use {} to {next}", at.variable.0)?),
-        Instr::Delete { at, next } => Ok(format!(in alloc; "delete {} to {next}", at.variable.0)?),
         Instr::Return(returning) => {
             let Place { line, col } = returning.place;
             Ok(format!(in alloc; "{line}:{col} return")?)
         }
         _ => Ok(String::from_str(alloc, "another")?),
+    }
+}
+
+/// An action: its place where it has one of its own, and what it is about.
+fn action_line(alloc: Global, action: Action) -> Result<String, Memory> {
+    match action {
+        Action::NewChannel(channel) => channel_line(alloc, channel),
+        Action::Use(at) => Ok(format!(in alloc; "use {}", at.variable.0)?),
+        Action::Delete(at) => Ok(format!(in alloc; "delete {}", at.variable.0)?),
+        Action::Move { .. } | Action::Exchange(_) => Ok(String::from_str(alloc, "another")?),
     }
 }
 

@@ -4,15 +4,15 @@ use Rattle.program.specs.Methods.{MethodModel}
 use Rattle.program.specs.Statements as stated
 use Rattle.program.specs.Statements.{StatementModel, StatementsModel, BlockModel, TestModel, OthersModel, CasesModel}
 use Rattle.flow.specs.Graphs.{GraphModel}
-use Rattle.flow.specs.Lowering.{Lays, one, parts, reads, forgets, acts, statement, statements, block, condition, others, cases, method, ending, graph_of}
+use Rattle.flow.specs.Lowering.{Lays, one, parts, reads, forgets, lay_effect, statement, statements, block, condition, others, cases, method, ending, graph_of}
 use Rattle.flow.specs.Within.{IsClosed}
 use Rattle.flow.proofs.CaseLemmas.{CasesStay, none_stay, case_stays, waits_stay}
-use Rattle.flow.proofs.WithinLemmas.{AllBelow, StaysBelow, nothing_stays, both_stay, parts_stay, turns_stay, reads_stay, forgets_stay, ending_stays, called_stay, started_stay, new_stays, sent_stays, acts_stay}
+use Rattle.flow.proofs.WithinLemmas.{AllBelow, StaysBelow, nothing_stays, both_stay, parts_stay, turns_stay, reads_stay, forgets_stay, ending_stays, called_stay, started_stay, new_stays, sent_stays, effect_stays}
 
 mutual
   -- a statement stays below a bound where the end of its loop and the condition lie below it
   statement_stays : (x : StatementModel) (n exit again : ℕ) → exit < n → again < n → StaysBelow n (statement x exit again)
-  statement_stays (stated.Simple mentions does) n exit again e a = both_stay n (reads mentions) (acts does exit again) (reads_stay n mentions) (acts_stay n does exit again e a)
+  statement_stays (stated.Simple mentions does) n exit again e a = both_stay n (reads mentions) (lay_effect does exit again) (reads_stay n mentions) (effect_stays n does exit again e a)
   statement_stays (stated.New x) n exit again e a = new_stays n x
   statement_stays (stated.Call c) n exit again e a = called_stay n c
   statement_stays (stated.Start c) n exit again e a = started_stay n c

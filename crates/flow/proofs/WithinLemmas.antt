@@ -6,14 +6,15 @@ use Rattle.source.specs.declared.place.Place.{Place}
 use Rattle.program.specs.Methods.{MethodModel}
 use Rattle.program.specs.Statements.{CallModel, NewModel, SendModel}
 use Rattle.program.specs.declared.number.VarId.{VarId}
-use Rattle.program.specs.declared.statement.Action.{Action}
-use Rattle.program.specs.declared.statement.Action.TheVariants as action
+use Rattle.program.specs.declared.statement.Action.TheVariants.{Use}
+use Rattle.program.specs.declared.statement.Effect.{Effect}
+use Rattle.program.specs.declared.statement.Effect.TheVariants as effects
 use Rattle.program.specs.declared.statement as made
 use Rattle.program.specs.declared.statement.Mention.{Mention}
 use Rattle.program.specs.declared.statement.Ways.{Ways}
 use Rattle.program.specs.declared.statement.Ways.TheVariants as ways_of
-use Rattle.flow.specs.Graphs.{Instruction, Use, New, Move, Delete, Exchange, NewChannel, Send, Branch, Forget, Call, Start, Return, Stop}
-use Rattle.flow.specs.Lowering.{Laid, Lays, nothing, one, both, go_to, branches, parts, turns, reads, forgets, acts, lay_call, lay_start, made_new, lay_send, ending}
+use Rattle.flow.specs.Graphs.{Instruction, Act, New, Send, Branch, Forget, Call, Start, Return, Stop}
+use Rattle.flow.specs.Lowering.{Laid, Lays, nothing, one, both, go_to, branches, parts, turns, reads, forgets, lay_call, lay_effect, lay_start, made_new, lay_send, ending}
 use Rattle.flow.specs.Within.{goes_on}
 
 -- an instruction goes on below a bound
@@ -103,7 +104,7 @@ turns_stay n place w test body asks inner = record {
 -- a Use for each mention
 pub reads_stay : (n : ℕ) (ms : List Mention) → StaysBelow n (reads ms)
 reads_stay n [] = nothing_stays n
-reads_stay n (m ∷ ms) = both_stay n (one (Use m)) (reads ms) (one_stays n (Use m) (one_point n)) (reads_stay n ms)
+reads_stay n (m ∷ ms) = both_stay n (one (Act (Use m))) (reads ms) (one_stays n (Act (Use m)) (one_point n)) (reads_stay n ms)
 
 -- variables go out of scope, if there are some
 pub forgets_stay : (n : ℕ) (f : Option made.Forget.Forget) → StaysBelow n (forgets f)
@@ -142,13 +143,9 @@ pub new_stays : (n : ℕ) (x : NewModel) → StaysBelow n (made_new x)
 new_stays n x = both_stay n (reads x.reads) (one (New x.target x.arguments)) (reads_stay n x.reads) (one_stays n (New x.target x.arguments) (one_point n))
 
 -- what a simple statement does
-pub acts_stay : (n : ℕ) (does : Action) (exit again : ℕ) → exit < n → again < n → StaysBelow n (acts does exit again)
-acts_stay n action.Nothing exit again e a = nothing_stays n
-acts_stay n (action.Use m) exit again e a = one_stays n (Use m) (one_point n)
-acts_stay n (action.Move target source) exit again e a = one_stays n (Move target source) (one_point n)
-acts_stay n (action.Delete m) exit again e a = one_stays n (Delete m) (one_point n)
-acts_stay n (action.Exchange x) exit again e a = one_stays n (Exchange x) (one_point n)
-acts_stay n (action.NewChannel c) exit again e a = one_stays n (NewChannel c) (one_point n)
-acts_stay n (action.Break f) exit again e a = gone_stays n exit (forgets f) e (forgets_stay n f)
-acts_stay n (action.Continue f) exit again e a = gone_stays n again (forgets f) a (forgets_stay n f)
-acts_stay n (action.Return place value scope) exit again e a = return_stays n place value scope
+pub effect_stays : (n : ℕ) (does : Effect) (exit again : ℕ) → exit < n → again < n → StaysBelow n (lay_effect does exit again)
+effect_stays n effects.Nothing exit again e a = nothing_stays n
+effect_stays n (effects.Act action) exit again e a = one_stays n (Act action) (one_point n)
+effect_stays n (effects.Break f) exit again e a = gone_stays n exit (forgets f) e (forgets_stay n f)
+effect_stays n (effects.Continue f) exit again e a = gone_stays n again (forgets f) a (forgets_stay n f)
+effect_stays n (effects.Return place value scope) exit again e a = return_stays n place value scope

@@ -1,7 +1,7 @@
 //! Instructions, and where each goes on.
 
 use crate::cases::Cases;
-use program::{Argument, Awaited, Channel, Exchange, Forget, Mention, MessageId, MethodId, VarId};
+use program::{Action, Argument, Awaited, Forget, Mention, MessageId, MethodId, VarId};
 use source::Place;
 
 /// Where a condition goes on.
@@ -65,36 +65,15 @@ pub struct Returning {
 /// An instruction, and the point at which the method goes on behind it. A point is the number of an instruction in its graph.
 #[derive(Drop)]
 pub enum Instr {
-    /// Reads or writes the block that the variable has.
-    Use {
-        at: Mention,
+    /// Something is done with what variables and fields have.
+    Act {
+        action: Action,
         next: usize,
     },
-    /// The target takes a new block, which takes what the arguments have. No statement gives any yet.
+    /// The target takes a new block, which takes what the arguments have.
     New {
         target: Mention,
         arguments: Vec<Mention>,
-        next: usize,
-    },
-    /// The target takes what the source has.
-    Move {
-        target: Mention,
-        source: Mention,
-        next: usize,
-    },
-    /// Frees the block that the variable has.
-    Delete {
-        at: Mention,
-        next: usize,
-    },
-    /// What a field that owns holds and what a variable has change places.
-    Exchange {
-        exchange: Exchange,
-        next: usize,
-    },
-    /// Two variables take the two ends of a new channel.
-    NewChannel {
-        channel: Channel,
         next: usize,
     },
     /// A message is sent.

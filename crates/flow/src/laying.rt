@@ -7,7 +7,7 @@ ghost use Rattle.flow.specs.Growths.{Grew};
 ghost use Rattle.flow.specs.Lowering as laid;
 
 use crate::graph::{Branches, Calling, Entrance, Instr, Returning, Sending, Starting};
-use program::{Action, Call, Case, Forget, Mention, New, Send, Simple, Ways};
+use program::{Action, Call, Case, Effect, Forget, Mention, New, Send, Simple, Ways};
 use source::{Memory, Place};
 use std::alloc::Global;
 
@@ -65,8 +65,8 @@ pub(crate) fn lay_reads(
 {
     let mut entry = next;
     for mention in mentions.iter().rev() {
-        let read = Instr::Use {
-            at: *mention,
+        let read = Instr::Act {
+            action: Action::Use(*mention),
             next: entry,
         };
         entry = lay(instructions, read)?;
@@ -90,39 +90,33 @@ pub(crate) fn lay_forget(
 }
 
 /// Lays what a simple statement does behind its reads.
-fn lay_action(
+fn lay_effect(
     instructions: &mut Vec<Instr>,
-    action: Action,
+    effect: Effect,
     exits: Exits,
     next: usize,
 ) -> Result<usize, Memory>
     ensures { IfOk result (λ entry. Grew instructions.old.items instructions.new.items entry
-        (laid.acts action exits.end exits.again (length instructions.old.items) next)) }
+        (laid.lay_effect effect exits.end exits.again (length instructions.old.items) next)) }
 {
-    let instruction = match action {
-        Action::Nothing => return Ok(next),
-        Action::Break(forget) => return lay_forget(instructions, forget, exits.end),
-        Action::Continue(forget) => return lay_forget(instructions, forget, exits.again),
-        Action::Use(at) => Instr::Use { at, next },
-        Action::Move { target, source } => Instr::Move {
-            target,
-            source,
-            next,
-        },
-        Action::Delete(at) => Instr::Delete { at, next },
-        Action::Exchange(exchange) => Instr::Exchange { exchange, next },
-        Action::NewChannel(channel) => Instr::NewChannel { channel, next },
-        Action::Return {
+    match effect {
+        Effect::Nothing => Ok(next),
+        Effect::Act(action) => lay(instructions, Instr::Act { action, next }),
+        Effect::Break(forget) => lay_forget(instructions, forget, exits.end),
+        Effect::Continue(forget) => lay_forget(instructions, forget, exits.again),
+        Effect::Return {
             place,
             value,
             scope,
-        } => Instr::Return(Returning {
-            place,
-            value,
-            scope,
-        }),
-    };
-    lay(instructions, instruction)
+        } => {
+            let returning = Returning {
+                place,
+                value,
+                scope,
+            };
+            lay(instructions, Instr::Return(returning))
+        }
+    }
 }
 
 /// Lays a simple statement: what it does, and on top of it what it reads.
@@ -135,7 +129,7 @@ pub(crate) fn lay_simple(
     ensures { IfOk result (λ entry. Grew instructions.old.items instructions.new.items entry
         (laid.statement (simple_model simple.now) exits.end exits.again (length instructions.old.items) next)) }
 {
-    let behind = lay_action(instructions, simple.action, exits, next)?;
+    let behind = lay_effect(instructions, simple.effect, exits, next)?;
     lay_reads(instructions, &simple.reads, behind)
 }
 

@@ -13,6 +13,7 @@ use Rattle.program.specs.declared.types.Side.{Side}
 use Rattle.program.specs.declared.types.Side.TheVariants.{Imp, Exp}
 use Rattle.program.specs.declared.method.Role.TheVariants.{Local}
 use Rattle.program.specs.declared.statement.Action.TheVariants as does
+use Rattle.program.specs.declared.statement.Effect.TheVariants as effects
 use Rattle.program.specs.declared.statement.Mention.{Mention}
 use Rattle.machine.specs.Frames.{frame_at_entry}
 use Rattle.machine.specs.Machine.{event_outcome}
@@ -69,7 +70,7 @@ opens statements = record {
   contracts = once ∷ [];
   messages = (Struct record { 0 = 0 } ∷ []) ∷ [];
   structs = [];
-  methods = method (MoreStatements (Simple [] (does.NewChannel record { place = at; contract = record { 0 = 0 }; first = mention 0; second = mention 1 })) (row statements)) ∷ [];
+  methods = method (MoreStatements (Simple [] (effects.Act (does.NewChannel record { place = at; contract = record { 0 = 0 }; first = mention 0; second = mention 1 }))) (row statements)) ∷ [];
 }
 
 abbrev sends : ℕ → StatementModel
@@ -109,7 +110,7 @@ owners (b ∷ bs) = b.owner ∷ owners bs
 
 -- a struct is sent, and read then
 abbrev reads_what_it_sent : ProgramModel
-reads_what_it_sent = opens (makes [] ∷ sends 2 ∷ Simple (mention 2 ∷ []) does.Nothing ∷ [])
+reads_what_it_sent = opens (makes [] ∷ sends 2 ∷ Simple (mention 2 ∷ []) effects.Nothing ∷ [])
 
 pub sent_then : blocks_of (three reads_what_it_sent) ≡
     record { ty = Endpoint record { 0 = 0 } Imp record { 0 = 0 }; owner = Process 0; peer = 1; state = 0; queue = record { message = 0; payload = 2 ∷ [] } ∷ []; fields = [] }
@@ -122,14 +123,14 @@ read_then = refl
 
 -- an end is sent along the other one, to itself, and the other one is freed: the process has nothing where it ends
 abbrev sends_an_end : ProgramModel
-sends_an_end = opens (sends 0 ∷ Simple [] (does.Delete (mention 1)) ∷ [])
+sends_an_end = opens (sends 0 ∷ Simple [] (effects.Act (does.Delete (mention 1))) ∷ [])
 
 pub end_sent : owners (blocks_of (three sends_an_end)) ≡ Queue 0 ∷ Freed ∷ []
 end_sent = refl
 
 -- the importing end is freed, a struct is sent all the same, and goes to the channel
 abbrev sends_to_nobody : ProgramModel
-sends_to_nobody = opens (Simple [] (does.Delete (mention 0)) ∷ makes [] ∷ sends 2 ∷ [])
+sends_to_nobody = opens (Simple [] (effects.Act (does.Delete (mention 0))) ∷ makes [] ∷ sends 2 ∷ [])
 
 pub lost_then : owners (blocks_of (four sends_to_nobody)) ≡ Freed ∷ Process 0 ∷ Channel ∷ []
 lost_then = refl
@@ -161,7 +162,7 @@ deletes = record {
   contracts = once ∷ [];
   messages = (Struct record { 0 = 0 } ∷ []) ∷ [];
   structs = [];
-  methods = method (row (Simple [] (does.Delete (mention 2)) ∷ [])) ∷ [];
+  methods = method (row (Simple [] (effects.Act (does.Delete (mention 2))) ∷ [])) ∷ [];
 }
 
 -- A struct holds a struct, which holds one more, and an end. In the queue of that is a struct, which holds one itself.
@@ -215,7 +216,7 @@ abbrev exchanges : (field given : ℕ) → ProgramModel
 exchanges field given =
     opens
     (makes (mention 0 ∷ [])
-    ∷ Simple [] (does.Exchange record { place = at; holder = mention 2; field = field; given = mention given })
+    ∷ Simple [] (effects.Act (does.Exchange record { place = at; holder = mention 2; field = field; given = mention given }))
     ∷ [])
 
 abbrev end_inside : List Block

@@ -6,7 +6,8 @@ use Rattle.program.specs.declared.types.Side.TheVariants.{Imp, Exp}
 use Rattle.program.specs.declared.statement as stated
 use Rattle.program.specs.declared.statement.Mention.{Mention}
 use Rattle.flow.specs.Cases.{EntranceModel, case_for, first_mentions}
-use Rattle.flow.specs.Graphs.{Instruction, Use, New, Move, Delete, Exchange, NewChannel, Send, Switch, Branch, Forget, Call, Start}
+use Rattle.program.specs.declared.statement.Action.TheVariants.{Use, Move, Delete, Exchange, NewChannel}
+use Rattle.flow.specs.Graphs.{Instruction, Act, New, Send, Switch, Branch, Forget, Call, Start}
 use Rattle.flow.specs.Graphs.{Return, Stop}
 use Rattle.flow.specs.declared.graph.Branches.{Branches}
 use Rattle.flow.specs.declared.graph.Branches.TheVariants.{Either, Only}
@@ -92,14 +93,8 @@ module _ (p : ProgramModel) (bound : QueueBounds) (w : World) (self : ℕ) (f : 
 
   -- a line for each instruction
   abbrev pub outcome_from : Instruction → (choice : ℕ) → Outcome
-  outcome_from (Use v next) choice = after_tests (test (is_own w.blocks self (has v)) F1 ∷ []) (on next f.variables w.blocks)
-  outcome_from (New v arguments next) choice =
-      let given = payloads_claimed arguments in
-      after_tests (argument_tests w.blocks self f.variables [] given)
-      (on next (set (let_go f.variables given) v.variable.0 (Some (length w.blocks)))
-      (change_each (with_new_owner (Inside (length w.blocks)) (addresses f.variables given)) w.blocks
-      ++ new_block (type_at (variables_of p f.method) v.variable.0) self 0 0 (addresses f.variables given) ∷ []))
-  outcome_from (NewChannel c next) choice =
+  outcome_from (Act (Use v) next) choice = after_tests (test (is_own w.blocks self (has v)) F1 ∷ []) (on next f.variables w.blocks)
+  outcome_from (Act (NewChannel c) next) choice =
       let first_is_imp = is_imp (type_at (variables_of p f.method) c.first.variable.0) in
       let a = length w.blocks in
       let begins = first_state p c.contract.0 in
@@ -107,18 +102,24 @@ module _ (p : ProgramModel) (bound : QueueBounds) (w : World) (self : ℕ) (f : 
       (set (set f.variables c.first.variable.0 (Some (if first_is_imp then a else a + 1))) c.second.variable.0
       (Some (if first_is_imp then a + 1 else a)))
       (w.blocks ++ new_block (end_type c Imp) self (a + 1) begins [] ∷ new_block (end_type c Exp) self a begins [] ∷ [])
-  outcome_from (Move v u next) choice =
+  outcome_from (Act (Move v u) next) choice =
       after_tests (test (is_own w.blocks self (has u)) F1 ∷ [])
       (on next (set (set f.variables v.variable.0 (has u)) u.variable.0 None) w.blocks)
-  outcome_from (Delete v next) choice =
+  outcome_from (Act (Delete v) next) choice =
       after_tests (test (is_own w.blocks self (has v)) F2 ∷ [])
       (on next (set f.variables v.variable.0 None) (change_each (freed_block (goes_with w.blocks (address (has v)))) w.blocks))
-  outcome_from (Exchange e next) choice =
+  outcome_from (Act (Exchange e) next) choice =
       after_tests
       (test (is_own w.blocks self (has e.holder)) F1
       ∷ test (is_own_still w.blocks self (address (has e.holder) ∷ []) (has e.given)) F3
       ∷ [])
       (exchanges e next (slice_get (block_at w.blocks (address (has e.holder))).fields e.field))
+  outcome_from (New v arguments next) choice =
+      let given = payloads_claimed arguments in
+      after_tests (argument_tests w.blocks self f.variables [] given)
+      (on next (set (let_go f.variables given) v.variable.0 (Some (length w.blocks)))
+      (change_each (with_new_owner (Inside (length w.blocks)) (addresses f.variables given)) w.blocks
+      ++ new_block (type_at (variables_of p f.method) v.variable.0) self 0 0 (addresses f.variables given) ∷ []))
   outcome_from (Send place e message payloads next) choice =
       let at = address (has e) in
       let given = payloads_claimed payloads in

@@ -3,19 +3,25 @@ use Rattle.std.specs.Prelude.{ℕ, List, [], ◌∷◌, Option, None}
 use Rattle.std.specs.Option.{option_map}
 use Rattle.source.specs.declared.place.Place.{Place}
 use Rattle.program.specs.Programs.{ProgramModel}
-use Rattle.flow.specs.Graphs.{Instruction, Use, New, Move, Delete, Exchange, NewChannel, Send, Switch, Branch, Forget, Call, Start}
+use Rattle.program.specs.declared.statement.Action.{Action}
+use Rattle.program.specs.declared.statement.Action.TheVariants.{Use, Move, Delete, Exchange, NewChannel}
+use Rattle.flow.specs.Graphs.{Instruction, Act, New, Send, Switch, Branch, Forget, Call, Start}
 use Rattle.flow.specs.Graphs.{Return, Stop}
 use Rattle.machine.specs.Frames.{instruction_at}
 use Rattle.machine.specs.World.{Frame, World, stack_at}
 
--- the place of an instruction: of what it names first, or of its own word
+-- the place of an action: of what it names first, or of its own word
+abbrev pub action_place : Action → Place
+action_place (Use v) = v.place
+action_place (Move v u) = v.place
+action_place (Delete v) = v.place
+action_place (Exchange e) = e.place
+action_place (NewChannel c) = c.place
+
+-- the place of an instruction, likewise
 abbrev pub place_of : Instruction → Place
-place_of (Use v next) = v.place
+place_of (Act action next) = action_place action
 place_of (New v arguments next) = v.place
-place_of (Move v u next) = v.place
-place_of (Delete v next) = v.place
-place_of (Exchange e next) = e.place
-place_of (NewChannel c next) = c.place
 place_of (Send place e message payloads next) = place
 place_of (Switch place cases) = place
 place_of (Branch place branches) = place

@@ -2,7 +2,8 @@
 
 ghost use Rattle.std.specs.Prelude.{◌≡◌, ◌∷◌, [], IfSome, MatchOption, OnErr, Some, false, true};
 ghost use Rattle.program.specs.Programs.{ProgramModel};
-ghost use Rattle.flow.specs.Graphs as instruction;
+ghost use Rattle.program.specs.declared.statement.Action.TheVariants as does;
+ghost use Rattle.flow.specs.Graphs.{Act};
 ghost use Rattle.machine.specs.Blocks.{is_own_still};
 ghost use Rattle.machine.specs.Outcomes.{QueueBounds};
 ghost use Rattle.machine.specs.Views.{blocks_model, frame_model, heap_model};
@@ -38,7 +39,7 @@ pub(crate) fn exchange(
     next: usize,
 ) -> Result<(), Refusal>
     ensures tells { (p : ProgramModel) (bound : QueueBounds)
-        → TellsFrame p bound process (instruction.Exchange e next) 0 result
+        → TellsFrame p bound process (Act (does.Exchange e) next) 0 result
         (frame_model frame.old, heap_model heap.old) (frame_model frame.new, heap_model heap.new) }
     ensures same { OnErr result (frame_model frame.new ≡ frame_model frame.old) }
     ensures same_blocks { OnErr result (heap_model heap.new ≡ heap_model heap.old) }

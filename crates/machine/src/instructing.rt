@@ -9,11 +9,11 @@ ghost use Rattle.machine.specs.Runs.{AreBounds};
 ghost use Rattle.machine.specs.Views.{world_model};
 ghost use Rattle.machine.specs.Answers.{TellsWorld};
 
+use crate::acting::act;
 use crate::calling::call;
-use crate::exchanging::exchange;
 use crate::halts::Refusal;
-use crate::owning::{delete, new, new_channel};
-use crate::quiet::{branch, forget_, move_, use_};
+use crate::owning::new;
+use crate::quiet::{branch, forget_};
 use crate::returning::{end, return_};
 use crate::sending::send;
 use crate::starting::start;
@@ -61,27 +61,18 @@ impl World {
             (world_model self.new) }
         ensures same { OnErr result (world_model self.new ≡ world_model self.old) }
     {
-        let process = turn.process;
-        let stack = &mut self.processes[process];
+        let stack = &mut self.processes[turn.process];
         let heap = &mut self.heap;
         let Some(frame) = &mut stack.top else {
             return Err(Refusal::Ended);
         };
         match instr {
-            Instr::Use { at, next } => use_(frame, heap.blocks(), process, *at, *next),
+            Instr::Act { action, next } => act(turn, frame, heap, *action, *next),
             Instr::New {
                 target,
                 arguments,
                 next,
             } => new(turn, frame, heap, *target, arguments, *next),
-            Instr::NewChannel { channel, next } => new_channel(turn, frame, heap, *channel, *next),
-            Instr::Move {
-                target,
-                source,
-                next,
-            } => move_(frame, heap.blocks(), process, *target, *source, *next),
-            Instr::Delete { at, next } => delete(turn.alloc, frame, heap, process, *at, *next),
-            Instr::Exchange { exchange: e, next } => exchange(frame, heap, process, *e, *next),
             Instr::Send(sending) => send(turn, frame, heap, sending),
             Instr::Switch { cases, .. } => switch(turn, frame, heap, cases, choice),
             Instr::Branch { branches, .. } => {

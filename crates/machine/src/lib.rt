@@ -1,6 +1,7 @@
 //! Worlds of processes, and one event of a process.
 #![tactic(auto)]
 
+mod acting;
 mod calling;
 mod changing;
 mod edges;

@@ -2,7 +2,8 @@
 
 ghost use Rattle.std.specs.Prelude.{◌≡◌, ◌+◌, ◌++◌, ◌∷◌, [], IfErr, OnErr, OnOk, length};
 ghost use Rattle.program.specs.Programs.{ProgramModel};
-ghost use Rattle.flow.specs.Graphs.{New, NewChannel, Delete};
+ghost use Rattle.program.specs.declared.statement.Action.TheVariants as does;
+ghost use Rattle.flow.specs.Graphs.{Act, New};
 ghost use Rattle.program.specs.declared.types.Side.TheVariants.{Imp, Exp};
 ghost use Rattle.rules.specs.Programs.{model_of};
 ghost use Rattle.machine.specs.Blocks.{end_type, is_imp, new_block};
@@ -89,7 +90,7 @@ pub(crate) fn delete(
     next: usize,
 ) -> Result<(), Refusal>
     ensures tells { (p : ProgramModel) (bound : QueueBounds)
-        → TellsFrame p bound process (Delete at next) 0 result
+        → TellsFrame p bound process (Act (does.Delete at) next) 0 result
         (frame_model frame.old, heap_model heap.old) (frame_model frame.new, heap_model heap.new) }
     ensures same { OnErr result (frame_model frame.new ≡ frame_model frame.old) }
     ensures same_blocks { OnErr result (heap_model heap.new ≡ heap_model heap.old) }
@@ -178,7 +179,7 @@ pub(crate) fn new_channel(
 ) -> Result<(), Refusal>
     ensures tells { (bound : QueueBounds)
         → TellsFrame (model_of turn.now.program.now) bound turn.now.process
-        (NewChannel channel next) 0 result (frame_model frame.old, heap_model heap.old)
+        (Act (does.NewChannel channel) next) 0 result (frame_model frame.old, heap_model heap.old)
         (frame_model frame.new, heap_model heap.new) }
     ensures same { OnErr result (frame_model frame.new ≡ frame_model frame.old) }
     ensures same_blocks { OnErr result (heap_model heap.new ≡ heap_model heap.old) }

@@ -11,18 +11,29 @@ ghost use Rattle.machine.specs.Views.{blocks_model, frame_model, stack_model, wo
 use crate::standing::instruction_at;
 use crate::worlds::{Block, Frame, Process, World};
 use flow::Instr;
+use program::Action;
 use rules::Program;
 use source::Place;
+
+/// The place of an action.
+fn action_place(action: &Action) -> Place
+    ensures { result ≡ told.action_place action.now }
+{
+    match action {
+        Action::Use(at) | Action::Delete(at) => at.place,
+        Action::Move { target, .. } => target.place,
+        Action::Exchange(exchange) => exchange.place,
+        Action::NewChannel(channel) => channel.place,
+    }
+}
 
 /// The place of an instruction.
 pub(crate) fn place_of(instr: &Instr) -> Place
     ensures { result ≡ told.place_of (instruction_model instr.now) }
 {
     match instr {
-        Instr::Use { at, .. } | Instr::Delete { at, .. } => at.place,
-        Instr::New { target, .. } | Instr::Move { target, .. } => target.place,
-        Instr::Exchange { exchange, .. } => exchange.place,
-        Instr::NewChannel { channel, .. } => channel.place,
+        Instr::Act { action, .. } => action_place(action),
+        Instr::New { target, .. } => target.place,
         Instr::Send(sending) => sending.place,
         Instr::Forget { forget, .. } => forget.place,
         Instr::Call(calling) => calling.place,

@@ -3,8 +3,9 @@
 ghost use Rattle.std.specs.Prelude.{◌≡◌, List, OnErr, ℕ};
 ghost use Rattle.program.specs.Programs.{ProgramModel};
 ghost use Rattle.source.specs.declared.place.Place.{Place};
-ghost use Rattle.flow.specs.Graphs as instruction;
-ghost use Rattle.flow.specs.Graphs.{Use, Move, Branch};
+ghost use Rattle.program.specs.declared.statement.Action.TheVariants as does;
+ghost use Rattle.flow.specs.Graphs as graphs;
+ghost use Rattle.flow.specs.Graphs.{Act, Branch};
 ghost use Rattle.rules.specs.Programs.{model_of};
 ghost use Rattle.machine.specs.Answers.{TellsFrame, on_top};
 ghost use Rattle.machine.specs.Machine.{outcome_from};
@@ -29,7 +30,7 @@ pub(crate) fn use_(
     next: usize,
 ) -> Result<(), Refusal>
     ensures tells { (p : ProgramModel) (bound : QueueBounds)
-        → TellsFrame p bound process (Use at next) 0 result
+        → TellsFrame p bound process (Act (does.Use at) next) 0 result
         (frame_model frame.old, blocks_model blocks.now)
         (frame_model frame.new, blocks_model blocks.now) }
     ensures same { OnErr result (frame_model frame.new ≡ frame_model frame.old) }
@@ -51,7 +52,7 @@ pub(crate) fn move_(
     next: usize,
 ) -> Result<(), Refusal>
     ensures tells { (p : ProgramModel) (bound : QueueBounds)
-        → TellsFrame p bound process (Move target source next) 0 result
+        → TellsFrame p bound process (Act (does.Move target source) next) 0 result
         (frame_model frame.old, blocks_model blocks.now)
         (frame_model frame.new, blocks_model blocks.now) }
     ensures same { OnErr result (frame_model frame.new ≡ frame_model frame.old) }
@@ -83,7 +84,7 @@ pub(crate) fn branch(frame: &mut Frame, branches: Branches, choice: usize)
 pub(crate) fn forget_(frame: &mut Frame, program: &Program, forget: Forget, next: usize)
     ensures { (bound : QueueBounds) (w : seen.World) (rest : List seen.Frame) (process : ℕ)
         → outcome_from (model_of program.now) bound w process (frame_model frame.old) rest
-        (instruction.Forget forget next) 0
+        (graphs.Forget forget next) 0
         ≡ Moved (on_top w.processes process rest (frame_model frame.new) w.blocks) }
 {
     if let Some(method) = program.methods().get(frame.method.0 as usize) {

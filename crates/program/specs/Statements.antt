@@ -7,8 +7,8 @@ use Rattle.program.specs.declared.call.Argument.{Argument}
 use Rattle.program.specs.declared.number.MethodId.{MethodId}
 use Rattle.program.specs.declared.number.VarId.{VarId}
 use Rattle.program.specs.declared.statement as made
-use Rattle.program.specs.declared.statement.Action.{Action}
 use Rattle.program.specs.declared.statement.Awaited.{Awaited}
+use Rattle.program.specs.declared.statement.Effect.{Effect}
 use Rattle.program.specs.declared.statement.Forget.{Forget}
 use Rattle.program.specs.declared.statement.Mention.{Mention}
 use Rattle.program.specs.declared.statement.Ways.{Ways}
@@ -56,7 +56,7 @@ send_model s = record { reads = s.reads.items; place = s.place; endpoint = s.end
 mutual
   -- a statement: a simple one reads, and then does what it does
   pub data StatementModel : Type 0 where
-    Simple : List Mention → Action → StatementModel
+    Simple : List Mention → Effect → StatementModel
     New : NewModel → StatementModel
     Call : CallModel → StatementModel
     Start : CallModel → StatementModel
@@ -122,7 +122,7 @@ case_sequence (c ∷ cs) = MoreCases c (case_sequence cs)
 -- One layer in memory, with what it holds in its places.
 
 abbrev pub simple_model : made.Simple.Simple → StatementModel
-simple_model s = Simple s.reads.items s.action
+simple_model s = Simple s.reads.items s.effect
 
 abbrev pub statement_step : layer.Statement-F StatementModel BlockModel CaseModel IfModel TestModel → StatementModel
 statement_step (layer.Simple s) = simple_model s

@@ -23,6 +23,8 @@ use Rattle.program.specs.declared.statement.Action.TheVariants as does
 use Rattle.program.specs.declared.statement.Awaited.{Awaited}
 use Rattle.program.specs.declared.statement.Awaited.TheVariants.{Message, Closed}
 use Rattle.program.specs.declared.statement.Channel.{Channel}
+use Rattle.program.specs.declared.statement.Effect.{Effect}
+use Rattle.program.specs.declared.statement.Effect.TheVariants as effects
 use Rattle.program.specs.declared.statement.Exchange.{Exchange}
 use Rattle.program.specs.declared.statement.Mention.{Mention}
 use Rattle.program.specs.declared.limits.TheConstants.{MOST_FIELDS, MOST_VARIABLES}
@@ -205,18 +207,22 @@ module _ (s : Setting) where
   IsExchange e = IsIn e.given.variable × IsSomeAnd (slice_get s.variables e.holder.variable.0)
       (λ v. IsSomeAnd (slice_get (field_types s.structs v.ty) e.field) (λ k. Holds k e.given.variable))
 
-  -- What is assigned is in scope. What a `break` and a `continue` leave goes out of scope, and a `return` knows what is in scope.
+  -- what is assigned is in scope
   abbrev pub IsAction : Action → Type 0
-  IsAction does.Nothing = Unit {0}
   IsAction (does.Use m) = IsMention m
   IsAction (does.Move target source) = IsIn target.variable
       × IsSomeAnd (slice_get s.variables target.variable.0) (λ v. Holds v.ty source.variable)
   IsAction (does.Delete m) = IsMention m
   IsAction (does.Exchange e) = IsExchange e
   IsAction (does.NewChannel c) = (IsIn c.first.variable × IsIn c.second.variable) × IsChannel c
-  IsAction (does.Break f) = GoesBack s.scope s.at_break f
-  IsAction (does.Continue f) = GoesBack s.scope s.at_continue f
-  IsAction (does.Return place value scope) = IsTaken s.result value × (scope ≡ s.scope)
+
+  -- What a `break` and a `continue` leave goes out of scope, and a `return` knows what is in scope.
+  abbrev pub IsEffect : Effect → Type 0
+  IsEffect effects.Nothing = Unit {0}
+  IsEffect (effects.Act action) = IsAction action
+  IsEffect (effects.Break f) = GoesBack s.scope s.at_break f
+  IsEffect (effects.Continue f) = GoesBack s.scope s.at_continue f
+  IsEffect (effects.Return place value scope) = IsTaken s.result value × (scope ≡ s.scope)
 
   abbrev pub IsAwaited : Awaited → ContractModel → Type 0
   IsAwaited (Message id) c = IsMessageOf c id
@@ -230,7 +236,7 @@ module _ (s : Setting) where
 abbrev mutual
   -- a statement
   pub IsStatement : Setting → StatementModel → Type 0
-  IsStatement s (Simple reads action) = Each (IsMention s) reads × IsAction s action
+  IsStatement s (Simple reads effect) = Each (IsMention s) reads × IsEffect s effect
   IsStatement s (New n) = IsNew s n
   IsStatement s (Call c) = IsSomeAnd (slice_get s.methods c.method.0) (IsCallOf s c)
   IsStatement s (Start c) = IsSomeAnd (slice_get s.methods c.method.0) (IsStartOf s c)

@@ -20,7 +20,7 @@ pub use method::{Method, Role, Variable};
 pub use methods::Methods;
 pub use number::{ContractId, MessageId, MethodId, StateId, StructId, VarId};
 pub use statement::{
-    Action, Awaited, Block, Case, Channel, Exchange, Forget, If, Mention, New, Simple, Statement,
-    Test, Ways,
+    Action, Awaited, Block, Case, Channel, Effect, Exchange, Forget, If, Mention, New, Simple,
+    Statement, Test, Ways,
 };
 pub use types::{HeapType, Scalar, Side};

@@ -39,24 +39,28 @@ pub struct Exchange {
     pub given: Mention,
 }
 
-/// What a simple statement does behind its reads.
+/// What one step does with what variables and fields have. The method goes on behind it.
 #[derive(Clone, Copy)]
 pub enum Action {
-    /// Only scalars change.
-    Nothing,
-    /// A field or an element of what the variable has is written.
+    /// A field or an element of what the variable has is read or written.
     Use(Mention),
     /// The target takes what the source has.
-    Move {
-        target: Mention,
-        source: Mention,
-    },
+    Move { target: Mention, source: Mention },
     /// What the variable has is freed.
     Delete(Mention),
     /// What a field holds and what a variable has change places.
     Exchange(Exchange),
     /// Two variables take the two ends of a new channel.
     NewChannel(Channel),
+}
+
+/// What a simple statement does behind its reads.
+#[derive(Clone, Copy)]
+pub enum Effect {
+    /// Only scalars change.
+    Nothing,
+    /// Something is done with what variables and fields have.
+    Act(Action),
     /// The innermost loop or switch ends. What it and what stands in it has declared goes out of scope.
     Break(Option<Forget>),
     /// The innermost loop goes back to its test, likewise.
@@ -75,7 +79,7 @@ pub enum Action {
 #[derive(Drop)]
 pub struct Simple {
     pub reads: Vec<Mention>,
-    pub action: Action,
+    pub effect: Effect,
 }
 
 /// A new struct or array: the variables whose blocks the length of an array reads, the variable that takes it, and those that are given

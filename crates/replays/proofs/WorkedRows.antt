@@ -21,6 +21,8 @@ use Rattle.program.specs.declared.method.Role.{Role}
 use Rattle.program.specs.declared.method.Role.TheVariants.{Local, Claimed}
 use Rattle.program.specs.declared.statement.Action.{Action}
 use Rattle.program.specs.declared.statement.Action.TheVariants as does
+use Rattle.program.specs.declared.statement.Effect.{Effect}
+use Rattle.program.specs.declared.statement.Effect.TheVariants as effects
 use Rattle.program.specs.declared.statement.Awaited.{Awaited}
 use Rattle.program.specs.declared.statement.Awaited.TheVariants as awaits
 use Rattle.program.specs.declared.statement.Mention.{Mention}
@@ -81,11 +83,11 @@ main statements close = record {
   close = close;
 }
 
-abbrev opens : ℕ → StatementModel
-opens line = Simple [] (does.NewChannel record { place = at line 1; contract = record { 0 = 0 }; first = mention 0 line 1; second = mention 1 line 1 })
-
 abbrev acts : Action → StatementModel
-acts action = Simple [] action
+acts action = Simple [] (effects.Act action)
+
+abbrev opens : ℕ → StatementModel
+opens line = acts (does.NewChannel record { place = at line 1; contract = record { 0 = 0 }; first = mention 0 line 1; second = mention 1 line 1 })
 
 abbrev sends : (line col endpoint message : ℕ) → List Mention → StatementModel
 sends line col e m payloads = Send record { reads = []; place = at line col; endpoint = mention e line 1; message = record { 0 = m }; payloads = payloads }
@@ -102,7 +104,7 @@ abbrev comes : ℕ → Awaited → List StatementModel → CaseModel
 comes v what statements = Case (mention v 1 1) what [] (Braces (statement_sequence statements) None)
 
 abbrev leaves : StatementModel
-leaves = acts (does.Break None)
+leaves = Simple [] (effects.Break None)
 
 abbrev cases : List CaseModel → CasesModel
 cases [] = NoCase
@@ -156,7 +158,7 @@ put = record {
 
 abbrev reads_what_it_sent : ProgramModel
 reads_what_it_sent = program put ((Struct record { 0 = 0 } ∷ []) ∷ []) (main
-    (opens 6 ∷ makes 7 14 [] ∷ sends 8 3 1 0 (mention 2 8 9 ∷ []) ∷ Simple (mention 2 9 9 ∷ []) does.Nothing ∷ deletes 0 ∷ deletes 1 ∷ []) (at 11 1) ∷ [])
+    (opens 6 ∷ makes 7 14 [] ∷ sends 8 3 1 0 (mention 2 8 9 ∷ []) ∷ Simple (mention 2 9 9 ∷ []) effects.Nothing ∷ deletes 0 ∷ deletes 1 ∷ []) (at 11 1) ∷ [])
 
 pub sent_then_read : printed reads_what_it_sent (replicate 5 (event 0))
     ≡ codes "steps 3\nstop: fault F1 at 9:9 in process 0\nprocess 0 at 9:9, frames 1\nblock 0 Put.Imp S owner process 0 queue [X(2)]\nblock 1 Put.Exp E owner process 0 queue []\nblock 2 D owner queue 0\n"
@@ -184,7 +186,7 @@ serve = record {
   statements = statement_sequence (While (Test (at 15 1) [] Body (Braces (statement_sequence (
       Switch (at 16 1) (cases (
       comes 0 (awaits.Message record { 0 = 0 }) (sends 17 15 0 1 [] ∷ leaves ∷ [])
-      ∷ comes 0 awaits.Closed (deletes 0 ∷ acts (does.Return (at 18 39) None None) ∷ []) ∷ []))
+      ∷ comes 0 awaits.Closed (deletes 0 ∷ Simple [] (effects.Return (at 18 39) None None) ∷ []) ∷ []))
       ∷ [])) None)) ∷ []);
   scope = None;
   close = at 21 1;

@@ -10,7 +10,7 @@ use Rattle.tree.specs.Expressions.{ExpressionTree}
 use Rattle.program.specs.Statements.{StatementModel, CallModel, statement_model, call_model}
 use Rattle.program.specs.declared.call.Call.{Call}
 use Rattle.program.specs.declared.number.VarId.{VarId}
-use Rattle.program.specs.declared.statement.Action.TheVariants.{Nothing, Return}
+use Rattle.program.specs.declared.statement.Effect.TheVariants.{Nothing, Return}
 use Rattle.program.specs.declared.statement.Mention.{Mention}
 use Rattle.program.specs.declared.statement.Statement.{Statement}
 use Rattle.declarations.specs.Program.{ProgramText}

@@ -21,7 +21,9 @@ use Rattle.program.specs.Statements.{BlockModel, TestModel, OthersModel, CaseMod
 use Rattle.program.specs.declared.call.Argument.{Argument}
 use Rattle.program.specs.declared.method.Role.TheVariants.{Local}
 use Rattle.program.specs.declared.statement.Action.{Action}
-use Rattle.program.specs.declared.statement.Action.TheVariants.{Nothing, Use, Move, Delete, Exchange, NewChannel, Return}
+use Rattle.program.specs.declared.statement.Action.TheVariants.{Use, Move, Delete, Exchange, NewChannel}
+use Rattle.program.specs.declared.statement.Effect.{Effect}
+use Rattle.program.specs.declared.statement.Effect.TheVariants.{Nothing, Act, Return}
 use Rattle.program.specs.declared.statement.Mention.{Mention}
 use Rattle.resolving.specs.Fields.{field_number}
 use Rattle.resolving.specs.Locals.{LocalFrame, local_named, mention, mention_of, with_declaration, next_number, number_of}
@@ -33,22 +35,24 @@ use Rattle.tree.specs.Alone.{lone_name}
 use Rattle.resolving.specs.declared.locals.Declaration.{Declaration}
 
 -- a simple statement: what it reads, and what it does then
-abbrev pub simple_of : List Mention → Action → StatementModel
-simple_of reads action = seen.Simple reads action
+abbrev pub simple_of : List Mention → Effect → StatementModel
+simple_of reads effect = seen.Simple reads effect
+
+-- an action, if there is one
+abbrev pub effect_of : Option Action → Effect
+effect_of None = Nothing
+effect_of (Some action) = Act action
 
 -- the target takes what the source has
-abbrev pub move_of : Mention → Option Mention → Action
-move_of target None = Nothing
-move_of target (Some source) = Move target source
+abbrev pub move_of : Mention → Option Mention → Effect
+move_of target source = effect_of (option_map (Move target) source)
 
 -- a field or an element is written
-abbrev pub use_of : Option Mention → Action
-use_of None = Nothing
-use_of (Some m) = Use m
+abbrev pub use_of : Option Mention → Effect
+use_of whole = effect_of (option_map Use whole)
 
-abbrev pub delete_of : Option Mention → Action
-delete_of None = Nothing
-delete_of (Some m) = Delete m
+abbrev pub delete_of : Option Mention → Effect
+delete_of freed = effect_of (option_map Delete freed)
 
 -- what is given for a parameter: a variable of the exchange heap, if that is what stands there alone
 abbrev pub argument_of : declared_class.Parameter.Parameter → Option Mention → List Argument
@@ -139,8 +143,8 @@ module _ (p : ProgramText) (class : ℕ) (f : LocalFrame) where
   abbrev pub channel_found : statement.NewChannel.NewChannel → Option Action
   channel_found n = option_and_then (channel_action n) (contract_named p n.contract)
 
-  abbrev pub channel_or_nothing : statement.NewChannel.NewChannel → Action
-  channel_or_nothing n = option_map_or (λ a. a) (channel_found n) Nothing
+  abbrev pub channel_or_nothing : statement.NewChannel.NewChannel → Effect
+  channel_or_nothing n = effect_of (channel_found n)
 
   -- the length of a new array is read; what is given for fields is a name alone, which reads nothing
   abbrev pub made_reads : MadeTree → List Mention
@@ -168,8 +172,8 @@ module _ (p : ProgramText) (class : ℕ) (f : LocalFrame) where
   exchange_found e = option_and_then (exchange_by e)
       (option_and_then (λ v. field_number p v.ty e.field) (local_named p.text f.locals e.holder))
 
-  abbrev pub exchange_or_nothing : statement.Exchange.Exchange → Action
-  exchange_or_nothing e = option_map_or (λ a. a) (exchange_found e) Nothing
+  abbrev pub exchange_or_nothing : statement.Exchange.Exchange → Effect
+  exchange_or_nothing e = effect_of (exchange_found e)
 
   -- a variable of the exchange heap takes a value
   abbrev pub take_statement : Mention → ValueTree → StatementModel

@@ -21,7 +21,7 @@ use crate::locals::Locals;
 use crate::methods::methods_of;
 use crate::reads::add_reads;
 use crate::values::unread;
-use program::{Action, Argument, Call, Mention, MethodId, Statement};
+use program::{Argument, Call, Effect, Mention, MethodId, Statement};
 use source::Span;
 use std::alloc::{AllocError, Global};
 use tree::{Expression, Method, Parameter};
@@ -230,7 +230,7 @@ pub(crate) fn tell_call(
 {
     match tell_called(text, around, locals, call, after)? {
         Some(call) => Ok(Statement::Call(Box::new(around.alloc, call)?)),
-        None => Ok(unread(around.alloc, Action::Nothing)),
+        None => Ok(unread(around.alloc, Effect::Nothing)),
     }
 }
 
@@ -251,6 +251,6 @@ pub(crate) fn tell_start(
     };
     match tell_called(text, around, locals, call, after)? {
         Some(call) => Ok(Statement::Start(Box::new(around.alloc, call)?)),
-        None => Ok(unread(around.alloc, Action::Nothing)),
+        None => Ok(unread(around.alloc, Effect::Nothing)),
     }
 }

@@ -31,7 +31,7 @@ fn exchanged_field(
 }
 
 /// What an exchange comes to, if its field and its two variables are found.
-fn exchange_of(
+pub(crate) fn exchange_of(
     text: &[u8],
     around: &Around<'_, '_>,
     locals: &Locals<'_>,
@@ -50,20 +50,4 @@ fn exchange_of(
         field,
         given,
     }))
-}
-
-/// What an exchange comes to.
-pub(crate) fn exchange_action(
-    text: &[u8],
-    around: &Around<'_, '_>,
-    locals: &Locals<'_>,
-    exchange: Exchange,
-) -> Action
-    ensures { (items : List ItemTree) (own : ℕ) (f : LocalFrame) → IsAround (program_in text.now items) own around.now
-        → IsLocalFrame text.now f locals.now → result ≡ told.exchange_or_nothing (program_in text.now items) own f exchange }
-{
-    match exchange_of(text, around, locals, exchange) {
-        Some(action) => action,
-        None => Action::Nothing,
-    }
 }

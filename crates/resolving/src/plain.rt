@@ -16,25 +16,25 @@ ghost use Rattle.resolving.specs.Plain.{return_statement, write_statement};
 
 use crate::around::Around;
 use crate::calls::tell_start;
-use crate::exchanges::exchange_action;
+use crate::exchanges::exchange_of;
 use crate::given::alone;
 use crate::locals::{Declaration, Locals};
 use crate::reads::add_reads;
-use crate::sends::{channel_action, tell_stated};
+use crate::sends::{channel_of, tell_stated};
 use crate::types::type_held;
-use crate::values::{tell_assigned, tell_part, tell_read, unread};
-use program::{Action, Mention, Role, Statement};
+use crate::values::{statement_of, tell_assigned, tell_part, tell_read, unread};
+use program::{Action, Effect, Mention, Role, Statement};
 use source::Place;
 use std::alloc::{AllocError, Global};
 use tree::{Declare, Expression, Target, Value};
 
 /// What a variable has is freed.
-fn delete_action(mention: Option<Mention>) -> Action
+fn delete_effect(mention: Option<Mention>) -> Effect
     ensures { result ≡ delete_of mention }
 {
     match mention {
-        Some(mention) => Action::Delete(mention),
-        None => Action::Nothing,
+        Some(mention) => Effect::Act(Action::Delete(mention)),
+        None => Effect::Nothing,
     }
 }
 
@@ -103,7 +103,7 @@ fn tell_declare(
             let target = declared_mention(text, around, locals, declare);
             tell_assigned(text, around, locals, target, value)
         }
-        None => Ok(unread(around.alloc, Action::Nothing)),
+        None => Ok(unread(around.alloc, Effect::Nothing)),
     }
 }
 
@@ -122,18 +122,18 @@ fn tell_return(
     match value {
         Some(expression) => {
             let value = alone(text, locals, expression);
-            let action = Action::Return {
+            let effect = Effect::Return {
                 place,
                 value,
                 scope,
             };
-            tell_read(text, locals, Vec::new(alloc), expression, action)
+            tell_read(text, locals, Vec::new(alloc), expression, effect)
         }
         None => {
             let value = None;
             Ok(unread(
                 alloc,
-                Action::Return {
+                Effect::Return {
                     place,
                     value,
                     scope,
@@ -167,18 +167,18 @@ pub(crate) fn tell_plain(
         tree::Statement::Call(call) => tell_stated(text, around, locals, call),
         tree::Statement::Start { call, .. } => tell_start(text, around, locals, call),
         tree::Statement::Delete(name) => {
-            Ok(unread(alloc, delete_action(locals.mention(text, *name))))
+            Ok(unread(alloc, delete_effect(locals.mention(text, *name))))
         }
         tree::Statement::Exchange(exchange) => {
-            Ok(unread(alloc, exchange_action(text, around, locals, **exchange)))
+            Ok(statement_of(alloc, exchange_of(text, around, locals, **exchange)))
         }
         tree::Statement::NewChannel(channel) => {
-            Ok(unread(alloc, channel_action(text, around, locals, **channel)))
+            Ok(statement_of(alloc, channel_of(text, around, locals, **channel)))
         }
         tree::Statement::Return { word, value } => {
             tell_return(alloc, text, locals, word.place, value)
         }
-        _ => Ok(unread(alloc, Action::Nothing)),
+        _ => Ok(unread(alloc, Effect::Nothing)),
     }
 }
 

@@ -121,7 +121,7 @@ pub(crate) fn tell_stated(
 }
 
 /// What a new channel comes to, if its contract and its two targets are found.
-fn channel_of(
+pub(crate) fn channel_of(
     text: &[u8],
     around: &Around<'_, '_>,
     locals: &Locals<'_>,
@@ -140,20 +140,4 @@ fn channel_of(
         first,
         second,
     }))
-}
-
-/// What a new channel comes to.
-pub(crate) fn channel_action(
-    text: &[u8],
-    around: &Around<'_, '_>,
-    locals: &Locals<'_>,
-    channel: NewChannel,
-) -> Action
-    ensures { (items : List ItemTree) (own : ℕ) (f : LocalFrame) → IsAround (program_in text.now items) own around.now
-        → IsLocalFrame text.now f locals.now → result ≡ told.channel_or_nothing (program_in text.now items) own f channel }
-{
-    match channel_of(text, around, locals, channel) {
-        Some(action) => action,
-        None => Action::Nothing,
-    }
 }

@@ -2,7 +2,7 @@
 
 ghost use Rattle.std.specs.Prelude.{◌≡◌, ℕ, List, []};
 ghost use Rattle.program.specs.Statements.{statement_model};
-ghost use Rattle.program.specs.declared.statement.Action.TheVariants.{Break, Continue};
+ghost use Rattle.program.specs.declared.statement.Effect.TheVariants.{Break, Continue};
 ghost use Rattle.resolving.specs.Frames.{IsLocalFrame, number_model, staying_model};
 ghost use Rattle.resolving.specs.Locals.{LocalFrame, forget};
 ghost use Rattle.resolving.specs.Plain.{simple_of};
@@ -10,7 +10,7 @@ ghost use Rattle.resolving.specs.Told.{forget_after, stays_here, in_switch};
 
 use crate::locals::Locals;
 use crate::values::unread;
-use program::{Action, Forget, Statement, VarId};
+use program::{Effect, Forget, Statement, VarId};
 use source::Place;
 use std::alloc::Global;
 
@@ -74,7 +74,7 @@ pub(crate) fn tell_break(
 {
     unread(
         alloc,
-        Action::Break(forget_at_exit(locals, place, stays.at_break)),
+        Effect::Break(forget_at_exit(locals, place, stays.at_break)),
     )
 }
 
@@ -90,6 +90,6 @@ pub(crate) fn tell_continue(
 {
     unread(
         alloc,
-        Action::Continue(forget_at_exit(locals, place, stays.at_continue)),
+        Effect::Continue(forget_at_exit(locals, place, stays.at_continue)),
     )
 }

@@ -12,49 +12,66 @@ ghost use Rattle.resolving.specs.Steps.{AddsReads, TellsStatement};
 ghost use Rattle.resolving.specs.Frames.{IsLocalFrame};
 ghost use Rattle.resolving.specs.Locals.{LocalFrame};
 ghost use Rattle.resolving.specs.Reads.{reads};
-ghost use Rattle.resolving.specs.Plain.{assign_statement, made_arguments, made_reads, move_of, new_of, part_taken};
-ghost use Rattle.resolving.specs.Plain.{scalar_taken, simple_of, take_statement, use_of};
+ghost use Rattle.resolving.specs.Plain.{assign_statement, effect_of, made_arguments, made_reads, move_of, new_of};
+ghost use Rattle.resolving.specs.Plain.{part_taken, scalar_taken, simple_of, take_statement, use_of};
 
 use crate::around::Around;
 use crate::calls::{ResultUse, tell_call};
 use crate::given::{add_listed, alone, payloads_of};
 use crate::locals::Locals;
 use crate::reads::add_reads;
-use program::{Action, Mention, New, Simple, Statement};
+use program::{Action, Effect, Mention, New, Simple, Statement};
 use std::alloc::{AllocError, Global};
 use tree::{Expression, Made, Value};
 
 /// The statement that reads these, and then does this.
-fn simple_statement(reads: Vec<Mention>, action: Action) -> Statement
-    ensures { statement_model result ≡ simple_of reads.items action }
+fn simple_statement(reads: Vec<Mention>, effect: Effect) -> Statement
+    ensures { statement_model result ≡ simple_of reads.items effect }
 {
-    Statement::Simple(Simple { reads, action })
+    Statement::Simple(Simple { reads, effect })
 }
 
 /// A statement that reads nothing.
-pub(crate) fn unread(alloc: Global, action: Action) -> Statement
-    ensures { statement_model result ≡ simple_of [] action }
+pub(crate) fn unread(alloc: Global, effect: Effect) -> Statement
+    ensures { statement_model result ≡ simple_of [] effect }
 {
-    simple_statement(Vec::new(alloc), action)
+    simple_statement(Vec::new(alloc), effect)
+}
+
+/// An action, if there is one.
+fn effect_of(action: Option<Action>) -> Effect
+    ensures { result ≡ effect_of action }
+{
+    match action {
+        Some(action) => Effect::Act(action),
+        None => Effect::Nothing,
+    }
+}
+
+/// A statement that reads nothing and does this, if there is an action.
+pub(crate) fn statement_of(alloc: Global, action: Option<Action>) -> Statement
+    ensures { statement_model result ≡ simple_of [] (effect_of action) }
+{
+    unread(alloc, effect_of(action))
 }
 
 /// The target takes what the source has, if there is a source.
-fn move_action(target: Mention, source: Option<Mention>) -> Action
+fn move_effect(target: Mention, source: Option<Mention>) -> Effect
     ensures { result ≡ move_of target source }
 {
     match source {
-        Some(source) => Action::Move { target, source },
-        None => Action::Nothing,
+        Some(source) => Effect::Act(Action::Move { target, source }),
+        None => Effect::Nothing,
     }
 }
 
 /// A part of what the variable has is written.
-fn use_action(whole: Option<Mention>) -> Action
+fn use_effect(whole: Option<Mention>) -> Effect
     ensures { result ≡ use_of whole }
 {
     match whole {
-        Some(whole) => Action::Use(whole),
-        None => Action::Nothing,
+        Some(whole) => Effect::Act(Action::Use(whole)),
+        None => Effect::Nothing,
     }
 }
 
@@ -96,13 +113,13 @@ fn tell_made(
     locals: &Locals<'_>,
     mut before: Vec<Mention>,
     made: &Made,
-    action: Action,
+    effect: Effect,
 ) -> Result<Statement, AllocError>
     ensures { (items : List ItemTree) (own : ℕ) → IfOk result (TellsStatement text.now locals.now
-        (λ f. simple_of (before.items ++ made_reads (program_in text.now items) own f (made_tree made.now)) action)) }
+        (λ f. simple_of (before.items ++ made_reads (program_in text.now items) own f (made_tree made.now)) effect)) }
 {
     add_made_reads(text, locals, made, &mut before)?;
-    Ok(simple_statement(before, action))
+    Ok(simple_statement(before, effect))
 }
 
 /// The target takes a new block, for whose fields that own these are given.
@@ -131,13 +148,13 @@ pub(crate) fn tell_read(
     locals: &Locals<'_>,
     mut before: Vec<Mention>,
     expression: &Expression,
-    action: Action,
+    effect: Effect,
 ) -> Result<Statement, AllocError>
     ensures { IfOk result (TellsStatement text.now locals.now
-        (λ f. simple_of (before.items ++ reads text.now f.locals (expression_tree expression.now)) action)) }
+        (λ f. simple_of (before.items ++ reads text.now f.locals (expression_tree expression.now)) effect)) }
 {
     add_reads(text, locals, expression, &mut before)?;
-    Ok(simple_statement(before, action))
+    Ok(simple_statement(before, effect))
 }
 
 /// A variable of the exchange heap takes a value.
@@ -154,7 +171,7 @@ fn tell_taken(
     match value {
         Value::Expression(expression) => {
             let source = alone(text, locals, expression);
-            Ok(unread(around.alloc, move_action(target, source)))
+            Ok(unread(around.alloc, move_effect(target, source)))
         }
         Value::Call(call) => {
             let behind = Vec::new(around.alloc);
@@ -181,7 +198,7 @@ fn tell_scalar(
     let before = Vec::new(around.alloc);
     match value {
         Value::Expression(expression) => {
-            tell_read(text, locals, before, expression, Action::Nothing)
+            tell_read(text, locals, before, expression, Effect::Nothing)
         }
         Value::Call(call) => {
             let after = ResultUse {
@@ -190,7 +207,7 @@ fn tell_scalar(
             };
             tell_call(text, around, locals, call, after)
         }
-        Value::New(new) => tell_made(text, locals, before, &new.made, Action::Nothing),
+        Value::New(new) => tell_made(text, locals, before, &new.made, Effect::Nothing),
     }
 }
 
@@ -247,9 +264,9 @@ pub(crate) fn tell_part(
 {
     match value {
         Value::Expression(expression) => {
-            tell_read(text, locals, index, expression, use_action(whole))
+            tell_read(text, locals, index, expression, use_effect(whole))
         }
         Value::Call(call) => { tell_part_called(text, around, locals, index, whole, call) }
-        Value::New(new) => tell_made(text, locals, index, &new.made, use_action(whole)),
+        Value::New(new) => tell_made(text, locals, index, &new.made, use_effect(whole)),
     }
 }

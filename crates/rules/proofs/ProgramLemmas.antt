@@ -6,7 +6,7 @@ use Rattle.std.proofs.lemmas.Simd.{map-map}
 use Rattle.flow.specs.declared.graph.Graph.{Graph}
 use Rattle.flow.specs.declared.graph.Instr.{Instr}
 use Rattle.flow.specs.Graphs.{GraphModel, Instruction, graph_model, instruction_model}
-use Rattle.flow.specs.Graphs.{Use, New, Move, Delete, Exchange, NewChannel, Send, Switch, Branch, Forget, Call, Start, Return, Stop}
+use Rattle.flow.specs.Graphs.{Act, New, Send, Switch, Branch, Forget, Call, Start, Return, Stop}
 use Rattle.flow.specs.declared.graph.Branches.{Branches}
 use Rattle.flow.specs.Lowering.{graph_of}
 use Rattle.program.specs.declared.method.Method.{Method}
@@ -65,12 +65,8 @@ outcome_is p n pair = refl
 -- a condition goes on with whatever row comes to it
 condition_goes : (p : ProgramModel) (m : MethodModel) (row : List Leaf) (branches : Branches) (i : Option Instruction) → Path (Option Branches) (Some branches) (condition_at i) → point_outcome p m row i ≡ Goes (ways branches row)
 condition_goes p m row branches None e = cc
-condition_goes p m row branches (Some (Use at next)) e = cc
+condition_goes p m row branches (Some (Act action next)) e = cc
 condition_goes p m row branches (Some (New target arguments next)) e = cc
-condition_goes p m row branches (Some (Move target source next)) e = cc
-condition_goes p m row branches (Some (Delete at next)) e = cc
-condition_goes p m row branches (Some (Exchange exchange next)) e = cc
-condition_goes p m row branches (Some (NewChannel channel next)) e = cc
 condition_goes p m row branches (Some (Send place endpoint message payloads next)) e = cc
 condition_goes p m row branches (Some (Switch place cases)) e = cc
 condition_goes p m row branches (Some (Branch place other)) e = let same : branches ≡ other = cc in ap (λ b. Goes (ways b row)) (sym same)

@@ -5,7 +5,8 @@ use Rattle.std.specs.Option.{option_map_or}
 use Rattle.std.proofs.lemmas.List.{length-map, length-set}
 use Rattle.std.proofs.lemmas.List.Elements.{All-append, All-nil, All-cons}
 use Rattle.source.specs.Findings.{FindingModel}
-use Rattle.flow.specs.Graphs.{Instruction, Use, New, Move, Delete, Exchange, NewChannel, Send, Switch, Branch, Forget, Call, Start, Return, Stop}
+use Rattle.program.specs.declared.statement.Action.TheVariants.{Use, Move, Delete, Exchange, NewChannel}
+use Rattle.flow.specs.Graphs.{Instruction, Act, New, Send, Switch, Branch, Forget, Call, Start, Return, Stop}
 use Rattle.flow.specs.Lowering.{graph_of}
 use Rattle.flow.specs.declared.graph.Branches.{Branches}
 use Rattle.flow.specs.declared.graph.Branches.TheVariants.{Either, Only}
@@ -109,30 +110,30 @@ module _ (p : ProgramModel) (m : MethodModel) where
 
   instruction_on : (i : Instruction) (row : List Leaf) (to : List Pair)
       → IsRowOf m row → instruction_outcome p m i row ≡ Goes to → AreRows to
-  instruction_on (Use v next) row to is e = leads_on (require_owned m row v ∷ []) next row to is e
+  instruction_on (Act (Use v) next) row to is e = leads_on (require_owned m row v ∷ []) next row to is e
+  instruction_on (Act (Exchange x) next) row to is e =
+      let ty = field_of p m x.holder.variable.0 x.field in
+      let leaf = option_map_or declared_leaf ty Nothing in
+      leads_on (require_another m x.holder x.given ∷ require_owned m row x.holder ∷ option_map_or (λ ty. field_checks m row ty (payload x.given)) ty [])
+      next (set row x.given.variable.0 leaf) to (length-set row x.given.variable.0 leaf ∙ is) e
+  instruction_on (Act (NewChannel c) next) row to is e =
+      let first = State (first_state p c.contract.0) in
+      let one = set row c.first.variable.0 first in
+      let checks = require_not_lent m c.first ∷ require_empty m row c.first ∷ require_not_lent m c.second ∷ require_empty m row c.second ∷ [] in
+      leads_on checks next (set one c.second.variable.0 first) to (length-set one c.second.variable.0 first ∙ length-set row c.first.variable.0 first ∙ is) e
+  instruction_on (Act (Move v w) next) row to is e =
+      let moved = set row v.variable.0 (leaf_at row w.variable.0) in
+      let checks = require_another m v w ∷ require_not_lent m w ∷ require_owned m row w ∷ require_not_lent m v ∷ require_empty m row v ∷ [] in
+      let size = length-set moved w.variable.0 Nothing ∙ length-set row v.variable.0 (leaf_at row w.variable.0) ∙ is in
+      leads_on checks next (set moved w.variable.0 Nothing) to size e
+  instruction_on (Act (Delete v) next) row to is e =
+      let freed = set row v.variable.0 Nothing in
+      leads_on (require_not_lent m v ∷ require_owned m row v ∷ []) next freed to (length-set row v.variable.0 Nothing ∙ is) e
   instruction_on (New v arguments next) row to is e =
       let given = map payload arguments in
       let left = after_claims row given in
       leads_on (all_fields m row (fields_of p m v.variable.0) given ++ target_checks m left (Some v)) next (set left v.variable.0 Block) to
       (length-set left v.variable.0 Block ∙ claimed_size row given ∙ is) e
-  instruction_on (Exchange x next) row to is e =
-      let ty = field_of p m x.holder.variable.0 x.field in
-      let leaf = option_map_or declared_leaf ty Nothing in
-      leads_on (require_another m x.holder x.given ∷ require_owned m row x.holder ∷ option_map_or (λ ty. field_checks m row ty (payload x.given)) ty [])
-      next (set row x.given.variable.0 leaf) to (length-set row x.given.variable.0 leaf ∙ is) e
-  instruction_on (NewChannel c next) row to is e =
-      let first = State (first_state p c.contract.0) in
-      let one = set row c.first.variable.0 first in
-      let checks = require_not_lent m c.first ∷ require_empty m row c.first ∷ require_not_lent m c.second ∷ require_empty m row c.second ∷ [] in
-      leads_on checks next (set one c.second.variable.0 first) to (length-set one c.second.variable.0 first ∙ length-set row c.first.variable.0 first ∙ is) e
-  instruction_on (Move v w next) row to is e =
-      let moved = set row v.variable.0 (leaf_at row w.variable.0) in
-      let checks = require_another m v w ∷ require_not_lent m w ∷ require_owned m row w ∷ require_not_lent m v ∷ require_empty m row v ∷ [] in
-      let size = length-set moved w.variable.0 Nothing ∙ length-set row v.variable.0 (leaf_at row w.variable.0) ∙ is in
-      leads_on checks next (set moved w.variable.0 Nothing) to size e
-  instruction_on (Delete v next) row to is e =
-      let freed = set row v.variable.0 Nothing in
-      leads_on (require_not_lent m v ∷ require_owned m row v ∷ []) next freed to (length-set row v.variable.0 Nothing ∙ is) e
   instruction_on (Send place x message payloads next) row to is e =
       let gone = after_claims row (map payload payloads) in
       let leaf = sent_leaf p (type_of m x.variable.0) message.0 (leaf_at row x.variable.0) in

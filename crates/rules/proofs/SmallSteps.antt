@@ -11,7 +11,8 @@ use Rattle.program.specs.declared.types.Side.TheVariants.{Imp}
 use Rattle.program.specs.declared.method.Role.{Role}
 use Rattle.program.specs.declared.method.Role.TheVariants.{Claimed, Lent, Local}
 use Rattle.program.specs.declared.statement.Mention.{Mention}
-use Rattle.flow.specs.Graphs.{Instruction, Exchange, New}
+use Rattle.program.specs.declared.statement.Action.TheVariants.{Exchange}
+use Rattle.flow.specs.Graphs.{Instruction, Act, New}
 use Rattle.rules.specs.Outcomes.{Fails, Goes}
 use Rattle.rules.specs.RuleTable.{instruction_outcome}
 use Rattle.rules.specs.Texts.{lent, not_owned, overwritten, twice, wrong_for_field}
@@ -52,7 +53,7 @@ abbrev program : ProgramModel
 program = record { contracts = []; messages = []; structs = [] ∷ (of_struct 0 ∷ []) ∷ (end 0 ∷ []) ∷ []; methods = method ∷ [] }
 
 abbrev exchange : ℕ → ℕ → Instruction
-exchange holder given = Exchange record { place = at 1; holder = mention holder 2; field = 0; given = mention given 3 } 9
+exchange holder given = Act (Exchange record { place = at 1; holder = mention holder 2; field = 0; given = mention given 3 }) 9
 
 -- what is given for a field is gone, and the target has the new block
 pub given_for_a_field : instruction_outcome program method (New (mention 2 1) (mention 0 2 ∷ []) 9)

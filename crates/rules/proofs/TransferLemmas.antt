@@ -9,6 +9,7 @@ use Rattle.flow.specs.Graphs as graphs
 use Rattle.flow.specs.Lowering.{graph_of}
 use Rattle.program.specs.declared.types.HeapType.{HeapType}
 use Rattle.program.specs.declared.method.Method.{Method}
+use Rattle.program.specs.declared.statement.Action.TheVariants as does
 use Rattle.program.specs.declared.statement.Mention.{Mention}
 use Rattle.program.specs.Methods.{MethodModel, method_model}
 use Rattle.program.specs.Programs.{ProgramModel}
@@ -67,7 +68,7 @@ module _ (p : ProgramModel) (m : MethodModel) (row : List Leaf) where
   abbrev having : Mention → FindingModel
   having v = overwritten (name_of m v.variable.0) v.place
 
-  use_comes : (v : Mention) (next : ℕ) → Comes (graphs.Use v next) (Use v.variable, next)
+  use_comes : (v : Mention) (next : ℕ) → Comes (graphs.Act (does.Use v) next) (Use v.variable, next)
   use_comes v next fit allowed = pass (not (is_owned row v.variable.0)) (lacking v) [] ((next, row) ∷ []) (ap not allowed)
 
   -- nothing is given for fields
@@ -82,14 +83,14 @@ module _ (p : ProgramModel) (m : MethodModel) (row : List Leaf) where
       ∙ pass (is_lent m v.variable.0) (lent_one v) filled after (of_not (is_lent m v.variable.0) fit)
       ∙ pass (is_owned row v.variable.0) (having v) [] after (of_not (is_owned row v.variable.0) allowed)
 
-  delete_comes : (v : Mention) (next : ℕ) → Comes (graphs.Delete v next) (Delete v.variable, next)
+  delete_comes : (v : Mention) (next : ℕ) → Comes (graphs.Act (does.Delete v) next) (Delete v.variable, next)
   delete_comes v next fit allowed =
       let after = (next, set row v.variable.0 Nothing) ∷ [] in
       let lacks = refuse_if (not (is_owned row v.variable.0)) (lacking v) ∷ [] in
       pass (is_lent m v.variable.0) (lent_one v) lacks after (of_not (is_lent m v.variable.0) fit)
       ∙ pass (not (is_owned row v.variable.0)) (lacking v) [] after (ap not allowed)
 
-  move_comes : (v w : Mention) (next : ℕ) → Comes (graphs.Move v w next) (Move v.variable w.variable, next)
+  move_comes : (v w : Mention) (next : ℕ) → Comes (graphs.Act (does.Move v w) next) (Move v.variable w.variable, next)
   move_comes v w next fit allowed =
       let same = v.variable.0 == w.variable.0 in
       let lends = of_both (not same) (not (is_lent m w.variable.0) && not (is_lent m v.variable.0)) fit in
@@ -107,13 +108,13 @@ module _ (p : ProgramModel) (m : MethodModel) (row : List Leaf) where
       ∙ pass (is_owned row v.variable.0) (having v) [] after (of_not (is_owned row v.variable.0) owns.1)
 
   comes : (i : Instruction) (u : Transfer × ℕ) → Path (Option (Transfer × ℕ)) (transfer_in i) (Some u) → Comes i u
-  comes (graphs.Use at next) u e = subst (Comes (graphs.Use at next)) (one_some _ u e) (use_comes at next)
+  comes (graphs.Act (does.Use at) next) u e = subst (Comes (graphs.Act (does.Use at) next)) (one_some _ u e) (use_comes at next)
   comes (graphs.New at [] next) u e = subst (Comes (graphs.New at [] next)) (one_some _ u e) (new_comes at next)
   comes (graphs.New at (a ∷ arguments) next) u e = absurd (none_some u e)
-  comes (graphs.Move v w next) u e = subst (Comes (graphs.Move v w next)) (one_some _ u e) (move_comes v w next)
-  comes (graphs.Delete at next) u e = subst (Comes (graphs.Delete at next)) (one_some _ u e) (delete_comes at next)
-  comes (graphs.Exchange exchange next) u e = absurd (none_some u e)
-  comes (graphs.NewChannel channel next) u e = absurd (none_some u e)
+  comes (graphs.Act (does.Move v w) next) u e = subst (Comes (graphs.Act (does.Move v w) next)) (one_some _ u e) (move_comes v w next)
+  comes (graphs.Act (does.Delete at) next) u e = subst (Comes (graphs.Act (does.Delete at) next)) (one_some _ u e) (delete_comes at next)
+  comes (graphs.Act (does.Exchange exchange) next) u e = absurd (none_some u e)
+  comes (graphs.Act (does.NewChannel channel) next) u e = absurd (none_some u e)
   comes (graphs.Send place endpoint message payloads next) u e = absurd (none_some u e)
   comes (graphs.Switch place cases) u e = absurd (none_some u e)
   comes (graphs.Branch place branches) u e = absurd (none_some u e)

@@ -10,7 +10,8 @@ use Rattle.program.specs.Programs.{ProgramModel}
 use Rattle.program.specs.declared.types.HeapType.{HeapType}
 use Rattle.program.specs.declared.statement as stated
 use Rattle.program.specs.declared.statement.Mention.{Mention}
-use Rattle.flow.specs.Graphs.{Instruction, Use, New, Move, Delete, Exchange, NewChannel, Send, Switch, Branch, Forget, Call, Start}
+use Rattle.program.specs.declared.statement.Action.TheVariants.{Use, Move, Delete, Exchange, NewChannel}
+use Rattle.flow.specs.Graphs.{Instruction, Act, New, Send, Switch, Branch, Forget, Call, Start}
 use Rattle.flow.specs.Graphs.{Return, Stop}
 use Rattle.flow.specs.declared.graph.Branches.{Branches}
 use Rattle.flow.specs.declared.graph.Branches.TheVariants.{Either, Only}
@@ -58,22 +59,22 @@ module _ (p : ProgramModel) (m : MethodModel) where
 
   -- a line for each instruction
   abbrev pub instruction_outcome : Instruction → List Leaf → Step Pair FindingModel
-  instruction_outcome (Use v next) row = after_checks (require_owned m row v ∷ []) ((next, row) ∷ [])
+  instruction_outcome (Act (Use v) next) row = after_checks (require_owned m row v ∷ []) ((next, row) ∷ [])
+  instruction_outcome (Act (Exchange e) next) row = after_exchange row e next (field_of p m e.holder.variable.0 e.field)
+  instruction_outcome (Act (NewChannel c) next) row =
+      after_checks
+      (require_not_lent m c.first ∷ require_empty m row c.first ∷ require_not_lent m c.second ∷ require_empty m row c.second ∷ [])
+      (let first = State (first_state p c.contract.0) in (next, set (set row c.first.variable.0 first) c.second.variable.0 first) ∷ [])
+  instruction_outcome (Act (Move v w) next) row =
+      after_checks
+      (require_another m v w ∷ require_not_lent m w ∷ require_owned m row w ∷ require_not_lent m v ∷ require_empty m row v ∷ [])
+      ((next, set (set row v.variable.0 (leaf_at row w.variable.0)) w.variable.0 Nothing) ∷ [])
+  instruction_outcome (Act (Delete v) next) row =
+      after_checks (require_not_lent m v ∷ require_owned m row v ∷ []) ((next, set row v.variable.0 Nothing) ∷ [])
   instruction_outcome (New v arguments next) row =
       let given = map payload arguments in
       after_checks (all_fields m row (fields_of p m v.variable.0) given ++ target_checks m (after_claims row given) (Some v))
       ((next, set (after_claims row given) v.variable.0 Block) ∷ [])
-  instruction_outcome (Exchange e next) row = after_exchange row e next (field_of p m e.holder.variable.0 e.field)
-  instruction_outcome (NewChannel c next) row =
-      after_checks
-      (require_not_lent m c.first ∷ require_empty m row c.first ∷ require_not_lent m c.second ∷ require_empty m row c.second ∷ [])
-      (let first = State (first_state p c.contract.0) in (next, set (set row c.first.variable.0 first) c.second.variable.0 first) ∷ [])
-  instruction_outcome (Move v w next) row =
-      after_checks
-      (require_another m v w ∷ require_not_lent m w ∷ require_owned m row w ∷ require_not_lent m v ∷ require_empty m row v ∷ [])
-      ((next, set (set row v.variable.0 (leaf_at row w.variable.0)) w.variable.0 Nothing) ∷ [])
-  instruction_outcome (Delete v next) row =
-      after_checks (require_not_lent m v ∷ require_owned m row v ∷ []) ((next, set row v.variable.0 Nothing) ∷ [])
   instruction_outcome (Send place e message payloads next) row =
       let ty = type_of m e.variable.0 in
       let leaf = leaf_at row e.variable.0 in

@@ -1,6 +1,8 @@
 -- Transfers: what an instruction does to a row, where that depends on nothing but the leaves of a variable or two.
-use Rattle.std.specs.Prelude.{ℕ, ◌==◌, Bool, true, not, ◌&&◌, List, [], Option, Some, None, set, if◌then◌else◌}
+use Rattle.std.specs.Prelude.{ℕ, ◌==◌, Bool, true, not, ◌&&◌, List, [], Option, Some, None, option_map, set, if◌then◌else◌}
 use Rattle.program.specs.Methods.{MethodModel}
+use Rattle.program.specs.declared.statement.Action.{Action}
+use Rattle.program.specs.declared.statement.Action.TheVariants as does
 use Rattle.flow.specs.Graphs as graphs
 use Rattle.flow.specs.Graphs.{Instruction}
 use Rattle.rules.specs.Mentions.{is_lent}
@@ -31,12 +33,17 @@ fits m (New v) = not (is_lent m v.0)
 fits m (Move target source) = not (target.0 == source.0) && (not (is_lent m source.0) && not (is_lent m target.0))
 fits m (Delete v) = not (is_lent m v.0)
 
+-- the transfer of an action, if it has one
+abbrev pub transfer_of : Action → Option Transfer
+transfer_of (does.Use at) = Some (Use at.variable)
+transfer_of (does.Move target source) = Some (Move target.variable source.variable)
+transfer_of (does.Delete at) = Some (Delete at.variable)
+transfer_of _ = None
+
 -- the transfer of an instruction and the point behind it, if it has one
 abbrev pub transfer_in : Instruction → Option (Transfer × ℕ)
-transfer_in (graphs.Use at next) = Some (Use at.variable, next)
+transfer_in (graphs.Act action next) = option_map (λ t. (t, next)) (transfer_of action)
 transfer_in (graphs.New at [] next) = Some (New at.variable, next)
-transfer_in (graphs.Move target source next) = Some (Move target.variable source.variable, next)
-transfer_in (graphs.Delete at next) = Some (Delete at.variable, next)
 transfer_in _ = None
 
 -- that transfer, where it fits

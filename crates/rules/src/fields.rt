@@ -2,8 +2,8 @@
 
 ghost use Rattle.std.specs.Prelude.{◌≡◌, [], IfSome};
 ghost use Rattle.std.specs.Option.{option_map_or};
-ghost use Rattle.flow.specs.Graphs as graphs;
-ghost use Rattle.flow.specs.Graphs.{New};
+ghost use Rattle.program.specs.declared.statement.Action.TheVariants as does;
+ghost use Rattle.flow.specs.Graphs.{Act, New};
 ghost use Rattle.rules.specs.Arguments.{field_checks, payload};
 ghost use Rattle.rules.specs.Endpoints as table;
 ghost use Rattle.rows.specs.Leaves.{IsNumbered};
@@ -74,7 +74,7 @@ pub(crate) fn exchange(
     exchange: Exchange,
     next: usize,
 ) -> Result<Onward, Breach>
-    ensures outcome { Follows site.now (graphs.Exchange exchange next) row.old row.new result }
+    ensures outcome { Follows site.now (Act (does.Exchange exchange) next) row.old row.new result }
     ensures kept { KeepsRow (onward_of result) (row_model row.old) (row_model row.new) }
 {
     let here = Here { site: *site, row };

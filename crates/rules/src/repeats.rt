@@ -30,10 +30,9 @@ fn given_again(alloc: Global, instruction: &Instr) -> Result<Option<Mention>, Me
     match instruction {
         Instr::Call(calling) => first_again(alloc, &calling.arguments),
         Instr::Start(starting) => first_again(alloc, &starting.arguments),
-        Instr::Use { .. } | Instr::New { .. } | Instr::NewChannel { .. } => Ok(None),
-        Instr::Move { .. } | Instr::Delete { .. } | Instr::Exchange { .. } => Ok(None),
-        Instr::Send(_) | Instr::Switch { .. } | Instr::Branch { .. } => Ok(None),
-        Instr::Forget { .. } | Instr::Return(_) | Instr::Stop { .. } => Ok(None),
+        Instr::Act { .. } | Instr::New { .. } | Instr::Send(_) | Instr::Switch { .. } => Ok(None),
+        Instr::Branch { .. } | Instr::Forget { .. } => Ok(None),
+        Instr::Return(_) | Instr::Stop { .. } => Ok(None),
     }
 }
 

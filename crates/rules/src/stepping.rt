@@ -146,13 +146,8 @@ fn branches_of(instruction: &Instr) -> Option<Branches>
 {
     match instruction {
         Instr::Branch { branches, .. } => Some(*branches),
-        Instr::Use { .. } | Instr::New { .. } | Instr::NewChannel { .. } => None,
-        Instr::Move { .. } | Instr::Delete { .. } | Instr::Exchange { .. } => None,
-        Instr::Forget { .. }
-        | Instr::Send(_)
-        | Instr::Switch { .. }
-        | Instr::Call(_)
-        | Instr::Start(_) => None,
+        Instr::Act { .. } | Instr::New { .. } | Instr::Send(_) | Instr::Switch { .. } => None,
+        Instr::Forget { .. } | Instr::Call(_) | Instr::Start(_) => None,
         Instr::Return(_) | Instr::Stop { .. } => None,
     }
 }

@@ -2,8 +2,9 @@
 //! fails is what is found.
 
 ghost use Rattle.std.specs.Prelude.{◌≡◌, IfOk, List, Ok, []};
+ghost use Rattle.program.specs.declared.statement.Action.TheVariants as does;
 ghost use Rattle.flow.specs.Graphs as graphs;
-ghost use Rattle.flow.specs.Graphs.{Use, Move, Delete, instruction_model};
+ghost use Rattle.flow.specs.Graphs.{Act, instruction_model};
 ghost use Rattle.flow.specs.declared.graph.Instr.{Instr};
 ghost use Rattle.source.specs.Findings.{FindingModel};
 ghost use Rattle.rules.specs.Onwards.{KeepsRow, onward_model, onward_of};
@@ -19,7 +20,7 @@ ghost use Rattle.rules.specs.Sites.{Follows, FollowsHere};
 use crate::arguments::{claim_all, give, require_arguments, require_target};
 use crate::breach::{Breach, Reason};
 use crate::checks::{require_another, require_empty, require_not_lent, require_owned};
-use crate::fields::{self, new};
+use crate::fields::{exchange, new};
 use crate::here::{Here, Site};
 use crate::onward::Onward;
 use crate::returning::return_;
@@ -27,7 +28,7 @@ use crate::scopes::require_given_back;
 use crate::sending::send;
 use crate::switching::switch;
 use flow::{Branches, Calling, Instr, Starting};
-use program::{Channel, Forget, Mention};
+use program::{Action, Channel, Forget, Mention};
 use rows::{Leaf, Row, Spare};
 use source::{Memory, Place};
 
@@ -48,20 +49,12 @@ pub(crate) fn apply(
 {
     let here = Here { site: *site, row };
     match instruction {
-        Instr::Use { at, next } => answer(use_(&here, *at, *next)),
+        Instr::Act { action, next } => answer(act(site, row, *action, *next)),
         Instr::New {
             target,
             arguments,
             next,
         } => answer(new(site, row, *target, arguments, *next)),
-        Instr::NewChannel { channel, next } => answer(new_channel(site, row, *channel, *next)),
-        Instr::Move {
-            target,
-            source,
-            next,
-        } => answer(move_(site, row, *target, *source, *next)),
-        Instr::Delete { at, next } => answer(delete(site, row, *at, *next)),
-        Instr::Exchange { exchange, next } => answer(fields::exchange(site, row, *exchange, *next)),
         Instr::Send(sending) => answer(send(site, row, sending)),
         Instr::Switch { place, cases } => switch(&here, *place, cases, spare),
         Instr::Call(calling) => answer(call(site, row, calling)),
@@ -83,9 +76,23 @@ fn answer(told: Result<Onward, Breach>) -> Result<Onward, Memory>
     }
 }
 
+/// Something is done with what variables and fields have.
+fn act(site: &Site<'_>, row: &mut Row, action: Action, next: usize) -> Result<Onward, Breach>
+    ensures outcome { Follows site.now (Act action next) row.old row.new result }
+    ensures kept { KeepsRow (onward_of result) (row_model row.old) (row_model row.new) }
+{
+    match action {
+        Action::Use(at) => use_(&Here { site: *site, row }, at, next),
+        Action::Move { target, source } => move_(site, row, target, source, next),
+        Action::Delete(freed) => delete(site, row, freed, next),
+        Action::Exchange(exchanged) => exchange(site, row, exchanged, next),
+        Action::NewChannel(channel) => new_channel(site, row, channel, next),
+    }
+}
+
 /// A read or a write of the block that a variable has. The row stays as it is.
 fn use_(here: &Here<'_>, at: Mention, next: usize) -> Result<Onward, Breach>
-    ensures { FollowsHere here.now (Use at next) result }
+    ensures { FollowsHere here.now (Act (does.Use at) next) result }
 {
     require_owned(here, at)?;
     Ok(Onward::Same(next))
@@ -98,7 +105,7 @@ fn new_channel(
     channel: Channel,
     next: usize,
 ) -> Result<Onward, Breach>
-    ensures outcome { Follows site.now (graphs.NewChannel channel next) row.old row.new result }
+    ensures outcome { Follows site.now (Act (does.NewChannel channel) next) row.old row.new result }
     ensures kept { KeepsRow (onward_of result) (row_model row.old) (row_model row.new) }
 {
     let here = Here { site: *site, row };
@@ -120,7 +127,7 @@ fn move_(
     source: Mention,
     next: usize,
 ) -> Result<Onward, Breach>
-    ensures outcome { Follows site.now (Move target source next) row.old row.new result }
+    ensures outcome { Follows site.now (Act (does.Move target source) next) row.old row.new result }
     ensures kept { KeepsRow (onward_of result) (row_model row.old) (row_model row.new) }
 {
     let here = Here { site: *site, row };
@@ -137,7 +144,7 @@ fn move_(
 
 /// Frees what a variable has.
 fn delete(site: &Site<'_>, row: &mut Row, freed: Mention, next: usize) -> Result<Onward, Breach>
-    ensures outcome { Follows site.now (Delete freed next) row.old row.new result }
+    ensures outcome { Follows site.now (Act (does.Delete freed) next) row.old row.new result }
     ensures kept { KeepsRow (onward_of result) (row_model row.old) (row_model row.new) }
 {
     let here = Here { site: *site, row };

@@ -15,7 +15,7 @@ ghost use Rattle.rows.specs.declared.row.Leaf.{Leaf as LeafModel};
 use crate::checks::lends;
 use crate::lowered::Program;
 use flow::Instr;
-use program::{Method, MethodId, VarId};
+use program::{Action, Method, MethodId, VarId};
 use rows::{Leaf, Row};
 
 /// What an instruction does to a row, where that depends on nothing but the leaves of a variable or two. The same transfer does the
@@ -74,12 +74,27 @@ impl Transfer {
     }
 }
 
+/// The transfer of an action, if it has one.
+fn transfer_of(action: Action) -> Option<Transfer>
+    ensures { result ≡ table.transfer_of action }
+{
+    match action {
+        Action::Use(at) => Some(Transfer::Use(at.variable)),
+        Action::Move { target, source } => Some(Transfer::Move {
+            target: target.variable,
+            source: source.variable,
+        }),
+        Action::Delete(at) => Some(Transfer::Delete(at.variable)),
+        Action::Exchange(_) | Action::NewChannel(_) => None,
+    }
+}
+
 /// The transfer of an instruction and the point behind it, if it has one.
 fn transfer_in(instruction: &Instr) -> Option<(Transfer, usize)>
     ensures { result ≡ table.transfer_in (instruction_model instruction.now) }
 {
     match instruction {
-        Instr::Use { at, next } => Some((Transfer::Use(at.variable), *next)),
+        Instr::Act { action, next } => Some((transfer_of(*action)?, *next)),
         // What is given for fields is checked by its state, so that is no transfer.
         Instr::New {
             target,
@@ -91,17 +106,7 @@ fn transfer_in(instruction: &Instr) -> Option<(Transfer, usize)>
             }
             Some((Transfer::New(target.variable), *next))
         }
-        Instr::Move {
-            target,
-            source,
-            next,
-        } => {
-            let (target, source) = (target.variable, source.variable);
-            Some((Transfer::Move { target, source }, *next))
-        }
-        Instr::Delete { at, next } => Some((Transfer::Delete(at.variable), *next)),
-        Instr::Exchange { .. } | Instr::NewChannel { .. } | Instr::Send(_) => None,
-        Instr::Switch { .. } | Instr::Branch { .. } | Instr::Forget { .. } => None,
+        Instr::Send(_) | Instr::Switch { .. } | Instr::Branch { .. } | Instr::Forget { .. } => None,
         Instr::Call(_) | Instr::Start(_) | Instr::Return(_) | Instr::Stop { .. } => None,
     }
 }

@@ -15,7 +15,8 @@ use Rattle.program.specs.declared.number.MessageId.{MessageId}
 use Rattle.program.specs.declared.statement.Channel as channel
 use Rattle.program.specs.declared.statement.Exchange as stated
 use Rattle.program.specs.declared.statement.Mention.{Mention}
-use Rattle.flow.specs.Graphs.{Instruction, Use, New, Move, Delete, Exchange, NewChannel, Send, Switch, Branch, Forget, Call, Start}
+use Rattle.program.specs.declared.statement.Action.TheVariants.{Use, Move, Delete, Exchange, NewChannel}
+use Rattle.flow.specs.Graphs.{Instruction, Act, New, Send, Switch, Branch, Forget, Call, Start}
 use Rattle.flow.specs.Graphs.{Return, Stop}
 use Rattle.flow.specs.Lowering.{graph_of}
 use Rattle.contracts.specs.Bounds.{sign_to}
@@ -57,7 +58,7 @@ use Rattle.machine.proofs.ChangeLemmas.{eqb_same, true≢false}
 -- What is asked of an instruction, whatever is found: a new block is no endpoint, and the contract of a new channel is there.
 abbrev pub IsMadeWell : ProgramModel → MethodModel → Instruction → Type 0
 IsMadeWell p m (New v arguments next) = is_end (type_at m.variables v.variable.0) ≡ false
-IsMadeWell p m (NewChannel c next) = (x : ContractModel) × (slice_get p.contracts c.contract.0 ≡ Some x)
+IsMadeWell p m (Act (NewChannel c) next) = (x : ContractModel) × (slice_get p.contracts c.contract.0 ≡ Some x)
 IsMadeWell p m _ = Unit {0}
 
 pub record AreMadeWell (p : ProgramModel) : Type 0 where
@@ -131,11 +132,11 @@ module _ (p : ProgramModel) (bound : QueueBounds) (w : World) (self : ℕ) (f : 
   module _ (always : HeldAlways) (longer : NeverLonger) (sound : IsSoundProgram p bound) (m : MethodModel)
       (there : method_at p f.method ≡ Some m) where
     instruction_fine : (i : Instruction) (choice : ℕ) → IsMadeWell p m i → IsFine p (outcome_from p bound w self f rest i choice)
-    instruction_fine (Use v next) choice fit =
+    instruction_fine (Act (Use v) next) choice fit =
         one_test p (is_own w.blocks self (read f.variables v.variable.0)) F1 [] _ (λ e. tt) (λ e. h)
     instruction_fine (New v arguments next) choice fit =
         given_fine p bound w self f rest h [] (payloads_claimed arguments) _ (λ given. new_fits m v arguments there fit given)
-    instruction_fine (Exchange e next) choice fit =
+    instruction_fine (Act (Exchange e) next) choice fit =
         let x = read f.variables e.holder.variable.0 in
         let y = read f.variables e.given.variable.0 in
         one_test p (is_own w.blocks self x) F1 _ _ (λ k. tt)
@@ -145,10 +146,10 @@ module _ (p : ProgramModel) (bound : QueueBounds) (w : World) (self : ℕ) (f : 
         exchanges_fine e next (slice_get (block_at w.blocks (address x)).fields e.field) refl
         (ap (λ (z : Option ℕ). owns w.blocks self (address z)) o.is ∙ o.owned) s.0
         (λ same. true≢false (eqb_same (address x) (address y) (sym same)) (or_false (address x == address y) false s.1).0)))
-    instruction_fine (NewChannel c next) choice fit = channel_fits c fit.0 fit.1
-    instruction_fine (Move v u next) choice fit =
+    instruction_fine (Act (NewChannel c) next) choice fit = channel_fits c fit.0 fit.1
+    instruction_fine (Act (Move v u) next) choice fit =
         one_test p (is_own w.blocks self (read f.variables u.variable.0)) F1 [] _ (λ e. tt) (λ e. h)
-    instruction_fine (Delete v next) choice fit =
+    instruction_fine (Act (Delete v) next) choice fit =
         one_test p (is_own w.blocks self (read f.variables v.variable.0)) F2 [] _ (λ e. tt)
         (λ e. let o = own_at p bound w self f rest h (read f.variables v.variable.0) e in delete_fits p bound w self f rest h
         (address (read f.variables v.variable.0)) (ap (λ (x : Option ℕ). owns w.blocks self (address x)) o.is ∙ o.owned))
@@ -226,11 +227,11 @@ short longer p bound sound bs channels a c side live =
 fit_made : (p : ProgramModel) (m : MethodModel) (scope : ScopeAt) (point : ℕ) (i : Instruction) → IsFit p m scope point i → IsMadeWell p m i
 fit_made p m scope point (New v arguments next) fit =
     ap (λ (o : Option VariableModel). is_end (option_map_or (λ x. x.ty) o no_type)) fit.there ∙ fit.block
-fit_made p m scope point (NewChannel c next) fit = (fit.contract, fit.contract_there)
-fit_made p m scope point (Use v next) fit = tt
-fit_made p m scope point (Move v u next) fit = tt
-fit_made p m scope point (Delete v next) fit = tt
-fit_made p m scope point (Exchange e next) fit = tt
+fit_made p m scope point (Act (NewChannel c) next) fit = (fit.contract, fit.contract_there)
+fit_made p m scope point (Act (Use v) next) fit = tt
+fit_made p m scope point (Act (Move v u) next) fit = tt
+fit_made p m scope point (Act (Delete v) next) fit = tt
+fit_made p m scope point (Act (Exchange e) next) fit = tt
 fit_made p m scope point (Send place e message payloads next) fit = tt
 fit_made p m scope point (Switch place cases) fit = tt
 fit_made p m scope point (Branch place branches) fit = tt

@@ -20,7 +20,8 @@ use Rattle.program.specs.declared.statement.Awaited.TheVariants.{Message, Closed
 use Rattle.program.specs.declared.statement.Awaited.{Awaited}
 use Rattle.program.specs.declared.statement.Mention.{Mention}
 use Rattle.flow.specs.Cases.{EntranceModel, first_mentions, case_for, awaits}
-use Rattle.flow.specs.Graphs.{Instruction, Use, New, Move, Delete, Exchange, NewChannel, Send, Switch, Branch, Forget, Call, Start}
+use Rattle.program.specs.declared.statement.Action.TheVariants.{Use, Move, Delete, Exchange, NewChannel}
+use Rattle.flow.specs.Graphs.{Instruction, Act, New, Send, Switch, Branch, Forget, Call, Start}
 use Rattle.flow.specs.Graphs.{Return, Stop}
 use Rattle.flow.specs.Lowering.{graph_of}
 use Rattle.flow.specs.declared.graph.Branches.TheVariants.{Either, Only}
@@ -167,7 +168,7 @@ module _ (p : ProgramModel) (m : MethodModel) (scope : (point variable : ℕ) �
   -- no step brings something out of scope
   step_in : (from : ℕ) (row : List Leaf) (i : Instruction) (all : List Pair) → IsFit p m scope from i → NoneOut (from, row)
       → instruction_outcome p m i row ≡ Goes all → Each NoneOut all
-  step_in from row (Use v next) all fit h e = let k =
+  step_in from row (Act (Use v) next) all fit h e = let k =
       checked_passed (require_owned m row v ∷ []) ((next, row) ∷ []) all e in subst (λ ps. Each NoneOut ps) k.1
       (keeps_all from next row fit h, tt)
   step_in from row (New v arguments next) all fit h e =
@@ -179,7 +180,7 @@ module _ (p : ProgramModel) (m : MethodModel) (scope : (point variable : ℕ) �
             (claimed_out next row given (keeps_all from next row fit.keeps h)),
         tt,
       )
-  step_in from row (Exchange x next) all fit h e =
+  step_in from row (Act (Exchange x) next) all fit h e =
       let ty = field_known m p x.holder.variable.0 x.field fit.holder fit.holder_there ∙ fit.field_there in
       let l = declared_leaf fit.ty in
       let k = checked_passed
@@ -187,7 +188,7 @@ module _ (p : ProgramModel) (m : MethodModel) (scope : (point variable : ℕ) �
       ((next, set row x.given.variable.0 l) ∷ []) all (sym (ap (λ (o : Option HeapType). after_exchange p m row x next o) ty) ∙ e) in
       subst (λ ps. Each NoneOut ps) k.1
       (set_in next row x.given.variable.0 l fit.in_scope (keeps_all from next row fit.keeps h), tt)
-  step_in from row (Move v u next) all fit h e =
+  step_in from row (Act (Move v u) next) all fit h e =
       let k = checked_passed (require_another m v u ∷ require_not_lent m u ∷ require_owned m row u ∷ require_not_lent m v ∷ require_empty m row v ∷ [])
       ((next, set (set row v.variable.0 (leaf_at row u.variable.0)) u.variable.0 leaf.Nothing) ∷ []) all e in
       subst (λ ps. Each NoneOut ps) k.1 (
@@ -195,11 +196,11 @@ module _ (p : ProgramModel) (m : MethodModel) (scope : (point variable : ℕ) �
             (set_in next row v.variable.0 (leaf_at row u.variable.0) fit.in_scope (keeps_all from next row fit.keeps h)),
         tt,
       )
-  step_in from row (Delete v next) all fit h e = let k =
+  step_in from row (Act (Delete v) next) all fit h e = let k =
       checked_passed (require_not_lent m v ∷ require_owned m row v ∷ [])
       ((next, set row v.variable.0 leaf.Nothing) ∷ []) all e in subst (λ ps. Each NoneOut ps) k.1
       (set_nothing next row v.variable.0 (keeps_all from next row fit h), tt)
-  step_in from row (NewChannel c next) all fit h e =
+  step_in from row (Act (NewChannel c) next) all fit h e =
       let k = checked_passed (require_not_lent m c.first ∷ require_empty m row c.first ∷ require_not_lent m c.second ∷ require_empty m row c.second
       ∷ []) ((
         next,

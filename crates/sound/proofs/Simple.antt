@@ -6,7 +6,7 @@ use Rattle.program.specs.Methods.{MethodModel}
 use Rattle.program.specs.Programs.{ProgramModel}
 use Rattle.program.specs.Scopes.{GoesBack}
 use Rattle.program.specs.Statements.{CallModel, NewModel, SendModel}
-use Rattle.program.specs.WellFormed.{Holds, HoldAll, IsAction, IsCallOf, IsIn, IsType, IsMessageOf, IsNew, IsSend}
+use Rattle.program.specs.WellFormed.{Holds, HoldAll, IsAction, IsCallOf, IsEffect, IsIn, IsType, IsMessageOf, IsNew, IsSend}
 use Rattle.program.specs.WellFormed.{IsStartOf, IsTaken, field_types}
 use Rattle.program.specs.WellFormed.{IsWellFormed}
 use Rattle.program.specs.WellFormed.{Setting, are_ends, is_end, parameters}
@@ -14,10 +14,12 @@ use Rattle.program.specs.declared.types.HeapType.{HeapType}
 use Rattle.program.specs.declared.number.VarId.{VarId}
 use Rattle.program.specs.declared.statement.Action.TheVariants as does
 use Rattle.program.specs.declared.statement.Action.{Action}
+use Rattle.program.specs.declared.statement.Effect.{Effect}
+use Rattle.program.specs.declared.statement.Effect.TheVariants as effects
 use Rattle.program.specs.declared.statement.Forget.{Forget}
 use Rattle.program.specs.declared.statement.Mention.{Mention}
 use Rattle.flow.specs.Graphs as graph
-use Rattle.flow.specs.Lowering.{Lays, acts, both, lay_call, forgets, made_new, one, reads, lay_send, lay_start}
+use Rattle.flow.specs.Lowering.{Lays, both, lay_call, lay_effect, forgets, made_new, one, reads, lay_send, lay_start}
 use Rattle.rules.specs.Endpoints.{payload_types}
 use Rattle.sound.specs.GraphFit.{KeepsScope, ScopeAt}
 use Rattle.sound.proofs.Binding.{leads_in}
@@ -65,9 +67,9 @@ module _ (p : ProgramModel) (m : MethodModel) (well : IsWellFormed p.contracts p
   reads_fit [] here Outside from next = nothing_fits p m (in_scope m here) (in_scope m here) Outside from next (λ v e. e)
   reads_fit (u ∷ ms) here Outside from next =
       let rest = reads ms from next in
-      both_fits p m (one (graph.Use u)) (reads ms) (in_scope m here) (in_scope m here) (in_scope m here) Outside from next
+      both_fits p m (one (graph.Act (does.Use u))) (reads ms) (in_scope m here) (in_scope m here) (in_scope m here) Outside from next
       (reads_fit ms here Outside from next)
-      (one_fits p m (graph.Use u) (in_scope m here) (in_scope m here) Outside (from + length rest.instructions) rest.entry
+      (one_fits p m (graph.Act (does.Use u)) (in_scope m here) (in_scope m here) Outside (from + length rest.instructions) rest.entry
       (λ scope is w out. keeps_here scope (from + length rest.instructions) rest.entry here is w))
 
   pub forgets_fit : (f : Option Forget) (here to : Option VarId) (Outside : ScopeAt → Type 0) (from next : ℕ) → GoesBack here to f
@@ -91,24 +93,22 @@ module _ (p : ProgramModel) (m : MethodModel) (well : IsWellFormed p.contracts p
         own = own_gone m f.outer (Some f.last) own;
       })
 
-  pub acts_fit : (action : Action) (exit again here : Option VarId) (x a from next : ℕ) → IsAction (around exit again here) action
-      → Grown m exit here → Grown m again here → here_fits (acts action x a) here here (Out exit again x a) from next
-  acts_fit does.Nothing exit again here x a from next wf ge ga =
-      nothing_fits p m (in_scope m here) (in_scope m here) (Out exit again x a) from next (λ v e. e)
-  acts_fit (does.Use u) exit again here x a from next wf ge ga =
-      one_fits p m (graph.Use u) (in_scope m here) (in_scope m here) (Out exit again x a) from next
+  action_fit : (action : Action) (exit again here : Option VarId) (x a from next : ℕ) → IsAction (around exit again here) action
+      → here_fits (one (graph.Act action)) here here (Out exit again x a) from next
+  action_fit (does.Use u) exit again here x a from next wf =
+      one_fits p m (graph.Act (does.Use u)) (in_scope m here) (in_scope m here) (Out exit again x a) from next
       (λ scope is w out. keeps_here scope from next here is w)
-  acts_fit (does.Delete u) exit again here x a from next wf ge ga =
-      one_fits p m (graph.Delete u) (in_scope m here) (in_scope m here) (Out exit again x a) from next
+  action_fit (does.Delete u) exit again here x a from next wf =
+      one_fits p m (graph.Act (does.Delete u)) (in_scope m here) (in_scope m here) (Out exit again x a) from next
       (λ scope is w out. keeps_here scope from next here is w)
-  acts_fit (does.Exchange e) exit again here x a from next wf ge ga =
+  action_fit (does.Exchange e) exit again here x a from next wf =
       let s = around exit again here in
       let v = some_there (slice_get m.variables e.holder.variable.0)
       (λ v. IsSomeAnd (slice_get (field_types p.structs v.ty) e.field) (λ k. Holds s k e.given.variable)) wf.1 in
       let k = some_there (slice_get (field_types p.structs v.0.ty) e.field) (λ k. Holds s k e.given.variable) v.2 in
       let g = of_type s k.0 e.given.variable k.2 in
       let in_here = inside exit again here e.given.variable (slice_get_within m.variables e.given.variable.0 g.variable g.there) wf.0 in
-      one_fits p m (graph.Exchange e) (in_scope m here) (in_scope m here) (Out exit again x a) from next
+      one_fits p m (graph.Act (does.Exchange e)) (in_scope m here) (in_scope m here) (Out exit again x a) from next
       (λ scope is w out. record {
         holder = v.0;
         holder_there = v.1;
@@ -118,12 +118,12 @@ module _ (p : ProgramModel) (m : MethodModel) (well : IsWellFormed p.contracts p
         in_scope = w e.given.variable.0 in_here;
         keeps = keeps_here scope from next here is w;
       })
-  acts_fit (does.Move target source) exit again here x a from next wf ge ga =
+  action_fit (does.Move target source) exit again here x a from next wf =
       let s = around exit again here in
       let t = some_there (slice_get m.variables target.variable.0) (λ v. Holds s v.ty source.variable) wf.1 in
       let k = of_type s t.0.ty source.variable t.2 in
       let in_here = inside exit again here target.variable (slice_get_within m.variables target.variable.0 t.0 t.1) wf.0 in
-      one_fits p m (graph.Move target source) (in_scope m here) (in_scope m here) (Out exit again x a) from next
+      one_fits p m (graph.Act (does.Move target source)) (in_scope m here) (in_scope m here) (Out exit again x a) from next
       (λ scope is w out. record {
         variable = k.variable;
         there = k.there;
@@ -131,7 +131,7 @@ module _ (p : ProgramModel) (m : MethodModel) (well : IsWellFormed p.contracts p
         in_scope = w target.variable.0 in_here;
         keeps = keeps_here scope from next here is w;
       })
-  acts_fit (does.NewChannel c) exit again here x a from next wf ge ga =
+  action_fit (does.NewChannel c) exit again here x a from next wf =
       let f =
       some_there (slice_get m.variables c.first.variable.0)
       (λ v. IsSomeAnd (slice_get m.variables c.second.variable.0) (λ w. are_ends c.contract.0 v.ty w.ty ≡ true)) wf.1
@@ -143,7 +143,7 @@ module _ (p : ProgramModel) (m : MethodModel) (well : IsWellFormed p.contracts p
       in
       let first_in = inside exit again here c.first.variable (slice_get_within m.variables c.first.variable.0 f.0 f.1) wf.0.0 in
       let second_in = inside exit again here c.second.variable (slice_get_within m.variables c.second.variable.0 g.0 g.1) wf.0.1 in
-      one_fits p m (graph.NewChannel c) (in_scope m here) (in_scope m here) (Out exit again x a) from next
+      one_fits p m (graph.Act (does.NewChannel c)) (in_scope m here) (in_scope m here) (Out exit again x a) from next
       (λ scope is w out. record {
         contract = h.0;
         contract_there = h.1;
@@ -156,13 +156,19 @@ module _ (p : ProgramModel) (m : MethodModel) (well : IsWellFormed p.contracts p
         second_scope = w c.second.variable.0 second_in;
         keeps = keeps_here scope from next here is w;
       })
-  acts_fit (does.Break f) exit again here x a from next wf ge ga =
+
+  pub effect_fit : (does : Effect) (exit again here : Option VarId) (x a from next : ℕ) → IsEffect (around exit again here) does
+      → Grown m exit here → Grown m again here → here_fits (lay_effect does x a) here here (Out exit again x a) from next
+  effect_fit effects.Nothing exit again here x a from next wf ge ga =
+      nothing_fits p m (in_scope m here) (in_scope m here) (Out exit again x a) from next (λ v e. e)
+  effect_fit (effects.Act action) exit again here x a from next wf ge ga = action_fit action exit again here x a from next wf
+  effect_fit (effects.Break f) exit again here x a from next wf ge ga =
       gone_fits p m x (forgets f) (in_scope m here) (in_scope m exit) (in_scope m here) (Out exit again x a) from next
       (λ scope out. out.0) (forgets_fit f here exit (Out exit again x a) from x wf ge)
-  acts_fit (does.Continue f) exit again here x a from next wf ge ga =
+  effect_fit (effects.Continue f) exit again here x a from next wf ge ga =
       gone_fits p m a (forgets f) (in_scope m here) (in_scope m again) (in_scope m here) (Out exit again x a) from next
       (λ scope out. out.1) (forgets_fit f here again (Out exit again x a) from a wf ga)
-  acts_fit (does.Return place value last) exit again here x a from next wf ge ga =
+  effect_fit (effects.Return place value last) exit again here x a from next wf ge ga =
       one_fits p m (λ next. graph.Return place value last) (in_scope m here) (in_scope m here) (Out exit again x a) from next
       (λ scope is w out. record {
         given = is_taken (around exit again here) m.result value wf.0;

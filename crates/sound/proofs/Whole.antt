@@ -4,7 +4,8 @@ use Rattle.std.proofs.lemmas.Option.{slice_get_within}
 use Rattle.std.specs.Prelude.{Option, slice_get, if◌then◌else◌, nat_lt}
 use Rattle.program.specs.Methods.{MethodModel}
 use Rattle.program.specs.Programs.{ProgramModel}
-use Rattle.flow.specs.Graphs.{Instruction, Use, New, Move, Delete, Exchange, NewChannel, Send, Switch, Branch, Forget, Call, Start}
+use Rattle.program.specs.declared.statement.Action.TheVariants.{Use, Move, Delete, Exchange, NewChannel}
+use Rattle.flow.specs.Graphs.{Instruction, Act, New, Send, Switch, Branch, Forget, Call, Start}
 use Rattle.flow.specs.Graphs.{Return, Stop}
 use Rattle.flow.specs.Lowering.{graph_of}
 use Rattle.contracts.specs.TwoEnds.{HeldAlways, NeverLonger}
@@ -88,17 +89,17 @@ good_instruction : HeldAlways → NeverLonger → (p : ProgramModel) (bound : Qu
     → ((n : ℕ) (x : MethodModel) → method_at p n ≡ Some x → IsClean p n)
     → (w : World) (self choice : ℕ) (f : Frame) (rest : List Frame) (m : MethodModel) (i : Instruction)
     → Here p w self f rest m i → ((h : IsGraphFit p m) → IsFit p m h.scope f.point i) → IsGood p w (outcome_from p bound w self f rest i choice)
-good_instruction always longer p bound sound graphs none w self choice f rest m (Use v next) h fit =
+good_instruction always longer p bound sound graphs none w self choice f rest m (Act (Use v) next) h fit =
     good_use p bound w self choice f rest m v next h
 good_instruction always longer p bound sound graphs none w self choice f rest m (New v arguments next) h fit =
     good_new p bound w self choice f rest m v arguments next h fit
-good_instruction always longer p bound sound graphs none w self choice f rest m (Move v u next) h fit =
+good_instruction always longer p bound sound graphs none w self choice f rest m (Act (Move v u) next) h fit =
     good_move p bound w self choice f rest m v u next h fit
-good_instruction always longer p bound sound graphs none w self choice f rest m (Delete v next) h fit =
+good_instruction always longer p bound sound graphs none w self choice f rest m (Act (Delete v) next) h fit =
     good_delete p bound w self choice f rest m v next h
-good_instruction always longer p bound sound graphs none w self choice f rest m (Exchange e next) h fit =
+good_instruction always longer p bound sound graphs none w self choice f rest m (Act (Exchange e) next) h fit =
     good_exchange p bound w self choice f rest m e next h fit
-good_instruction always longer p bound sound graphs none w self choice f rest m (NewChannel c next) h fit =
+good_instruction always longer p bound sound graphs none w self choice f rest m (Act (NewChannel c) next) h fit =
     good_channel p bound w self choice f rest m c next h (fit h.graph)
 good_instruction always longer p bound sound graphs none w self choice f rest m (Send place e message payloads next) h fit =
     good_send p bound w self choice f rest m longer sound place e message payloads next h (fit h.graph)

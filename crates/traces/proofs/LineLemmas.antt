@@ -1,6 +1,6 @@
 -- Lines of steps.
 use Rattle.std.proofs.Common.{◌≡◌, Bool, ℕ, zero, suc, ◌<◌, ◌≤◌, List, [], ◌∷◌, ◌++◌, Option, Some, None, length, get_or, drop, slice_get, refl, sym, ap, ◌∙◌, arith, codes, append_assoc, if◌then◌else◌}
-use Rattle.std.specs.List.{All, AllZip, flat_map, list_all}
+use Rattle.std.specs.List.{All, AllZip, list_all}
 use Rattle.std.proofs.lemmas.List.Elements.{All-cons, All-nil}
 use Rattle.std.proofs.lemmas.Option.{slice_get_within}
 use Rattle.std.proofs.lemmas.List.{drop_all, map-append}
@@ -8,40 +8,19 @@ use Rattle.program.specs.Methods.{MethodModel}
 use Rattle.program.specs.Programs.{ProgramModel}
 use Rattle.source.specs.declared.place.Place.{Place}
 use Rattle.flow.specs.Cases.{EntranceModel}
-use Rattle.flow.specs.Graphs.{Instruction, instruction_model}
+use Rattle.flow.specs.Graphs.{Instruction}
 use Rattle.flow.specs.Lowering.{graph_of}
-use Rattle.flow.specs.declared.graph.Instr.{Instr}
-use Rattle.flow.specs.declared.graph.Instr.TheVariants as instr
 use Rattle.program.specs.declared.statement.Mention.{Mention}
 use Rattle.rules.specs.Mentions.{name_of}
 use Rattle.rules.specs.Outcomes.{Pair}
-use Rattle.rows.specs.Rows.{leaf_at}
 use Rattle.rows.specs.declared.row.Leaf.{Leaf}
 use Rattle.rules.specs.Steps.{entry_of}
 use Rattle.analyse.specs.Fronts.{Visit}
 use Rattle.analyse.specs.Trails.{AreTrails}
 use Rattle.analyse.specs.declared.trail.Trails.{Trails}
 use Rattle.analyse.proofs.SearchLemmas.{view_at}
-use Rattle.traces.specs.Lines.{LineModel, came_at, case_line, case_lines, change, changes, choice, keeps, line, path_lines, step_lines, takes}
+use Rattle.traces.specs.Lines.{LineModel, came_at, case_line, case_lines, changes, changes_with, choice, keeps, line, move_in, path_lines, step_lines, takes}
 use Rattle.traces.specs.Steps.{first_place}
-
--- what an instruction that is no move changes
-pub changes_of_others : (p : ProgramModel) (m : MethodModel) (came : Place) (i : Instr) (watched : List ℕ) (before after : List Leaf) → ((target source : Mention) (next : ℕ) → i ≡ instr.Move target source next → ⊥)
-    → changes p m came (instruction_model i) watched before after ≡ flat_map (λ v. if keeps before after v then [] else change p m came (instruction_model i) v (leaf_at after v)) watched
-changes_of_others p m came (instr.Use at next) watched before after other = refl
-changes_of_others p m came (instr.New target arguments next) watched before after other = refl
-changes_of_others p m came (instr.Move target source next) watched before after other = absurd (other target source next refl)
-changes_of_others p m came (instr.Delete at next) watched before after other = refl
-changes_of_others p m came (instr.Exchange exchange next) watched before after other = refl
-changes_of_others p m came (instr.NewChannel channel next) watched before after other = refl
-changes_of_others p m came (instr.Send s) watched before after other = refl
-changes_of_others p m came (instr.Switch place cases) watched before after other = refl
-changes_of_others p m came (instr.Branch place branches) watched before after other = refl
-changes_of_others p m came (instr.Forget forget next) watched before after other = refl
-changes_of_others p m came (instr.Call c) watched before after other = refl
-changes_of_others p m came (instr.Start s) watched before after other = refl
-changes_of_others p m came (instr.Return r) watched before after other = refl
-changes_of_others p m came (instr.Stop place) watched before after other = refl
 
 module _ (p : ProgramModel) (m : MethodModel) where
   -- one more case
@@ -113,11 +92,16 @@ all_inside pairs (index ∷ places) [] zip = absurd zip
 all_inside pairs (index ∷ places) (x ∷ steps) zip = All-cons (λ index. index < length pairs) index places (slice_get_within pairs index x zip.0) (all_inside pairs places steps zip.1)
 
 -- what a move changes
-pub changes_of_move : (p : ProgramModel) (m : MethodModel) (came : Place) (i : Instr) (watched : List ℕ) (before after : List Leaf) (target source : Mention) (next : ℕ) (kept : Bool) → i ≡ instr.Move target source next → list_all (keeps before after) watched ≡ kept
-    → changes p m came (instruction_model i) watched before after ≡ (if kept then [] else (line target.place (takes (name_of m target.variable.0) (name_of m source.variable.0)) ∷ []))
-changes_of_move p m came i watched before after target source next kept is same =
-    ap (λ j. changes p m came (instruction_model j) watched before after) is
+pub changes_of_move : (p : ProgramModel) (m : MethodModel) (came : Place) (i : Instruction) (watched : List ℕ) (before after : List Leaf) (target source : Mention) (kept : Bool) → move_in i ≡ Some (target, source) → list_all (keeps before after) watched ≡ kept
+    → changes p m came i watched before after ≡ (if kept then [] else (line target.place (takes (name_of m target.variable.0) (name_of m source.variable.0)) ∷ []))
+changes_of_move p m came i watched before after target source kept is same =
+    ap (λ o. changes_with p m o came i watched before after) is
     ∙ ap (λ b. if b then [] else (line target.place (takes (name_of m target.variable.0) (name_of m source.variable.0)) ∷ [])) same
+
+-- this is no move
+pub no_move : (o : Option (Mention × Mention)) → ((move : Mention × Mention) → o ≡ Some move → ⊥) → o ≡ None
+no_move None other = refl
+no_move (Some move) other = absurd (other move refl)
 
 -- the first pair that was seen is the entry
 pub first_seen : (p : ProgramModel) (method : ℕ) (pairs : List Pair) (t : Trails) → AreTrails p method pairs t → slice_get pairs 0 ≡ Some (entry_of p method)

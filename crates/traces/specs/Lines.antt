@@ -14,7 +14,8 @@ use Rattle.program.specs.declared.statement.Awaited.TheVariants.{Message, Closed
 use Rattle.program.specs.declared.statement.Mention.{Mention}
 use Rattle.contracts.specs.Leaving.{end_on}
 use Rattle.flow.specs.Cases.{EntranceModel, first_mentions}
-use Rattle.flow.specs.Graphs.{Instruction, New, Move, Delete, Exchange, NewChannel, Send, Switch, Branch, Call, Start}
+use Rattle.program.specs.declared.statement.Action.TheVariants.{Move, Delete, Exchange, NewChannel}
+use Rattle.flow.specs.Graphs.{Instruction, Act, New, Send, Switch, Branch, Call, Start}
 use Rattle.flow.specs.Lowering.{graph_of}
 use Rattle.flow.specs.declared.graph.Branches.{Branches}
 use Rattle.flow.specs.declared.graph.Branches.TheVariants.{Either, Only}
@@ -57,6 +58,11 @@ state_name p (Some (Endpoint contract side state)) q =
     option_map_or (λ c. name_of_state c.parts q) (slice_get p.contracts contract.0) []
 state_name p _ q = []
 
+-- the target and the source of a move, if this is one
+abbrev pub move_in : Instruction → Option (Mention × Mention)
+move_in (Act (Move target source) next) = Some (target, source)
+move_in _ = None
+
 -- a variable has what it had
 abbrev pub keeps : (before after : List Leaf) → ℕ → Bool
 keeps before after v = same_leaf.it (leaf_at before v) (leaf_at after v)
@@ -76,9 +82,9 @@ module _ (p : ProgramModel) (m : MethodModel) where
   abbrev pub change : (came : Place) → Instruction → ℕ → Leaf → List LineModel
   change came (New at arguments next) v Nothing = line at.place (takes (name at) (name_of m v)) ∷ []
   change came (New at arguments next) v leaf = line at.place (name_of m v ++ codes " new") ∷ []
-  change came (Delete at next) v leaf = line at.place (name_of m v ++ codes " deleted") ∷ []
-  change came (Exchange e next) v leaf = line e.place (has v leaf) ∷ []
-  change came (NewChannel c next) v leaf = line c.place (has v leaf) ∷ []
+  change came (Act (Delete at) next) v leaf = line at.place (name_of m v ++ codes " deleted") ∷ []
+  change came (Act (Exchange e) next) v leaf = line e.place (has v leaf) ∷ []
+  change came (Act (NewChannel c) next) v leaf = line c.place (has v leaf) ∷ []
   change came (Send place e message payloads next) v Nothing =
       line place (name_of m v
       ++ (codes " sent as " ++ (message_name p (type_of m e.variable.0) message.0 ++ (codes " on " ++ name e)))) ∷ []
@@ -89,12 +95,16 @@ module _ (p : ProgramModel) (m : MethodModel) where
   change came (Start place method arguments next) v leaf = line place (takes (codes "the process") (name_of m v)) ∷ []
   change came _ v leaf = []
 
-  -- A line for each watched variable that has something else behind the instruction; but one for a move, which changes two.
-  abbrev pub changes : (came : Place) → Instruction → (watched : List ℕ) → (before after : List Leaf) → List LineModel
-  changes came (Move target source next) watched before after =
+  -- a line for each watched variable that has something else behind the instruction; but one for a move, which changes two
+  abbrev pub changes_with : Option (Mention × Mention) → (came : Place) → Instruction → (watched : List ℕ) → (before after : List Leaf)
+      → List LineModel
+  changes_with (Some (target, source)) came instruction watched before after =
       if list_all (keeps before after) watched then [] else (line target.place (takes (name target) (name source)) ∷ [])
-  changes came instruction watched before after =
+  changes_with None came instruction watched before after =
       flat_map (λ v. if keeps before after v then [] else change came instruction v (leaf_at after v)) watched
+
+  abbrev pub changes : (came : Place) → Instruction → (watched : List ℕ) → (before after : List Leaf) → List LineModel
+  changes came instruction = changes_with (move_in instruction) came instruction
 
   -- what an endpoint has behind what is awaited there
   abbrev pub awaited_leaf : ℕ → Awaited → Leaf → Leaf

@@ -35,10 +35,8 @@ impl Teller<'_> {
                 self.add_branch(*place, *branches, step.next, lines)?;
             }
             Instr::Switch { place, cases } => return self.add_cases(*place, cases, step, lines),
-            Instr::Use { .. } | Instr::New { .. } | Instr::NewChannel { .. } => {}
-            Instr::Move { .. } | Instr::Delete { .. } | Instr::Exchange { .. } => {}
-            Instr::Forget { .. } | Instr::Send(_) | Instr::Call(_) | Instr::Start(_) => {}
-            Instr::Return(_) | Instr::Stop { .. } => {}
+            Instr::Act { .. } | Instr::New { .. } | Instr::Forget { .. } | Instr::Send(_) => {}
+            Instr::Call(_) | Instr::Start(_) | Instr::Return(_) | Instr::Stop { .. } => {}
         }
         Ok(self.method.close)
     }

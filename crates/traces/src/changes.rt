@@ -13,7 +13,7 @@ use crate::line::{Line, line_of};
 use crate::step::PathStep;
 use crate::teller::Teller;
 use flow::{Instr, Sending};
-use program::{Mention, VarId};
+use program::{Action, Mention, VarId};
 use rules::{Leaf, Row};
 use source::{Memory, Place};
 
@@ -24,6 +24,22 @@ pub(crate) fn leaf_of(leaves: &[Leaf], variable: VarId) -> Leaf
     match leaves.get(variable.0) {
         Some(leaf) => *leaf,
         None => Leaf::Nothing,
+    }
+}
+
+/// The target and the source of a move, if this is one.
+fn move_in(instr: &Instr) -> Option<(Mention, Mention)>
+    ensures { result ≡ told.move_in (instruction_model instr.now) }
+{
+    match instr {
+        Instr::Act { action, .. } => match action {
+            Action::Move { target, source } => Some((*target, *source)),
+            Action::Use(_) | Action::Delete(_) => None,
+            Action::Exchange(_) | Action::NewChannel(_) => None,
+        },
+        Instr::New { .. } | Instr::Send(_) | Instr::Switch { .. } | Instr::Branch { .. } => None,
+        Instr::Forget { .. } | Instr::Call(_) | Instr::Start(_) => None,
+        Instr::Return(_) | Instr::Stop { .. } => None,
     }
 }
 
@@ -133,15 +149,18 @@ impl Teller<'_> {
         let name = self.name_of(variable);
         let line = match instr {
             Instr::New { target, .. } => self.line_of_new(*target, variable, leaf)?,
-            Instr::Delete { at, .. } => line_of(self.alloc, at.place, name, b" deleted", b"")?,
-            Instr::Exchange { exchange, .. } => self.has(exchange.place, variable, leaf)?,
-            Instr::NewChannel { channel, .. } => self.has(channel.place, variable, leaf)?,
+            Instr::Act { action, .. } => match action {
+                Action::Delete(at) => line_of(self.alloc, at.place, name, b" deleted", b"")?,
+                Action::Exchange(exchange) => self.has(exchange.place, variable, leaf)?,
+                Action::NewChannel(channel) => self.has(channel.place, variable, leaf)?,
+                Action::Use(_) | Action::Move { .. } => return Ok(()),
+            },
             Instr::Send(sending) => self.line_of_send(sending, variable, leaf)?,
             Instr::Switch { .. } => self.has(came, variable, leaf)?,
             Instr::Call(calling) => self.line_of_call(calling.place, variable, leaf)?,
             Instr::Start(starting) => self.takes(starting.place, b"the process", name)?,
-            Instr::Use { .. } | Instr::Move { .. } | Instr::Branch { .. } => return Ok(()),
-            Instr::Forget { .. } | Instr::Return(_) | Instr::Stop { .. } => return Ok(()),
+            Instr::Branch { .. } | Instr::Forget { .. } => return Ok(()),
+            Instr::Return(_) | Instr::Stop { .. } => return Ok(()),
         };
         lines.push(line)?;
         Ok(())
@@ -161,7 +180,7 @@ impl Teller<'_> {
             (instruction_model instr.now) (map (λ v. v.0) watched.now) (step_before step.now).1
             (step_after step.now).1) }
     {
-        if let Instr::Move { target, source, .. } = instr {
+        if let Some((target, source)) = move_in(instr) {
             if !step.keeps_all(watched) {
                 let target_name = self.name_of(target.variable);
                 let source_name = self.name_of(source.variable);

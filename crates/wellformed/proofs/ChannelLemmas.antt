@@ -1,7 +1,6 @@
 -- New channels with which nothing is wrong.
 use Rattle.std.proofs.Common.{◌≡◌, ℕ, eq-eqb, ◌==◌, ◌&&◌, ◌||◌, Bool, true, false, not, [], ◌++◌, sym, refl, ap, ◌∙◌, subst}
 use Rattle.std.proofs.lemmas.Bool.{eqb-true}
-use Rattle.std.specs.Option.{option_map_or}
 use Rattle.std.specs.Prelude.{Option, None, Some, option_map, option_and_then, slice_get, IsSomeAnd}
 use Rattle.source.specs.declared.token.Span.{Span}
 use Rattle.tree.specs.Trees.{ClassTree, ContractTree}
@@ -19,12 +18,11 @@ use Rattle.declarations.specs.declared.value_type as declared
 use Rattle.declarations.specs.declared.value_type.ValueType.TheVariants as ty
 use Rattle.program.specs.declared.types.HeapType.{HeapType}
 use Rattle.program.specs.declared.types.HeapType.TheVariants.{Endpoint}
-use Rattle.program.specs.declared.statement.Action.TheVariants as does
 use Rattle.resolving.specs.Types.{contract_named, contract_number, number_at}
 use Rattle.resolving.specs.Locals.{number_of, LocalFrame, mention, mention_of}
-use Rattle.resolving.specs.Plain.{channel_or_nothing, channel_action, ends_of}
+use Rattle.resolving.specs.Plain.{channel_or_nothing, channel_action, effect_of, ends_of}
 use Rattle.program.specs.Scopes.{IsInScope}
-use Rattle.program.specs.WellFormed.{IsAction, Setting, are_ends}
+use Rattle.program.specs.WellFormed.{IsEffect, Setting, are_ends}
 use Rattle.wellformed.proofs.ContractLemmas.{contract_is_at}
 use Rattle.wellformed.proofs.FindingLemmas.{unless_none}
 use Rattle.wellformed.proofs.MentionLemmas.{block_mentioned, held_known}
@@ -77,7 +75,7 @@ channel_contract p contract c side named known =
 
 found_fits : (p : ProgramText) (class : ℕ) (s : Setting) (f : LocalFrame) (g : names.NameFrame) (n : made.NewChannel.NewChannel) (c : Numbered ContractTree) → items.contract_named p n.contract ≡ Some c
     → s.scope ≡ last_of f → AreStanding p s.variables f g → variable_mistakes (scope_of p g) n.first ≡ [] → variable_mistakes (scope_of p g) n.second ≡ []
-    → ends_mistakes c.0 (variable_type (variable_of (scope_of p g) n.first)) (variable_type (variable_of (scope_of p g) n.second)) n.first n.second ≡ [] → IsAction s (channel_or_nothing p class f n)
+    → ends_mistakes c.0 (variable_type (variable_of (scope_of p g) n.first)) (variable_type (variable_of (scope_of p g) n.second)) n.first n.second ≡ [] → IsEffect s (channel_or_nothing p class f n)
 found_fits p class s f g n c named here standing first second none =
     let a = variable_type (variable_of (scope_of p g) n.first) in
     let b = variable_type (variable_of (scope_of p g) n.second) in
@@ -101,7 +99,7 @@ found_fits p class s f g n c named here standing first second none =
     ap (option_and_then (λ m. option_map (ends_of p class f n.word.place (contract_number p c.0) m) (mention p.text f.locals n.second))) v.is
     ∙ ap (option_map (ends_of p class f n.word.place (contract_number p c.0) (mention_of n.first v.number))) w.is in
     let found = ap (option_and_then (channel_action p class f n)) contract ∙ mentions in
-    subst (λ o. IsAction s (option_map_or (λ x. x) o does.Nothing)) (sym found) (
+    subst (λ o. IsEffect s (effect_of o)) (sym found) (
       (subst (λ o. IsInScope s.variables o (number_of v.number)) (sym here) v.inside, subst (λ o. IsInScope s.variables o (number_of w.number)) (sym here) w.inside),
       subst (λ o. IsSomeAnd o (λ x. IsSomeAnd (slice_get s.variables w.number) (λ y. are_ends (contract_number p c.0).0 x.ty y.ty ≡ true))) (sym v.there)
           (subst (λ o. IsSomeAnd o (λ y. are_ends (contract_number p c.0).0 v.variable.ty y.ty ≡ true)) (sym w.there) ends),
@@ -109,13 +107,13 @@ found_fits p class s f g n c named here standing first second none =
 
 named_fits : (p : ProgramText) (class : ℕ) (s : Setting) (f : LocalFrame) (g : names.NameFrame) (n : made.NewChannel.NewChannel) (o : Option (Numbered ContractTree)) → items.contract_named p n.contract ≡ o
     → s.scope ≡ last_of f → AreStanding p s.variables f g → variable_mistakes (scope_of p g) n.first ≡ [] → variable_mistakes (scope_of p g) n.second ≡ []
-    → new_ends_mistakes (scope_of p g) o n.contract n.first n.second ≡ [] → IsAction s (channel_or_nothing p class f n)
+    → new_ends_mistakes (scope_of p g) o n.contract n.first n.second ≡ [] → IsEffect s (channel_or_nothing p class f n)
 named_fits p class s f g n None named here standing first second none = cc
 named_fits p class s f g n (Some c) named here standing first second none = found_fits p class s f g n c named here standing first second none
 
 -- a new channel
 pub channel_fits : (p : ProgramText) (t : ClassTree) (class : ℕ) (result : Option type_nodes.Type.Type) (s : Setting) (f : LocalFrame) (g : names.NameFrame) (n : made.NewChannel.NewChannel)
-    → Around p t class result s → s.scope ≡ last_of f → AreStanding p s.variables f g → channel_mistakes (scope_of p g) n.contract n.first n.second ≡ [] → IsAction s (channel_or_nothing p class f n)
+    → Around p t class result s → s.scope ≡ last_of f → AreStanding p s.variables f g → channel_mistakes (scope_of p g) n.contract n.first n.second ≡ [] → IsEffect s (channel_or_nothing p class f n)
 channel_fits p t class result s f g n around here standing none =
     let named = items.contract_named p n.contract in
     let ends = new_ends_mistakes (scope_of p g) named n.contract n.first n.second in

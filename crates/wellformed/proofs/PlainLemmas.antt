@@ -31,7 +31,7 @@ use Rattle.resolving.specs.Plain.{assign_statement, delete_of, first_value, fram
 use Rattle.resolving.specs.Reads.{mention_list, reads}
 use Rattle.program.specs.Lists.{Each}
 use Rattle.program.specs.Scopes.{IsInScope}
-use Rattle.program.specs.WellFormed.{IsAction, IsMention, IsStatement, Setting}
+use Rattle.program.specs.WellFormed.{IsEffect, IsMention, IsStatement, Setting}
 use Rattle.wellformed.proofs.ExpressionLemmas.{element_scalar, expression_scalar, field_scalar, reads_within}
 use Rattle.wellformed.proofs.MentionLemmas.{block_mentioned, held_known, mention_within, scalar_not_mentioned}
 use Rattle.wellformed.proofs.HeapTypeLemmas.{held_as, known_certain, type_known}
@@ -118,9 +118,9 @@ pub declare_fits : (p : ProgramText) (t : ClassTree) (class : ℕ) (result : Opt
     → IsStatement s (first_value p class f d.name (next_number (type_held p d.ty) f) d.value)
 declare_fits p t class result s f g d here around standing within known none = value_fits p t class result s f g d d.value here around standing within known none
 
-deleted_fits : (s : Setting) (o : Option Mention) → Each (IsMention s) (mention_list o) → IsAction s (delete_of o)
+deleted_fits : (s : Setting) (o : Option Mention) → Each (IsMention s) (mention_list o) → IsEffect s (delete_of o)
 deleted_fits s None within = tt
 deleted_fits s (Some m) within = within.0
 
-pub delete_fits : (p : ProgramText) (s : Setting) (f : LocalFrame) (g : names.NameFrame) → AreStanding p s.variables f g → (name : Span) → IsAction s (delete_of (mention p.text f.locals name))
+pub delete_fits : (p : ProgramText) (s : Setting) (f : LocalFrame) (g : names.NameFrame) → AreStanding p s.variables f g → (name : Span) → IsEffect s (delete_of (mention p.text f.locals name))
 delete_fits p s f g standing name = deleted_fits s (mention p.text f.locals name) (name_mentioned p s f g standing name)

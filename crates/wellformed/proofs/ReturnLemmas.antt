@@ -19,7 +19,7 @@ use Rattle.names.specs.Shapes.{shape}
 use Rattle.declarations.specs.Owning.{any_lent, can_start}
 use Rattle.names.specs.Variables as names
 use Rattle.program.specs.Statements as seen
-use Rattle.program.specs.declared.statement.Action.TheVariants as does
+use Rattle.program.specs.declared.statement.Effect.TheVariants as effects
 use Rattle.resolving.specs.Types.{result_held, state_in, type_held}
 use Rattle.resolving.specs.Locals.{LocalFrame}
 use Rattle.resolving.specs.Methods.{method_told}
@@ -66,7 +66,7 @@ start_fits p t class result s f g c word around standing none =
     let free = both_not (is_some x.method.result) (any_lent x.method.params) x.fits in
     let call = call_of_fits p t class result s f g c None [] (λ m. can_start m ≡ true) around standing x (subst (λ o. IsTaken s o None) (sym (void_gives p x.method.result free.0)) tt, tt) tt in
     let starts : IsStartOf s (call_of p class f c None [] (record { number = x.number; method = x.method })) (method_told p x.told.class x.method) = record { call = call; void = free.0; claimed = all_claimed p x.told.class x.method (parameters_clean p x.method x.number around.clean x.told) free.1 } in
-    subst (λ o. IsStatement s (option_map_or seen.Start (option_map (call_of p class f c None []) o) (simple_of [] does.Nothing))) (sym x.is)
+    subst (λ o. IsStatement s (option_map_or seen.Start (option_map (call_of p class f c None []) o) (simple_of [] effects.Nothing))) (sym x.is)
     (subst (λ o. IsSomeAnd o (IsStartOf s (call_of p class f c None [] (record { number = x.number; method = x.method })))) (sym (method_there p t class result s x.method x.number around x.told)) starts)
 
 -- a return of nothing

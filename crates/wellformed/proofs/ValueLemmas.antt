@@ -24,7 +24,7 @@ use Rattle.program.specs.declared.types.HeapType.{HeapType}
 use Rattle.program.specs.declared.types.Scalar.{Scalar}
 use Rattle.program.specs.Methods.{VariableModel}
 use Rattle.program.specs.Statements.{Call}
-use Rattle.program.specs.declared.statement.Action.TheVariants as does
+use Rattle.program.specs.declared.statement.Effect.TheVariants as effects
 use Rattle.program.specs.declared.statement.Mention.{Mention}
 use Rattle.resolving.specs.Counts.{structs_before}
 use Rattle.resolving.specs.Fields.{fields_held, structs_told}
@@ -33,7 +33,7 @@ use Rattle.resolving.specs.Locals.{LocalFrame}
 use Rattle.resolving.specs.Plain.{call_of, call_statement, lone, made_arguments, made_reads, move_of, new_of, part_taken, payloads, scalar_taken, take_statement, simple_of, use_of}
 use Rattle.resolving.specs.Reads.{mention_list, reads}
 use Rattle.program.specs.Lists.{Each}
-use Rattle.program.specs.WellFormed.{HoldAll, Holds, IsAction, IsIn, IsMention, IsNew, IsStatement, IsTaken, Setting, field_types, is_end}
+use Rattle.program.specs.WellFormed.{HoldAll, Holds, IsEffect, IsIn, IsMention, IsNew, IsStatement, IsTaken, Setting, field_types, is_end}
 use Rattle.wellformed.proofs.ArgumentLemmas.{asked_block, asked_known, holds_there, payloads_given}
 use Rattle.wellformed.proofs.CallLemmas.{CallsMethod, call_fits, call_means}
 use Rattle.wellformed.proofs.ExpressionLemmas.{reads_within}
@@ -97,7 +97,7 @@ alone_result p (Some t) fits = scalar_holds p (type_meant p t) (state_in t) (not
 -- a call of a method, told
 pub told_call : (p : ProgramText) (class : ℕ) (s : Setting) (f : LocalFrame) (g : names.NameFrame) (c : CallTree) (target : Option Mention) (behind : List Mention) (Is : MethodTree → Type 0) → (x : CallsMethod p class f g Is c)
     → IsStatement s (Call (call_of p class f c target behind (record { number = x.number; method = x.method }))) → IsStatement s (call_statement p class f c target behind)
-told_call p class s f g c target behind Is x fits = subst (λ o. IsStatement s (option_map_or Call (option_map (call_of p class f c target behind) o) (simple_of [] does.Nothing))) (sym x.is) fits
+told_call p class s f g c target behind Is x fits = subst (λ o. IsStatement s (option_map_or Call (option_map (call_of p class f c target behind) o) (simple_of [] effects.Nothing))) (sym x.is) fits
 
 -- a call whose result no variable takes
 pub void_call : (p : ProgramText) (t : ClassTree) (class : ℕ) (result : Option tree.Type.Type) (s : Setting) (f : LocalFrame) (g : names.NameFrame) (c : CallTree) (behind : List Mention) (Is : MethodTree → Type 0)
@@ -125,9 +125,9 @@ made_within p class s f g standing (values.Struct name left given) = tt
 made_within p class s f g standing (values.Array element length) = reads_within p s.variables f g standing length
 
 move_fits : (s : Setting) (target : Mention) (v : VariableModel) (o : Option Mention) (source : Mention) → o ≡ Some source → slice_get s.variables target.variable.0 ≡ Some v → Holds s v.ty source.variable
-    → IsIn s target.variable → IsAction s (move_of target o)
+    → IsIn s target.variable → IsEffect s (move_of target o)
 move_fits s target v o source is there holds inside =
-    subst (λ x. IsAction s (move_of target x)) (sym is) (inside, subst (λ x. IsSomeAnd x (λ w. Holds s w.ty source.variable)) (sym there) holds)
+    subst (λ x. IsEffect s (move_of target x)) (sym is) (inside, subst (λ x. IsSomeAnd x (λ w. Holds s w.ty source.variable)) (sym there) holds)
 
 -- what takes a new block is no end of a channel, and what is given is of the types that the block has in its fields that own
 abbrev pub IsMade : Setting → HeapType → List Mention → Type 0
@@ -211,7 +211,7 @@ scalar_taken_fits p t class result s f g k (values.Call c) around standing known
     void_call p t class result s f g c [] _ around standing x (scalar_result p k x.method.result (result_clean p x.method x.number around.clean x.told) known scalar x.fits) tt
 scalar_taken_fits p t class result s f g k (values.New n) around standing known scalar none = (made_within p class s f g standing n.made, tt)
 
-use_fits : (s : Setting) (o : Option Mention) → Each (IsMention s) (mention_list o) → IsAction s (use_of o)
+use_fits : (s : Setting) (o : Option Mention) → Each (IsMention s) (mention_list o) → IsEffect s (use_of o)
 use_fits s None h = tt
 use_fits s (Some m) h = h.0
 

@@ -7,7 +7,8 @@ use Rattle.program.specs.Methods.{MethodModel}
 use Rattle.program.specs.Programs.{ProgramModel}
 use Rattle.program.specs.WellFormed.{is_end}
 use Rattle.program.specs.declared.statement.Mention.{Mention}
-use Rattle.flow.specs.Graphs.{Delete}
+use Rattle.program.specs.declared.statement.Action.TheVariants.{Delete}
+use Rattle.flow.specs.Graphs.{Act}
 use Rattle.rules.specs.Mentions.{is_lent, require_owned, require_not_lent}
 use Rattle.rows.specs.Rows.{is_owned}
 use Rattle.rows.specs.declared.row.Leaf.TheVariants as leaf
@@ -220,7 +221,7 @@ module _ (p : ProgramModel) (w : World) (self : ℕ) (h : BlocksFit p w.blocks) 
 
 pub good_delete : (p : ProgramModel) (bound : QueueBounds) (w : World) (self choice : ℕ) (f : Frame) (rest : List Frame) (m : MethodModel)
     (v : Mention) (next : ℕ)
-    → Here p w self f rest m (Delete v next) → IsGood p w (outcome_from p bound w self f rest (Delete v next) choice)
+    → Here p w self f rest m (Act (Delete v) next) → IsGood p w (outcome_from p bound w self f rest (Act (Delete v) next) choice)
 good_delete p bound w self choice f rest m v next h =
     let row' = set h.row v.variable.0 leaf.Nothing in
     let vs' = set f.variables v.variable.0 None in

@@ -7,7 +7,8 @@ use Rattle.program.specs.WellFormed.{field_types}
 use Rattle.program.specs.declared.types.HeapType.{HeapType}
 use Rattle.program.specs.declared.types.HeapType.TheVariants.{Struct, Array, Endpoint}
 use Rattle.program.specs.declared.statement.Exchange as stated
-use Rattle.flow.specs.Graphs.{Exchange}
+use Rattle.program.specs.declared.statement.Action.TheVariants.{Exchange}
+use Rattle.flow.specs.Graphs.{Act}
 use Rattle.rules.specs.Arguments.{field_checks, payload}
 use Rattle.rules.specs.Endpoints.{declared_leaf, field_of, is_wrong}
 use Rattle.rules.specs.Mentions.{require_owned, require_another, is_lent}
@@ -61,9 +62,9 @@ still_holds bs self taken x owned apart =
     and_one false = refl
 
 pub good_exchange : (p : ProgramModel) (bound : QueueBounds) (w : World) (self choice : ℕ) (f : Frame) (rest : List Frame) (m : MethodModel)
-    (e : stated.Exchange) (next : ℕ) → Here p w self f rest m (Exchange e next)
+    (e : stated.Exchange) (next : ℕ) → Here p w self f rest m (Act (Exchange e) next)
     → ((h : IsGraphFit p m) → IsExchangeFit p m h.scope f.point e next)
-    → IsGood p w (outcome_from p bound w self f rest (Exchange e next) choice)
+    → IsGood p w (outcome_from p bound w self f rest (Act (Exchange e) next) choice)
 good_exchange p bound w self choice f rest m e next h fit =
     let vs = f.variables in
     let hv = e.holder.variable.0 in

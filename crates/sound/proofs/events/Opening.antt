@@ -14,7 +14,8 @@ use Rattle.program.specs.declared.types.HeapType.{HeapType}
 use Rattle.program.specs.declared.types.Side.TheVariants.{Imp, Exp}
 use Rattle.program.specs.declared.types.Side.{Side}
 use Rattle.program.specs.declared.statement.Channel as made
-use Rattle.flow.specs.Graphs.{NewChannel}
+use Rattle.program.specs.declared.statement.Action.TheVariants.{NewChannel}
+use Rattle.flow.specs.Graphs.{Act}
 use Rattle.rules.specs.Endpoints.{first_state}
 use Rattle.rules.specs.Mentions.{is_lent, require_empty, require_not_lent}
 use Rattle.rules.specs.Outcomes.{Check}
@@ -83,7 +84,7 @@ imp_of c Exp = refl
 
 module _ (p : ProgramModel) (bound : QueueBounds) (w : World) (self choice : ℕ) (f : Frame) (rest : List Frame) (m : MethodModel)
     (c : made.Channel) (next : ℕ)
-    (h : Here p w self f rest m (NewChannel c next)) (fit : IsChannelFit p m h.graph.scope f.point c next) where
+    (h : Here p w self f rest m (Act (NewChannel c) next)) (fit : IsChannelFit p m h.graph.scope f.point c next) where
   abbrev n : ℕ
   n = length w.blocks
 
@@ -233,7 +234,7 @@ module _ (p : ProgramModel) (bound : QueueBounds) (w : World) (self choice : ℕ
   by_side Exp e1 e2 = pair_good (n + 1) n apart (leaf_two fit.first.ty e1) (leaf_one fit.second.ty e2)
       (λ a. let k = two_counts a in omega arith)
 
-  pub good_channel : IsGood p w (outcome_from p bound w self f rest (NewChannel c next) choice)
+  pub good_channel : IsGood p w (outcome_from p bound w self f rest (Act (NewChannel c) next) choice)
   good_channel = subst (λ (b : Bool). IsGood p w (Moved
       (on_world w self f next (set (set f.variables v1 (Some (if b then n else n + 1))) v2 (Some (if b then n + 1 else n))) rest bs')))
       (sym (ap is_imp (type_of_variable p f.method m v1 fit.first h.there fit.first_there)

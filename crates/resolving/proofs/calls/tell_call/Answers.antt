@@ -4,7 +4,7 @@ use Rattle.tree.specs.Values.{call_tree}
 use Rattle.program.specs.Statements as seen
 use Rattle.program.specs.Statements.{call_model}
 use Rattle.program.specs.declared.call.Call.{Call}
-use Rattle.program.specs.declared.statement.Action.TheVariants.{Nothing}
+use Rattle.program.specs.declared.statement.Effect.TheVariants.{Nothing}
 use Rattle.resolving.specs.Around.{program_in}
 use Rattle.resolving.specs.Plain.{simple_of, call_told}
 use Rattle.resolving.proofs.FormTwins.{called_is}

@@ -6,7 +6,7 @@ use Rattle.tree.specs.declared.statement as made
 use Rattle.resolving.specs.Around.{program_in}
 use Rattle.resolving.specs.Types.{type_held}
 use Rattle.resolving.specs.Locals.{next_number}
-use Rattle.resolving.specs.Plain.{simple_of, stated_call, start_statement, first_value, write_statement, channel_or_nothing, exchange_or_nothing, return_statement, plain_told}
+use Rattle.resolving.specs.Plain.{effect_of, simple_of, stated_call, start_statement, first_value, write_statement, channel_or_nothing, exchange_or_nothing, return_statement, plain_told}
 use Rattle.tree.proofs.StatementTwins.{of_declare, of_assign, of_call, of_start, of_channel, of_exchange, of_return}
 use Rattle.resolving.proofs.PlainLemmas.{told_as}
 use Rattle.resolving.proofs.plain.tell_plain.Goals as goal
@@ -53,14 +53,14 @@ pub returns-in-Exchange : goal.returns-in-Exchange
 returns-in-Exchange c = λ items own around. record {
   all = λ f frame.
       let p = program_in c.args.text.now items in
-      c.unread-in-Exchange.ensures ∙ ap (simple_of []) (c.exchange_action.ensures items own f around frame) ∙ ap (λ e. simple_of [] (exchange_or_nothing p own f e)) c.deref-in-Exchange.ensures ∙ ap (plain_told p own f) (sym (ap statement_tree c.in-Exchange.is ∙ of_exchange c.in-Exchange.exchange));
+      c.statement_of.ensures ∙ ap (λ a. simple_of [] (effect_of a)) (c.exchange_of.ensures items own f around frame) ∙ ap (λ e. simple_of [] (exchange_or_nothing p own f e)) c.deref-in-Exchange.ensures ∙ ap (plain_told p own f) (sym (ap statement_tree c.in-Exchange.is ∙ of_exchange c.in-Exchange.exchange));
 }
 
 pub returns-in-NewChannel : goal.returns-in-NewChannel
 returns-in-NewChannel c = λ items own around. record {
   all = λ f frame.
       let p = program_in c.args.text.now items in
-      c.unread-in-NewChannel.ensures ∙ ap (simple_of []) (c.channel_action.ensures items own f around frame) ∙ ap (λ n. simple_of [] (channel_or_nothing p own f n)) c.deref-in-NewChannel.ensures ∙ ap (plain_told p own f) (sym (ap statement_tree c.in-NewChannel.is ∙ of_channel c.in-NewChannel.channel));
+      c.statement_of-in-NewChannel.ensures ∙ ap (λ a. simple_of [] (effect_of a)) (c.channel_of.ensures items own f around frame) ∙ ap (λ n. simple_of [] (channel_or_nothing p own f n)) c.deref-in-NewChannel.ensures ∙ ap (plain_told p own f) (sym (ap statement_tree c.in-NewChannel.is ∙ of_channel c.in-NewChannel.channel));
 }
 
 pub returns-in-Return : goal.returns-in-Return

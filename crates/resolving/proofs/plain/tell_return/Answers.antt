@@ -5,7 +5,7 @@ use Rattle.resolving.specs.Around.{program_in}
 use Rattle.resolving.specs.Steps.{TellsStatement}
 use Rattle.resolving.specs.Plain.{return_statement, simple_of}
 use Rattle.resolving.specs.Reads.{reads}
-use Rattle.program.specs.declared.statement.Action.TheVariants.{Return}
+use Rattle.program.specs.declared.statement.Effect.TheVariants.{Return}
 use Rattle.resolving.proofs.PlainLemmas.{returned_told}
 use Rattle.resolving.proofs.plain.tell_return.Goals as goal
 

@@ -2,7 +2,7 @@ use Rattle.std.proofs.Common.{sym, ap, ◌∙◌, ◌++◌, [], None}
 use Rattle.tree.specs.Values as values
 use Rattle.tree.specs.Values.{call_tree, value_tree, made_tree, new_tree}
 use Rattle.tree.specs.declared.value.Value.{Value}
-use Rattle.program.specs.declared.statement.Action.TheVariants.{Nothing}
+use Rattle.program.specs.declared.statement.Effect.TheVariants.{Nothing}
 use Rattle.resolving.specs.Around.{program_in}
 use Rattle.resolving.specs.Plain.{simple_of, call_statement, made_reads, scalar_taken}
 use Rattle.resolving.proofs.PlainLemmas.{told_as}

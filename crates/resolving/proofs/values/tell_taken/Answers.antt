@@ -12,7 +12,7 @@ pub returns-in-Expression : goal.returns-in-Expression
 returns-in-Expression c = λ items own around. record {
   all = λ f frame.
       let p = program_in c.args.text.now items in
-      c.unread.ensures ∙ ap (simple_of []) (c.move_action.ensures ∙ ap (move_of c.args.target) (c.alone-source.ensures items own f frame))
+      c.unread.ensures ∙ ap (simple_of []) (c.move_effect.ensures ∙ ap (move_of c.args.target) (c.alone-source.ensures items own f frame))
       ∙ ap (λ (v : Value). take_statement p own f c.args.target (value_tree v)) (sym c.in-Expression.is);
 }
 

@@ -1,34 +1,31 @@
 use Rattle.std.proofs.Common.{◌≡◌, List, Ok, ap, ◌∙◌, map, refl, set, subst, sym}
 use Rattle.std.specs.Vec.{with_item}
 use Rattle.program.specs.declared.statement.Mention.{Mention}
-use Rattle.flow.specs.Graphs.{Branch, Delete, Exchange, Forget, Move, New, NewChannel, Return, Stop, Switch, Use, cases_model, instruction_model}
+use Rattle.flow.specs.Graphs.{Act, Branch, Forget, New, Return, Stop, Switch, cases_model, instruction_model}
 use Rattle.flow.specs.declared.graph.Instr.TheVariants as made
 use Rattle.rules.specs.Programs.{model_of}
 use Rattle.machine.specs.Answers.{Tells, on_stack}
-use Rattle.machine.specs.Machine.{outcome_from}
 use Rattle.machine.specs.Views.{blocks_model, frame_model, stack_model, world_model}
 use Rattle.machine.specs.World.{Frame, stack_at}
 use Rattle.machine.specs.declared.worlds as worlds
-use Rattle.machine.proofs.StepLemmas.{frame_read, frame_same, frame_tells, same_blocks, one_choice, slice_tells, stack_same, stack_tells, tells_at, the_world, with_top}
+use Rattle.machine.proofs.StepLemmas.{frame_read, frame_same, frame_tells, same_blocks, one_choice, stack_same, stack_tells, tells_at, the_world, with_top}
 use Rattle.machine.proofs.worlds.World.run.Goals as goal
 
-pub returns-in-Use-clause-tells : goal.returns-in-Use-clause-tells
-returns-in-Use-clause-tells c = λ bound are.
+pub returns-in-Act-clause-tells : goal.returns-in-Act-clause-tells
+returns-in-Act-clause-tells c = λ bound are.
     let p = model_of c.args.turn.now.program.now in
     let q = c.args.turn.now.process in
     let w = world_model c.args.self.now in
-    frame_tells c.use_.result p bound c.args.self.now.processes.items q c.index_mut-stack.result.now c.in-Some.frame c.use_.new.frame
-    (instruction_model c.args.instr.now) (Use c.in-Use.at c.in-Use.next) c.args.choice w.blocks (w.blocks) c.requires.there c.index_mut-stack.ensures.value c.in-Some.is
-    (ap instruction_model c.in-Use.is)
-    (λ rest. slice_tells _ c.use_.result (outcome_from p bound w q (frame_model c.in-Some.frame) rest (Use c.in-Use.at c.in-Use.next) 0) w.processes q rest
-    (frame_model c.use_.new.frame) c.blocks-in-Use.result.now c.args.self.now.heap.blocks.items c.blocks-in-Use.ensures
-    (c.use_.ensures.tells p bound w rest (ap blocks_model (sym c.blocks-in-Use.ensures))))
+    frame_tells c.act.result p bound c.args.self.now.processes.items q c.index_mut-stack.result.now c.in-Some.frame c.act.new.frame
+    (instruction_model c.args.instr.now) (Act c.in-Act.action c.in-Act.next) c.args.choice w.blocks (blocks_model c.act.new.heap.blocks.items) c.requires.there c.index_mut-stack.ensures.value c.in-Some.is
+    (ap instruction_model c.in-Act.is)
+    (λ rest. c.act.ensures.tells bound c.args.choice w rest refl)
 
-pub returns-in-Use-clause-same : goal.returns-in-Use-clause-same
-returns-in-Use-clause-same c =
+pub returns-in-Act-clause-same : goal.returns-in-Act-clause-same
+returns-in-Act-clause-same c =
     let bs = blocks_model c.args.self.now.heap.blocks.items in
-    frame_same c.use_.result c.args.self.now.processes.items c.args.turn.now.process c.index_mut-stack.result.now c.in-Some.frame
-    c.use_.new.frame bs (bs) c.index_mut-stack.ensures.value c.in-Some.is c.use_.ensures.same (same_blocks c.use_.result bs)
+    frame_same c.act.result c.args.self.now.processes.items c.args.turn.now.process c.index_mut-stack.result.now c.in-Some.frame
+    c.act.new.frame bs (blocks_model c.act.new.heap.blocks.items) c.index_mut-stack.ensures.value c.in-Some.is c.act.ensures.same (c.act.ensures.same_blocks)
 
 pub returns-in-New-clause-tells : goal.returns-in-New-clause-tells
 returns-in-New-clause-tells c = λ bound are.
@@ -45,72 +42,6 @@ returns-in-New-clause-same c =
     let bs = blocks_model c.args.self.now.heap.blocks.items in
     frame_same c.new.result c.args.self.now.processes.items c.args.turn.now.process c.index_mut-stack.result.now c.in-Some.frame
     c.new.new.frame bs (blocks_model c.new.new.heap.blocks.items) c.index_mut-stack.ensures.value c.in-Some.is c.new.ensures.same (c.new.ensures.same_blocks)
-
-pub returns-in-NewChannel-clause-tells : goal.returns-in-NewChannel-clause-tells
-returns-in-NewChannel-clause-tells c = λ bound are.
-    let p = model_of c.args.turn.now.program.now in
-    let q = c.args.turn.now.process in
-    let w = world_model c.args.self.now in
-    frame_tells c.new_channel.result p bound c.args.self.now.processes.items q c.index_mut-stack.result.now c.in-Some.frame c.new_channel.new.frame
-    (instruction_model c.args.instr.now) (NewChannel c.in-NewChannel.channel c.in-NewChannel.next) c.args.choice w.blocks (blocks_model c.new_channel.new.heap.blocks.items) c.requires.there c.index_mut-stack.ensures.value c.in-Some.is
-    (ap instruction_model c.in-NewChannel.is)
-    (λ rest. c.new_channel.ensures.tells bound w rest refl)
-
-pub returns-in-NewChannel-clause-same : goal.returns-in-NewChannel-clause-same
-returns-in-NewChannel-clause-same c =
-    let bs = blocks_model c.args.self.now.heap.blocks.items in
-    frame_same c.new_channel.result c.args.self.now.processes.items c.args.turn.now.process c.index_mut-stack.result.now c.in-Some.frame
-    c.new_channel.new.frame bs (blocks_model c.new_channel.new.heap.blocks.items) c.index_mut-stack.ensures.value c.in-Some.is c.new_channel.ensures.same (c.new_channel.ensures.same_blocks)
-
-pub returns-in-Move-clause-tells : goal.returns-in-Move-clause-tells
-returns-in-Move-clause-tells c = λ bound are.
-    let p = model_of c.args.turn.now.program.now in
-    let q = c.args.turn.now.process in
-    let w = world_model c.args.self.now in
-    frame_tells c.move_.result p bound c.args.self.now.processes.items q c.index_mut-stack.result.now c.in-Some.frame c.move_.new.frame
-    (instruction_model c.args.instr.now) (Move c.in-Move.target c.in-Move.source c.in-Move.next) c.args.choice w.blocks (w.blocks) c.requires.there c.index_mut-stack.ensures.value c.in-Some.is
-    (ap instruction_model c.in-Move.is)
-    (λ rest. slice_tells _ c.move_.result (outcome_from p bound w q (frame_model c.in-Some.frame) rest (Move c.in-Move.target c.in-Move.source c.in-Move.next) 0) w.processes q rest
-    (frame_model c.move_.new.frame) c.blocks-in-Move.result.now c.args.self.now.heap.blocks.items c.blocks-in-Move.ensures
-    (c.move_.ensures.tells p bound w rest (ap blocks_model (sym c.blocks-in-Move.ensures))))
-
-pub returns-in-Move-clause-same : goal.returns-in-Move-clause-same
-returns-in-Move-clause-same c =
-    let bs = blocks_model c.args.self.now.heap.blocks.items in
-    frame_same c.move_.result c.args.self.now.processes.items c.args.turn.now.process c.index_mut-stack.result.now c.in-Some.frame
-    c.move_.new.frame bs (bs) c.index_mut-stack.ensures.value c.in-Some.is c.move_.ensures.same (same_blocks c.move_.result bs)
-
-pub returns-in-Delete-clause-tells : goal.returns-in-Delete-clause-tells
-returns-in-Delete-clause-tells c = λ bound are.
-    let p = model_of c.args.turn.now.program.now in
-    let q = c.args.turn.now.process in
-    let w = world_model c.args.self.now in
-    frame_tells c.delete.result p bound c.args.self.now.processes.items q c.index_mut-stack.result.now c.in-Some.frame c.delete.new.frame
-    (instruction_model c.args.instr.now) (Delete c.in-Delete.at c.in-Delete.next) c.args.choice w.blocks (blocks_model c.delete.new.heap.blocks.items) c.requires.there c.index_mut-stack.ensures.value c.in-Some.is
-    (ap instruction_model c.in-Delete.is)
-    (λ rest. c.delete.ensures.tells p bound w rest refl)
-
-pub returns-in-Delete-clause-same : goal.returns-in-Delete-clause-same
-returns-in-Delete-clause-same c =
-    let bs = blocks_model c.args.self.now.heap.blocks.items in
-    frame_same c.delete.result c.args.self.now.processes.items c.args.turn.now.process c.index_mut-stack.result.now c.in-Some.frame
-    c.delete.new.frame bs (blocks_model c.delete.new.heap.blocks.items) c.index_mut-stack.ensures.value c.in-Some.is c.delete.ensures.same (c.delete.ensures.same_blocks)
-
-pub returns-in-Exchange-clause-tells : goal.returns-in-Exchange-clause-tells
-returns-in-Exchange-clause-tells c = λ bound are.
-    let p = model_of c.args.turn.now.program.now in
-    let q = c.args.turn.now.process in
-    let w = world_model c.args.self.now in
-    frame_tells c.exchange.result p bound c.args.self.now.processes.items q c.index_mut-stack.result.now c.in-Some.frame c.exchange.new.frame
-    (instruction_model c.args.instr.now) (Exchange c.in-Exchange.e c.in-Exchange.next) c.args.choice w.blocks (blocks_model c.exchange.new.heap.blocks.items) c.requires.there c.index_mut-stack.ensures.value c.in-Some.is
-    (ap instruction_model c.in-Exchange.is)
-    (λ rest. c.exchange.ensures.tells p bound w rest refl)
-
-pub returns-in-Exchange-clause-same : goal.returns-in-Exchange-clause-same
-returns-in-Exchange-clause-same c =
-    let bs = blocks_model c.args.self.now.heap.blocks.items in
-    frame_same c.exchange.result c.args.self.now.processes.items c.args.turn.now.process c.index_mut-stack.result.now c.in-Some.frame
-    c.exchange.new.frame bs (blocks_model c.exchange.new.heap.blocks.items) c.index_mut-stack.ensures.value c.in-Some.is c.exchange.ensures.same (c.exchange.ensures.same_blocks)
 
 pub returns-in-Send-clause-tells : goal.returns-in-Send-clause-tells
 returns-in-Send-clause-tells c = λ bound are.

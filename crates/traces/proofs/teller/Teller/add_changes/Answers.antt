@@ -8,8 +8,8 @@ use Rattle.program.specs.declared.number.VarId.{VarId}
 use Rattle.rules.specs.Mentions.{name_of}
 use Rattle.rules.specs.Programs.{model_of}
 use Rattle.rows.specs.Rows.{leaf_at, row_model}
-use Rattle.traces.specs.Lines.{change, keeps, line, line_model, takes}
-use Rattle.traces.proofs.LineLemmas.{changes_of_move, changes_of_others}
+use Rattle.traces.proofs.LineLemmas.{changes_of_move, no_move}
+use Rattle.traces.specs.Lines.{change, changes_with, keeps, line, line_model, takes}
 use Rattle.traces.proofs.teller.Teller.add_changes.Goals as goal
 
 pub returns-in_ok-push : goal.returns-in_ok-push
@@ -20,15 +20,15 @@ returns-in_ok-push c =
     let after = row_model c.args.step.now.after.now in
     let watched = c.args.watched.now in
     let old = c.args.lines.now.items in
-    let target = c.in-Move.target in
-    let source = c.in-Move.source in
+    let target = c.in-Some.target in
+    let source = c.in-Some.source in
     let told : line_model c.in_ok-takes.field-0 ≡ line target.place (takes (name_of m target.variable.0) (name_of m source.variable.0))
     = c.in_ok-takes.ensures ∙ ap₂ (λ who what. line target.place (takes who what)) c.name_of-target_name.ensures c.name_of-source_name.ensures in
     let kept : list_all (keeps before after) (map (λ (v : VarId). v.0) watched) ≡ false
     = list_all-map (keeps before after) (λ (v : VarId). v.0) watched ∙ sym c.keeps_all.ensures ∙ c.if-not-keeps_all.true in
     ap (map line_model) c.in_ok-push.ensures.items ∙ map-append line_model old (c.in_ok-takes.field-0 ∷ [])
     ∙ ap (λ l. map line_model old ++ l ∷ []) told
-    ∙ ap (λ ls. map line_model old ++ ls) (sym (changes_of_move p m c.args.came c.args.instr.now (map (λ (v : VarId). v.0) watched) before after target source c.in-Move.next false c.in-Move.is kept))
+    ∙ ap (λ ls. map line_model old ++ ls) (sym (changes_of_move p m c.args.came (instruction_model c.args.instr.now) (map (λ (v : VarId). v.0) watched) before after target source false (sym c.move_in.ensures ∙ c.in-Some.is) kept))
 
 pub returns-else-not-keeps_all : goal.returns-else-not-keeps_all
 returns-else-not-keeps_all c =
@@ -41,7 +41,7 @@ returns-else-not-keeps_all c =
     let kept : list_all (keeps before after) (map (λ (v : VarId). v.0) watched) ≡ true
     = list_all-map (keeps before after) (λ (v : VarId). v.0) watched ∙ sym c.keeps_all.ensures ∙ c.if-not-keeps_all.false in
     sym (append-nil (map line_model old))
-    ∙ ap (λ ls. map line_model old ++ ls) (sym (changes_of_move p m c.args.came c.args.instr.now (map (λ (v : VarId). v.0) watched) before after c.in-Move.target c.in-Move.source c.in-Move.next true c.in-Move.is kept))
+    ∙ ap (λ ls. map line_model old ++ ls) (sym (changes_of_move p m c.args.came (instruction_model c.args.instr.now) (map (λ (v : VarId). v.0) watched) before after c.in-Some.target c.in-Some.source true (sym c.move_in.ensures ∙ c.in-Some.is) kept))
 
 pub returns : goal.returns
 returns c =
@@ -55,4 +55,4 @@ returns c =
     c.loop-variable.invariant
     ∙ ap (λ ls. map line_model c.args.lines.now.items ++ ls)
     (ap (flat_map (λ (v : VarId). each v.0)) all ∙ sym (flat_map-map each (λ (v : VarId). v.0) watched)
-    ∙ sym (changes_of_others p m c.args.came c.args.instr.now (map (λ (v : VarId). v.0) watched) before after c.in_default.not-Move))
+    ∙ sym (ap (λ o. changes_with p m o c.args.came (instruction_model c.args.instr.now) (map (λ (v : VarId). v.0) watched) before after) (sym c.move_in.ensures ∙ no_move c.move_in.result (λ move is. c.in_default.not-Some move is))))

@@ -1,0 +1,44 @@
+//! Actions.
+
+ghost use Rattle.std.specs.Prelude.{◌≡◌, ℕ, OnErr};
+ghost use Rattle.flow.specs.Graphs.{Act};
+ghost use Rattle.rules.specs.Programs.{model_of};
+ghost use Rattle.machine.specs.Answers.{TellsFrame};
+ghost use Rattle.machine.specs.Outcomes.{QueueBounds};
+ghost use Rattle.machine.specs.Views.{frame_model, heap_model};
+
+use crate::exchanging::exchange;
+use crate::halts::Refusal;
+use crate::heaps::BlockHeap;
+use crate::instructing::Turn;
+use crate::owning::{delete, new_channel};
+use crate::quiet::{move_, use_};
+use crate::worlds::Frame;
+use program::Action;
+
+/// Something is done with what variables and fields have.
+pub(crate) fn act(
+    turn: &Turn<'_>,
+    frame: &mut Frame,
+    heap: &mut BlockHeap,
+    action: Action,
+    next: usize,
+) -> Result<(), Refusal>
+    ensures tells { (bound : QueueBounds) (choice : ℕ)
+        → TellsFrame (model_of turn.now.program.now) bound turn.now.process
+        (Act action next) choice result (frame_model frame.old, heap_model heap.old)
+        (frame_model frame.new, heap_model heap.new) }
+    ensures same { OnErr result (frame_model frame.new ≡ frame_model frame.old) }
+    ensures same_blocks { OnErr result (heap_model heap.new ≡ heap_model heap.old) }
+{
+    let process = turn.process;
+    match action {
+        Action::Use(at) => use_(frame, heap.blocks(), process, at, next),
+        Action::Move { target, source } => {
+            move_(frame, heap.blocks(), process, target, source, next)
+        }
+        Action::Delete(at) => delete(turn.alloc, frame, heap, process, at, next),
+        Action::Exchange(exchanged) => exchange(frame, heap, process, exchanged, next),
+        Action::NewChannel(channel) => new_channel(turn, frame, heap, channel, next),
+    }
+}
