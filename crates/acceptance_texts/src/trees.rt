@@ -3,14 +3,15 @@
 use source::lex;
 use std::test::Fail;
 use syntax::parse;
-use tree::{Definition, Expression, Statement, Tree, Value, atom_alone, name_alone};
+use tree::{Definition, Expression, Plain, Statement, Tree, Value, atom_alone, name_alone};
 
 /// The expression that the first statement of a class assigns, if there is one.
 fn value_in(tree: &Tree) -> Option<&Expression> {
     let Definition::Class(class) = &tree.items.first()?.definition else {
         return None;
     };
-    let Statement::Assign(assign) = class.methods.first()?.body.statements.first()? else {
+    let Statement::Plain(Plain::Assign(assign)) = class.methods.first()?.body.statements.first()?
+    else {
         return None;
     };
     let Value::Expression(expression) = &assign.value else {

@@ -4,11 +4,11 @@ use Rattle.std.specs.Prelude.{is_some}
 use Rattle.std.proofs.lemmas.List.{take_at}
 use Rattle.source.specs.declared.token.Span.{Span}
 use Rattle.tree.specs.StatementTrees as trees
-use Rattle.tree.specs.StatementTrees.{StatementTree, StatementTrees, BlockTree, TestTree, OtherTrees, CaseTree, CaseTrees}
+use Rattle.tree.specs.StatementTrees.{PlainTree, StatementTree, StatementTrees, BlockTree, TestTree, OtherTrees, CaseTree, CaseTrees}
 use Rattle.tree.specs.declared.statement as made
 use Rattle.tree.specs.declared.contract as contract_nodes
 use Rattle.tree.specs.declared.types as type_nodes
-use Rattle.names.specs.Bodies.{Surroundings, statement_turn, statements_turn, block_turn, test_turn, others_turn, case_turn, cases_turn, in_loop, in_switch, head_of, heads_of}
+use Rattle.names.specs.Bodies.{Surroundings, plain_turn, statement_turn, statements_turn, block_turn, test_turn, others_turn, case_turn, cases_turn, in_loop, in_switch, head_of, heads_of}
 use Rattle.names.specs.Cases.{Head, typed_turn, bind_turn, binds_turn}
 use Rattle.declarations.specs.Program.{ProgramText}
 use Rattle.names.specs.Variables.{ScopeVariable, NameFrame, variable_named, declared_variable}
@@ -55,20 +55,15 @@ cases_same : (m : Surroundings) (all earlier : List Head) (cases : CaseTrees) (f
 cases_same m all earlier trees.NoCase f = refl
 cases_same m all earlier (trees.MoreCases c cases) f = cases_same m all (earlier ++ head_of c ∷ []) cases (case_turn m all earlier c f).frame ∙ case_same m all earlier c f
 
+plain_extends : (m : Surroundings) (x : PlainTree) (f : NameFrame) → Extends f (plain_turn m x f).frame
+plain_extends m (trees.Declare d) f = declared_extends _ _ _ _ f
+plain_extends m x f = same_extends f _ refl
+
 statement_extends : (m : Surroundings) (x : StatementTree) (f : NameFrame) → Extends f (statement_turn m x f).frame
 statement_extends m (trees.Block b) f = same_extends f _ (block_same m b f)
-statement_extends m (trees.Declare d) f = declared_extends _ _ _ _ f
-statement_extends m (trees.Assign a) f = same_extends f _ refl
-statement_extends m (trees.Call c) f = same_extends f _ refl
-statement_extends m (trees.Start word c) f = same_extends f _ refl
-statement_extends m (trees.Delete name) f = same_extends f _ refl
-statement_extends m (trees.Exchange e) f = same_extends f _ refl
-statement_extends m (trees.NewChannel n) f = same_extends f _ refl
+statement_extends m (trees.Plain x) f = plain_extends m x f
 statement_extends m (trees.If first others) f = same_extends f _ (others_same m others (test_turn m first f).frame ∙ test_same m first f)
 statement_extends m (trees.While test) f = same_extends f _ (test_same (in_loop m) test f)
-statement_extends m (trees.Break word) f = same_extends f _ refl
-statement_extends m (trees.Continue word) f = same_extends f _ refl
-statement_extends m (trees.Return word value) f = same_extends f _ refl
 statement_extends m (trees.Switch word first cases close) f =
     let all : List Head = head_of first ∷ heads_of cases in
     let behind : NameFrame = (case_turn (in_switch m) all [] first f).frame in

@@ -22,7 +22,7 @@ use crate::awaits::{
 };
 use crate::binds::judge_bound;
 use crate::heads::{Heads, awaiting_at};
-use crate::simple_statements::{held_type, judge_use};
+use crate::plain::{held_type, judge_use};
 use crate::surroundings::NameContext;
 use crate::variables::ScopeVariables;
 use declarations::{Mistake, NameSort, Scope, ValueType, add_unknown};

@@ -1,10 +1,10 @@
 //! What is wrong with the names and types in statements.
 
 ghost use Rattle.std.specs.Prelude.{◌≡◌, List, Some, map, take, OnOk, slice_get, [], ◌∷◌};
-ghost use Rattle.tree.specs.StatementTrees.{statement_tree, statement_sequence, block_tree, test_tree};
+ghost use Rattle.tree.specs.StatementTrees.{plain_tree, statement_tree, statement_sequence, block_tree, test_tree};
 ghost use Rattle.tree.specs.StatementTrees.{if_tree, switch_tree, case_tree, case_sequence};
 ghost use Rattle.names.specs.Bodies as bodies;
-ghost use Rattle.names.specs.Bodies.{in_loop, in_switch, statement_turn, statements_turn, block_turn};
+ghost use Rattle.names.specs.Bodies.{in_loop, in_switch, plain_turn, statement_turn, statements_turn, block_turn};
 ghost use Rattle.names.specs.Bodies.{test_turn, others_turn, case_turn, cases_turn, head_of};
 ghost use Rattle.names.specs.Cases.{Head};
 ghost use Rattle.names.specs.Frames.{AreSurroundings, IsNameFrame, Turned, Turns};
@@ -15,16 +15,14 @@ use crate::calls::{Purpose, judge_call};
 use crate::cases::{judge_binds, judge_head};
 use crate::exchanges::judge_exchange;
 use crate::heads::Heads;
-use crate::simple_statements::{
-    judge_assign, judge_channel, judge_declare, judge_delete, judge_return,
-};
+use crate::plain::{judge_assign, judge_channel, judge_declare, judge_delete, judge_return};
 use crate::surroundings::Surroundings;
 use crate::told::{judge_break, judge_continue};
 use crate::variables::ScopeVariables;
 use crate::wholes::judge_truth;
 use declarations::Mistake;
 use source::Memory;
-use tree::{Block, Case, If, Statement, Switch, Test};
+use tree::{Block, Case, If, Plain, Statement, Switch, Test};
 
 /// The same within a loop.
 fn within_loop<'s, 'a>(around: &Surroundings<'s, 'a>) -> Surroundings<'s, 'a>
@@ -44,6 +42,34 @@ fn within_switch<'s, 'a>(around: &Surroundings<'s, 'a>) -> Surroundings<'s, 'a>
     Surroundings {
         breaks: true,
         ..*around
+    }
+}
+
+/// Adds what is wrong in a statement that holds no others.
+fn judge_plain<'a>(
+    around: &Surroundings<'_, 'a>,
+    variables: &mut ScopeVariables<'a>,
+    plain: &Plain,
+    found: &mut Vec<Mistake>,
+) -> Result<(), Memory>
+    ensures { Turns around.now variables.old variables.new found.old.items found.new.items result
+        (λ m. plain_turn m (plain_tree plain.now)) }
+{
+    let scope = around.scope;
+    match plain {
+        Plain::Declare(declare) => judge_declare(around, variables, declare, found),
+        Plain::Assign(assign) => judge_assign(around, variables, assign, found),
+        Plain::Call(call) => judge_call(around, variables, Purpose::Alone, call, found),
+        Plain::Start { call, .. } => judge_call(around, variables, Purpose::Started, call, found),
+        Plain::Delete(name) => judge_delete(scope, variables, *name, found),
+        Plain::Exchange(exchange) => judge_exchange(scope, variables, **exchange, found),
+        Plain::NewChannel(channel) => judge_channel(scope, variables, **channel, found),
+        Plain::Break(word) => judge_break(around.breaks, *word, found),
+        Plain::Continue(word) => judge_continue(around.continues, *word, found),
+        Plain::Return { word, value } => {
+            let context = around.context(variables);
+            judge_return(&context, around.result, *word, value, found)
+        }
     }
 }
 
@@ -92,28 +118,13 @@ fn judge_statement<'a>(
     ensures { Turns around.now variables.old variables.new found.old.items found.new.items result
         (λ m. statement_turn m (statement_tree statement.now)) }
 {
-    let scope = around.scope;
     match statement {
         Statement::Block(block) => judge_block(around, variables, block, found),
-        Statement::Declare(declare) => judge_declare(around, variables, declare, found),
-        Statement::Assign(assign) => judge_assign(around, variables, assign, found),
-        Statement::Call(call) => judge_call(around, variables, Purpose::Alone, call, found),
-        Statement::Start { call, .. } => {
-            judge_call(around, variables, Purpose::Started, call, found)
-        }
-        Statement::Delete(name) => judge_delete(scope, variables, *name, found),
-        Statement::Exchange(exchange) => judge_exchange(scope, variables, **exchange, found),
-        Statement::NewChannel(channel) => judge_channel(scope, variables, **channel, found),
+        Statement::Plain(plain) => judge_plain(around, variables, plain, found),
         Statement::If(branches) => judge_if(around, variables, branches, found),
         Statement::While(test) => {
             let inner = within_loop(around);
             judge_test(&inner, variables, test, found)
-        }
-        Statement::Break(word) => judge_break(around.breaks, *word, found),
-        Statement::Continue(word) => judge_continue(around.continues, *word, found),
-        Statement::Return { word, value } => {
-            let context = around.context(variables);
-            judge_return(&context, around.result, *word, value, found)
         }
         Statement::Switch(switch) => {
             let inner = within_switch(around);

@@ -3,7 +3,7 @@ use Rattle.std.specs.Prelude.{Bool, ◌&&◌, ◌||◌, ◌==◌, ltb, List, [],
 use Rattle.source.specs.declared.place.Place.{Place}
 use Rattle.source.specs.declared.token.Span.{Span}
 use Rattle.tree.specs.StatementTrees as trees
-use Rattle.tree.specs.StatementTrees.{StatementTree, StatementTrees, BlockTree, TestTree, OtherTrees, CaseTree, CaseTrees}
+use Rattle.tree.specs.StatementTrees.{StatementTree, StatementTrees, BlockTree, TestTree, OtherTrees, CaseTree, CaseTrees, behind_case}
 use Rattle.tree.specs.Trees.{MethodTree}
 use Rattle.tree.specs.declared.statement.Bind.{Bind}
 
@@ -19,15 +19,6 @@ those_before q names = filter (λ name. is_before name.place q) names
 abbrev pub bound_names : List Bind → List Span
 bound_names binds = map (λ b. b.name) binds
 
--- where a case begins
-abbrev pub case_place : CaseTree → Place
-case_place (trees.Case word endpoint awaited left binds statements) = word.place
-
--- where the first of these cases begins, and where their switch ends if there is none
-abbrev pub next_place : Place → CaseTrees → Place
-next_place end trees.NoCase = end
-next_place end (trees.MoreCases c cases) = case_place c
-
 abbrev mutual
   -- what a block declares, where the place is not behind its end
   pub block_names : Place → BlockTree → List Span
@@ -39,11 +30,11 @@ abbrev mutual
 
   pub statement_names : Place → StatementTree → List Span
   statement_names q (trees.Block b) = block_names q b
-  statement_names q (trees.Declare d) = those_before q (d.name ∷ [])
+  statement_names q (trees.Plain (trees.Declare d)) = those_before q (d.name ∷ [])
   statement_names q (trees.If first others) = test_names q first ++ others_names q others
   statement_names q (trees.While test) = test_names q test
   statement_names q (trees.Switch word first cases close) =
-      case_names q (next_place close.place cases) first ++ cases_names q close.place cases
+      case_names q (behind_case cases close.place) first ++ cases_names q close.place cases
   statement_names q _ = []
 
   pub test_names : Place → TestTree → List Span
@@ -57,7 +48,7 @@ abbrev mutual
   -- cases of a switch that ends there: each reaches as far as the next
   pub cases_names : Place → Place → CaseTrees → List Span
   cases_names q end trees.NoCase = []
-  cases_names q end (trees.MoreCases c cases) = case_names q (next_place end cases) c ++ cases_names q end cases
+  cases_names q end (trees.MoreCases c cases) = case_names q (behind_case cases end) c ++ cases_names q end cases
 
   -- what a case that ends there binds and declares
   pub case_names : Place → Place → CaseTree → List Span

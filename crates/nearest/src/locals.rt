@@ -2,15 +2,16 @@
 
 ghost use Rattle.std.specs.Prelude.{◌≡◌, ◌++◌, ◌∷◌, [], IfOk, OnOk, map};
 ghost use Rattle.nearest.specs.Locals.{block_names, bound_names, case_names, cases_names};
-ghost use Rattle.nearest.specs.Locals.{is_before, method_names, next_place, others_names};
+ghost use Rattle.nearest.specs.Locals.{is_before, method_names, others_names};
 ghost use Rattle.nearest.specs.Locals.{statement_names, statements_names, test_names, those_before};
-ghost use Rattle.tree.specs.StatementTrees.{block_tree, case_sequence, case_tree, if_tree};
+ghost use Rattle.tree.specs.StatementTrees as trees;
+ghost use Rattle.tree.specs.StatementTrees.{behind_case, block_tree, case_sequence, case_tree, if_tree, plain_tree};
 ghost use Rattle.tree.specs.StatementTrees.{statement_sequence, statement_tree, switch_tree, test_tree};
 ghost use Rattle.tree.specs.Trees.{method_tree};
 
 use source::{Memory, Place, Span};
 use std::alloc::Global;
-use tree::{Bind, Block, Case, If, Method, Statement, Switch};
+use tree::{Bind, Block, Case, If, Method, Plain, Statement, Switch};
 
 /// The parameters and variables that a method declares before a place in the blocks around that, in order. Returns `Memory`
 /// if a growth is refused.
@@ -53,6 +54,17 @@ fn add_binds(place: Place, binds: &[Bind], names: &mut Vec<Span>) -> Result<(), 
     Ok(())
 }
 
+/// Adds the name that a statement declares that holds no others, if it is a declaration.
+fn add_declared(place: Place, plain: &Plain, names: &mut Vec<Span>) -> Result<(), Memory>
+    ensures { OnOk result (names.new.items
+        ≡ names.old.items ++ statement_names place (trees.Plain (plain_tree plain.now))) }
+{
+    match plain {
+        Plain::Declare(declare) => add_name(place, declare.name, names),
+        _ => Ok(()),
+    }
+}
+
 /// Adds what a block declares, if the place is not behind its end.
 #[cycle(bodies)]
 fn add_block(place: Place, block: &Block, names: &mut Vec<Span>) -> Result<(), Memory>
@@ -89,11 +101,10 @@ fn add_statement(place: Place, statement: &Statement, names: &mut Vec<Span>) -> 
 {
     match statement {
         Statement::Block(block) => add_block(place, block, names),
-        Statement::Declare(declare) => add_name(place, declare.name, names),
+        Statement::Plain(plain) => add_declared(place, plain, names),
         Statement::If(branches) => add_branches(place, branches, names),
         Statement::While(test) => add_block(place, &test.body, names),
         Statement::Switch(switch) => add_cases(place, switch, names),
-        _ => Ok(()),
     }
 }
 
@@ -118,8 +129,8 @@ fn add_branches(place: Place, branches: &If, names: &mut Vec<Span>) -> Result<()
 #[cycle(bodies)]
 fn add_cases(place: Place, switch: &Switch, names: &mut Vec<Span>) -> Result<(), Memory>
     ensures { OnOk result (names.new.items ≡ names.old.items
-        ++ (case_names place (next_place (switch_tree switch.now).close.place
-        (case_sequence (switch_tree switch.now).others)) (switch_tree switch.now).first
+        ++ (case_names place (behind_case (case_sequence (switch_tree switch.now).others)
+        (switch_tree switch.now).close.place) (switch_tree switch.now).first
         ++ cases_names place (switch_tree switch.now).close.place
         (case_sequence (switch_tree switch.now).others))) }
 {

@@ -20,8 +20,8 @@ use Rattle.resolving.specs.Frames.{IsLocalFrame, number_model}
 use Rattle.resolving.specs.Locals.{LocalFrame, number_of, forget}
 use Rattle.resolving.specs.Reads.{reads, ways}
 use Rattle.resolving.specs.Steps.{IsResolvedPiece, pieces_in_order}
-use Rattle.resolving.specs.Plain.{plain_told, frame_behind}
-use Rattle.resolving.specs.Told.{ResolvedPiece, Staying, follow, map_piece, block_of, block_told, statement_told, test_told, others_told}
+use Rattle.resolving.specs.Told.{ResolvedPiece, follow, map_piece, block_of, block_told, statement_told, test_told, others_told}
+use Rattle.resolving.specs.Staying.{Staying}
 use Rattle.resolving.specs.declared.locals.Locals.{Locals}
 use Rattle.resolving.proofs.ScopeLemmas.{scoped}
 use Rattle.resolving.proofs.SeenTwins.{test_made}
@@ -42,18 +42,6 @@ made_told text make t what l h = record { is = ap make h.is; frame = h.frame }
 -- a statement in other words, before and behind
 pub told_as : (p : ProgramText) (class : ℕ) (stays : Staying) (f : LocalFrame) {s s' : StatementTree} {what what' : StatementModel} {l : Locals} → s ≡ s' → what ≡ what' → IsResolvedPiece p.text (statement_told p class stays s' f) what' l → IsResolvedPiece p.text (statement_told p class stays s f) what l
 told_as p class stays f {s} {s'} {what} {what'} {l} is seen_is told = subst (λ t. IsResolvedPiece p.text (statement_told p class stays t f) what l) (sym is) (subst (λ w. IsResolvedPiece p.text (statement_told p class stays s' f) w l) (sym seen_is) told)
-
--- one that holds no others
-abbrev pub as_alone : ProgramText → ℕ → LocalFrame → StatementTree → ResolvedPiece StatementModel
-as_alone p class f s = record { what = plain_told p class f s; frame = frame_behind p class f s }
-
--- a statement holds no others
-pub record IsAlone (p : ProgramText) (class : ℕ) (stays : Staying) (f : LocalFrame) (s : StatementTree) : Type 0 where
-  pub is : statement_told p class stays s f ≡ as_alone p class f s
-
--- the same in other words
-pub alone_as : (p : ProgramText) (class : ℕ) (stays : Staying) (f : LocalFrame) {s s' : StatementTree} → s ≡ s' → statement_told p class stays s' f ≡ as_alone p class f s' → IsAlone p class stays f s
-alone_as p class stays f {s} {s'} same alone = record { is = ap (λ t. statement_told p class stays t f) same ∙ alone ∙ sym (ap (as_alone p class f) same) }
 
 -- a condition, part by part
 pub test_ends : (p : ProgramText) (class : ℕ) (stays : Staying) (f : LocalFrame) (test : stated.Test.Test) (found : Vec Mention Global) (way : Ways) (body : found_block.Block) (l : Locals)

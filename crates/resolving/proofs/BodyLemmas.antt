@@ -11,7 +11,8 @@ use Rattle.resolving.specs.Frames.{IsLocalFrame}
 use Rattle.resolving.specs.Locals.{LocalFrame, with_declaration}
 use Rattle.resolving.specs.Methods.{parameter_declaration, parameters_frame}
 use Rattle.resolving.specs.Steps.{IsResolvedPiece, pieces_in_order}
-use Rattle.resolving.specs.Told.{ResolvedPiece, Staying, follow, map_piece, statement_told, statements_told}
+use Rattle.resolving.specs.Told.{ResolvedPiece, follow, map_piece, statement_told, statements_told}
+use Rattle.resolving.specs.Staying.{Staying}
 use Rattle.resolving.specs.declared.locals.Locals.{Locals}
 
 walked_push : {T X : Type 0} (go : T → LocalFrame → ResolvedPiece X) (ts : List T) (t : T) (f : LocalFrame) → pieces_in_order go (ts ++ t ∷ []) f ≡ follow (λ xs x. xs ++ x ∷ []) (pieces_in_order go ts f) (go t)

@@ -7,7 +7,7 @@ use Rattle.std.proofs.Math.Seq.{drop-cons}
 use Rattle.std.proofs.lemmas.List.{drop_all, map-append}
 use Rattle.source.specs.declared.place.Place.{Place}
 use Rattle.tree.specs.StatementTrees as trees
-use Rattle.tree.specs.StatementTrees.{CaseTree, CaseTrees, SwitchTree, case_tree, case_sequence, statement_tree, statement_sequence, switch_tree}
+use Rattle.tree.specs.StatementTrees.{CaseTree, CaseTrees, SwitchTree, case_tree, case_sequence, statement_tree, statement_sequence, switch_tree, behind_case}
 use Rattle.tree.specs.declared.statement as stated
 use Rattle.declarations.specs.Program.{ProgramText}
 use Rattle.program.specs.Statements as seen
@@ -21,7 +21,8 @@ use Rattle.resolving.specs.Binds.{binds_told}
 use Rattle.resolving.specs.Frames.{IsLocalFrame}
 use Rattle.resolving.specs.Locals.{LocalFrame}
 use Rattle.resolving.specs.Steps.{IsResolvedPiece}
-use Rattle.resolving.specs.Told.{ResolvedPiece, Staying, map_piece, block_of, behind_case, awaited_as, awaited_message, awaited_params, case_endpoint, case_told, cases_told, statements_told}
+use Rattle.resolving.specs.Told.{ResolvedPiece, map_piece, block_of, awaited_as, awaited_message, awaited_params, case_endpoint, case_told, cases_told, statements_told}
+use Rattle.resolving.specs.Staying.{Staying}
 use Rattle.resolving.specs.declared.locals.Locals.{Locals}
 use Rattle.resolving.proofs.SeenTwins.{case_made}
 use Rattle.tree.proofs.StatementTwins.{case_is, switch_is}

@@ -4,15 +4,16 @@ use Rattle.std.specs.Prelude.{is_some}
 use Rattle.std.proofs.lemmas.List.{take_at}
 use Rattle.source.specs.declared.place.Place.{Place}
 use Rattle.tree.specs.StatementTrees as trees
-use Rattle.tree.specs.StatementTrees.{StatementTree, StatementTrees, BlockTree, TestTree, OtherTrees, CaseTree, CaseTrees}
+use Rattle.tree.specs.StatementTrees.{PlainTree, StatementTree, StatementTrees, BlockTree, TestTree, OtherTrees, CaseTree, CaseTrees, behind_case}
 use Rattle.tree.specs.declared.statement as made
 use Rattle.tree.specs.declared.contract as tree
 use Rattle.declarations.specs.Program.{ProgramText}
 use Rattle.program.specs.declared.types.HeapType.{HeapType}
 use Rattle.resolving.specs.Binds.{bind_declaration, bind_told, binds_told}
 use Rattle.resolving.specs.Locals.{Local, LocalFrame, local_named, with_local, with_declaration, declared_as}
-use Rattle.resolving.specs.Plain.{declaration_of}
-use Rattle.resolving.specs.Told.{Staying, stays_here, in_switch, behind_case, statement_told, statements_told, block_told, test_told, others_told, case_told, cases_told}
+use Rattle.resolving.specs.Plain.{declaration_of, frame_behind}
+use Rattle.resolving.specs.Told.{statement_told, statements_told, block_told, test_told, others_told, case_told, cases_told}
+use Rattle.resolving.specs.Staying.{Staying, stays_here, in_switch}
 use Rattle.resolving.specs.declared.locals.Declaration.{Declaration}
 
 -- the second has what is in scope in the first, and more behind it
@@ -65,20 +66,15 @@ cases_same : (p : ProgramText) (class : ℕ) (stays : Staying) (cases : CaseTree
 cases_same p class stays trees.NoCase close f = refl
 cases_same p class stays (trees.MoreCases c cases) close f = cases_same p class stays cases close (case_told p class stays (behind_case cases close) c f).frame ∙ case_same p class stays (behind_case cases close) c f
 
+plain_extends : (p : ProgramText) (class : ℕ) (x : PlainTree) (f : LocalFrame) → Extends f (frame_behind p class f x)
+plain_extends p class (trees.Declare d) f = declared_extends p.text (declaration_of p d) f
+plain_extends p class x f = same_extends f _ refl
+
 statement_extends : (p : ProgramText) (class : ℕ) (stays : Staying) (x : StatementTree) (f : LocalFrame) → Extends f (statement_told p class stays x f).frame
 statement_extends p class stays (trees.Block b) f = same_extends f _ (block_same p class stays b f)
-statement_extends p class stays (trees.Declare d) f = declared_extends p.text (declaration_of p d) f
-statement_extends p class stays (trees.Assign a) f = same_extends f _ refl
-statement_extends p class stays (trees.Call c) f = same_extends f _ refl
-statement_extends p class stays (trees.Start word c) f = same_extends f _ refl
-statement_extends p class stays (trees.Delete name) f = same_extends f _ refl
-statement_extends p class stays (trees.Exchange e) f = same_extends f _ refl
-statement_extends p class stays (trees.NewChannel n) f = same_extends f _ refl
+statement_extends p class stays (trees.Plain x) f = plain_extends p class x f
 statement_extends p class stays (trees.If first others) f = same_extends f _ (others_same p class stays others (test_told p class stays first f).frame ∙ test_same p class stays first f)
 statement_extends p class stays (trees.While test) f = same_extends f _ (test_same p class (stays_here f) test f)
-statement_extends p class stays (trees.Break word) f = same_extends f _ refl
-statement_extends p class stays (trees.Continue word) f = same_extends f _ refl
-statement_extends p class stays (trees.Return word value) f = same_extends f _ refl
 statement_extends p class stays (trees.Switch word first cases close) f = same_extends f _ (cases_same p class (in_switch stays f) (trees.MoreCases first cases) close.place f)
 
 -- so it is behind statements in a row

@@ -10,7 +10,6 @@ pub mod BlockLemmas
 pub mod TellLemmas
 pub mod ItemLemmas
 pub mod BroughtLemmas
-pub mod FlatLemmas
 pub mod FormTwins
 pub mod CountLemmas
 pub mod CalleeLemmas

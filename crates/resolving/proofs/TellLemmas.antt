@@ -17,7 +17,8 @@ use Rattle.resolving.specs.Types.{result_held}
 use Rattle.resolving.specs.Locals.{LocalFrame, number_of}
 use Rattle.resolving.specs.Methods.{no_variables, parameters_frame, method_told, takes_some}
 use Rattle.resolving.specs.Steps.{IsResolvedPiece}
-use Rattle.resolving.specs.Told.{stays_here, statements_told}
+use Rattle.resolving.specs.Told.{statements_told}
+use Rattle.resolving.specs.Staying.{stays_here}
 use Rattle.resolving.specs.declared.locals.Locals.{Locals}
 use Rattle.tree.proofs.StatementTwins.{block_is}
 

@@ -8,7 +8,7 @@ use Rattle.program.specs.declared.number.VarId.{VarId}
 use Rattle.resolving.specs.Locals as model
 use Rattle.resolving.specs.Locals.{LocalFrame}
 use Rattle.resolving.specs.declared.locals.Local.{Local}
-use Rattle.resolving.specs.Told as told
+use Rattle.resolving.specs.Staying as told
 use Rattle.resolving.specs.declared.locals.Locals.{Locals}
 use Rattle.resolving.specs.declared.staying.Staying.{Staying}
 

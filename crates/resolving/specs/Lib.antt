@@ -6,6 +6,7 @@ pub mod Types
 pub mod Messages
 pub mod Pieces
 pub mod Binds
+pub mod Staying
 pub mod Plain
 pub mod Told
 pub mod Around

@@ -7,7 +7,7 @@ use Rattle.source.specs.declared.token.Span.{Span}
 use Rattle.tree.specs.Expressions as trees
 use Rattle.tree.specs.Expressions.{TargetTree, ExpressionTree}
 use Rattle.tree.specs.StatementTrees as stated
-use Rattle.tree.specs.StatementTrees.{StatementTree, StatementTrees, BlockTree, TestTree, OtherTrees, DeclareTree, CaseTree, CaseTrees}
+use Rattle.tree.specs.StatementTrees.{PlainTree, DeclareTree}
 use Rattle.tree.specs.Values as values
 use Rattle.tree.specs.Values.{ValueTree, CallTree, MadeTree}
 use Rattle.tree.specs.declared.class as declared_class
@@ -16,21 +16,21 @@ use Rattle.declarations.specs.Types.{type_meant}
 use Rattle.declarations.specs.Program.{ProgramText}
 use Rattle.program.specs.declared.number.ContractId.{ContractId}
 use Rattle.program.specs.Statements as seen
-use Rattle.program.specs.Statements.{CallModel, NewModel, SendModel, StatementModel, StatementsModel}
-use Rattle.program.specs.Statements.{BlockModel, TestModel, OthersModel, CaseModel, CasesModel}
+use Rattle.program.specs.Statements.{CallModel, NewModel, SendModel, StatementModel}
 use Rattle.program.specs.declared.call.Argument.{Argument}
 use Rattle.program.specs.declared.method.Role.TheVariants.{Local}
 use Rattle.program.specs.declared.statement.Action.{Action}
 use Rattle.program.specs.declared.statement.Action.TheVariants.{Use, Move, Delete, Exchange, NewChannel}
 use Rattle.program.specs.declared.statement.Effect.{Effect}
-use Rattle.program.specs.declared.statement.Effect.TheVariants.{Nothing, Act, Return}
+use Rattle.program.specs.declared.statement.Effect.TheVariants.{Nothing, Act, Break, Continue, Return}
 use Rattle.program.specs.declared.statement.Mention.{Mention}
 use Rattle.resolving.specs.Fields.{field_number}
-use Rattle.resolving.specs.Locals.{LocalFrame, local_named, mention, mention_of, with_declaration, next_number, number_of}
+use Rattle.resolving.specs.Locals.{LocalFrame, forget, local_named, mention, mention_of, with_declaration, next_number, number_of}
 use Rattle.resolving.specs.Callees.{NumberedMethod, callee, called_name}
 use Rattle.resolving.specs.Types.{contract_named, type_held}
 use Rattle.resolving.specs.Messages.{Meant, message_sent, end_contract}
 use Rattle.resolving.specs.Reads.{reads, mention_list}
+use Rattle.resolving.specs.Staying.{Staying}
 use Rattle.tree.specs.Alone.{lone_name}
 use Rattle.resolving.specs.declared.locals.Declaration.{Declaration}
 
@@ -143,9 +143,6 @@ module _ (p : ProgramText) (class : ℕ) (f : LocalFrame) where
   abbrev pub channel_found : statement.NewChannel.NewChannel → Option Action
   channel_found n = option_and_then (channel_action n) (contract_named p n.contract)
 
-  abbrev pub channel_or_nothing : statement.NewChannel.NewChannel → Effect
-  channel_or_nothing n = effect_of (channel_found n)
-
   -- the length of a new array is read; what is given for fields is a name alone, which reads nothing
   abbrev pub made_reads : MadeTree → List Mention
   made_reads (values.Struct name left given) = []
@@ -171,9 +168,6 @@ module _ (p : ProgramText) (class : ℕ) (f : LocalFrame) where
   abbrev pub exchange_found : statement.Exchange.Exchange → Option Action
   exchange_found e = option_and_then (exchange_by e)
       (option_and_then (λ v. field_number p v.ty e.field) (local_named p.text f.locals e.holder))
-
-  abbrev pub exchange_or_nothing : statement.Exchange.Exchange → Effect
-  exchange_or_nothing e = effect_of (exchange_found e)
 
   -- a variable of the exchange heap takes a value
   abbrev pub take_statement : Mention → ValueTree → StatementModel
@@ -215,18 +209,19 @@ module _ (p : ProgramText) (class : ℕ) (f : LocalFrame) where
   return_statement place (Some e) = simple_of (reads p.text f.locals e) (Return place (lone e) (option_map number_of f.last))
 
   -- a statement that holds no others
-  abbrev pub plain_told : StatementTree → StatementModel
-  plain_told (stated.Declare d) = first_value d.name (next_number (type_held p d.ty) f) d.value
-  plain_told (stated.Assign a) = write_statement a.target a.value
-  plain_told (stated.Call c) = stated_call c
-  plain_told (stated.Start word c) = start_statement c
-  plain_told (stated.Delete name) = simple_of [] (delete_of (mention p.text f.locals name))
-  plain_told (stated.Exchange e) = simple_of [] (exchange_or_nothing e)
-  plain_told (stated.NewChannel n) = simple_of [] (channel_or_nothing n)
-  plain_told (stated.Return word value) = return_statement word.place value
-  plain_told _ = simple_of [] Nothing
+  abbrev pub plain_told : Staying → PlainTree → StatementModel
+  plain_told stays (stated.Declare d) = first_value d.name (next_number (type_held p d.ty) f) d.value
+  plain_told stays (stated.Assign a) = write_statement a.target a.value
+  plain_told stays (stated.Call c) = stated_call c
+  plain_told stays (stated.Start word c) = start_statement c
+  plain_told stays (stated.Delete name) = simple_of [] (delete_of (mention p.text f.locals name))
+  plain_told stays (stated.Exchange e) = simple_of [] (effect_of (exchange_found e))
+  plain_told stays (stated.NewChannel n) = simple_of [] (effect_of (channel_found n))
+  plain_told stays (stated.Break word) = simple_of [] (Break (forget word.place stays.at_break f.last))
+  plain_told stays (stated.Continue word) = simple_of [] (Continue (forget word.place stays.at_continue f.last))
+  plain_told stays (stated.Return word value) = return_statement word.place value
 
   -- the frame behind it
-  abbrev pub frame_behind : StatementTree → LocalFrame
+  abbrev pub frame_behind : PlainTree → LocalFrame
   frame_behind (stated.Declare d) = with_declaration p.text (declaration_of p d) f
   frame_behind _ = f

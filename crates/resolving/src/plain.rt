@@ -2,12 +2,12 @@
 
 ghost use Rattle.std.specs.Prelude.{◌≡◌, ℕ, List, IfOk, OnOk, option_map};
 ghost use Rattle.tree.specs.ExpressionTrees.{expression_tree, target_tree};
-ghost use Rattle.tree.specs.StatementTrees.{declare_tree, statement_tree};
+ghost use Rattle.tree.specs.StatementTrees.{declare_tree, plain_tree};
 ghost use Rattle.tree.specs.Trees.{ItemTree};
 ghost use Rattle.tree.specs.Values.{value_tree};
 ghost use Rattle.declarations.specs.Program.{ProgramText};
 ghost use Rattle.resolving.specs.Around.{IsAround, program_in};
-ghost use Rattle.resolving.specs.Frames.{IsLocalFrame};
+ghost use Rattle.resolving.specs.Frames.{IsLocalFrame, staying_model};
 ghost use Rattle.resolving.specs.Types.{type_held};
 ghost use Rattle.resolving.specs.Locals.{LocalFrame, mention_of, next_number};
 ghost use Rattle.resolving.specs.Steps.{TellsStatement};
@@ -21,12 +21,13 @@ use crate::given::alone;
 use crate::locals::{Declaration, Locals};
 use crate::reads::add_reads;
 use crate::sends::{channel_of, tell_stated};
+use crate::staying::{Staying, tell_break, tell_continue};
 use crate::types::type_held;
 use crate::values::{statement_of, tell_assigned, tell_part, tell_read, unread};
 use program::{Action, Effect, Mention, Role, Statement};
 use source::Place;
 use std::alloc::{AllocError, Global};
-use tree::{Declare, Expression, Target, Value};
+use tree::{Declare, Expression, Plain, Target, Value};
 
 /// What a variable has is freed.
 fn delete_effect(mention: Option<Mention>) -> Effect
@@ -148,37 +149,29 @@ pub(crate) fn tell_plain(
     text: &[u8],
     around: &Around<'_, '_>,
     locals: &Locals<'_>,
-    statement: &tree::Statement,
+    stays: Staying,
+    plain: &Plain,
 ) -> Result<Statement, AllocError>
     ensures { (items : List ItemTree) (own : ℕ) → IsAround (program_in text.now items) own around.now
         → IfOk result (TellsStatement text.now locals.now
-        (λ f. plain_told (program_in text.now items) own f (statement_tree statement.now))) }
+        (λ f. plain_told (program_in text.now items) own f (staying_model stays) (plain_tree plain.now))) }
 {
     let alloc = around.alloc;
-    match statement {
-        tree::Statement::Declare(declare) => { tell_declare(text, around, locals, declare) }
-        tree::Statement::Assign(assign) => tell_assign(
-            text,
-            around,
-            locals,
-            &assign.target,
-            &assign.value,
-        ),
-        tree::Statement::Call(call) => tell_stated(text, around, locals, call),
-        tree::Statement::Start { call, .. } => tell_start(text, around, locals, call),
-        tree::Statement::Delete(name) => {
-            Ok(unread(alloc, delete_effect(locals.mention(text, *name))))
-        }
-        tree::Statement::Exchange(exchange) => {
+    match plain {
+        Plain::Declare(declare) => tell_declare(text, around, locals, declare),
+        Plain::Assign(assign) => tell_assign(text, around, locals, &assign.target, &assign.value),
+        Plain::Call(call) => tell_stated(text, around, locals, call),
+        Plain::Start { call, .. } => tell_start(text, around, locals, call),
+        Plain::Delete(name) => Ok(unread(alloc, delete_effect(locals.mention(text, *name)))),
+        Plain::Exchange(exchange) => {
             Ok(statement_of(alloc, exchange_of(text, around, locals, **exchange)))
         }
-        tree::Statement::NewChannel(channel) => {
+        Plain::NewChannel(channel) => {
             Ok(statement_of(alloc, channel_of(text, around, locals, **channel)))
         }
-        tree::Statement::Return { word, value } => {
-            tell_return(alloc, text, locals, word.place, value)
-        }
-        _ => Ok(unread(alloc, Effect::Nothing)),
+        Plain::Break(word) => Ok(tell_break(alloc, locals, word.place, stays)),
+        Plain::Continue(word) => Ok(tell_continue(alloc, locals, word.place, stays)),
+        Plain::Return { word, value } => tell_return(alloc, text, locals, word.place, value),
     }
 }
 
@@ -199,14 +192,14 @@ pub(crate) fn declare_in<'a>(
     text: &'a [u8],
     around: &Around<'_, '_>,
     locals: &mut Locals<'a>,
-    statement: &tree::Statement,
+    plain: &Plain,
 ) -> Result<(), AllocError>
     ensures { (items : List ItemTree) (own : ℕ) (f : LocalFrame) → IsAround (program_in text.now items) own around.now
         → IsLocalFrame text.now f locals.old → OnOk result (IsLocalFrame text.now
-        (frame_behind (program_in text.now items) own f (statement_tree statement.now)) locals.new) }
+        (frame_behind (program_in text.now items) own f (plain_tree plain.now)) locals.new) }
 {
-    match statement {
-        tree::Statement::Declare(declare) => {
+    match plain {
+        Plain::Declare(declare) => {
             locals.declare(around.alloc, text, declaration_of(around, declare))
         }
         _ => Ok(()),

@@ -7,7 +7,8 @@ ghost use Rattle.resolving.specs.Frames.{staying_model};
 ghost use Rattle.resolving.specs.Steps.{TellsPiece, pieces_in_order};
 ghost use Rattle.resolving.specs.Plain.{plain_told, frame_behind};
 ghost use Rattle.resolving.specs.Told.{follow, statement_told, statements_told, block_told, test_told, others_told, case_told, cases_told};
-ghost use Rattle.tree.specs.StatementTrees.{MoreCases, statement_tree, statement_sequence, block_tree, test_tree};
+ghost use Rattle.tree.specs.StatementTrees.{MoreCases, plain_tree, statement_tree, statement_sequence, block_tree};
+ghost use Rattle.tree.specs.StatementTrees.{test_tree};
 ghost use Rattle.tree.specs.StatementTrees.{if_tree, last_other, case_tree, case_sequence, switch_tree};
 
 use crate::around::Around;
@@ -15,28 +16,29 @@ use crate::cases::{awaited_as, awaited_message, awaited_params, case_endpoint, d
 use crate::locals::Locals;
 use crate::plain::{declare_in, tell_plain};
 use crate::reads::add_reads;
-use crate::staying::{Staying, forget_past, tell_break, tell_continue};
+use crate::staying::{Staying, forget_past};
 use crate::ways::ways_of;
 use program::{Block, Case, If, Statement, Test};
 use source::Place;
 use std::alloc::{AllocError, Global};
-use tree::Switch;
+use tree::{Plain, Switch};
 
 /// What a statement that holds no others comes to, and what it declares.
 fn tell_alone<'a>(
     text: &'a [u8],
     around: &Around<'_, '_>,
     locals: &mut Locals<'a>,
-    statement: &tree::Statement,
+    stays: Staying,
+    plain: &Plain,
 ) -> Result<Statement, AllocError>
     ensures { TellsPiece text.now around.now locals.old locals.new statement_model result
         (λ p own f. record {
-          what = plain_told p own f (statement_tree statement.now);
-          frame = frame_behind p own f (statement_tree statement.now);
+          what = plain_told p own f (staying_model stays) (plain_tree plain.now);
+          frame = frame_behind p own f (plain_tree plain.now);
         }) }
 {
-    let told = tell_plain(text, around, locals, statement)?;
-    declare_in(text, around, locals, statement)?;
+    let told = tell_plain(text, around, locals, stays, plain)?;
+    declare_in(text, around, locals, plain)?;
     Ok(told)
 }
 
@@ -56,6 +58,7 @@ fn tell_statement<'a>(
         tree::Statement::Block(block) => {
             Ok(Statement::Block(tell_block(text, around, locals, stays, block)?))
         }
+        tree::Statement::Plain(plain) => tell_alone(text, around, locals, stays, plain),
         tree::Statement::If(branches) => {
             let told = tell_if(text, around, locals, stays, branches)?;
             if_of(around.alloc, told)
@@ -65,20 +68,12 @@ fn tell_statement<'a>(
             let told = tell_test(text, around, locals, inside, test)?;
             while_of(around.alloc, told)
         }
-        tree::Statement::Break(word) => Ok(tell_break(around.alloc, locals, word.place, stays)),
-        tree::Statement::Continue(word) => Ok(tell_continue(
-            around.alloc,
-            locals,
-            word.place,
-            stays,
-        )),
         tree::Statement::Switch(switch) => {
             let inside = stays.in_switch(locals.last());
             let cases = tell_cases(text, around, locals, inside, switch)?;
             let place = switch.word.place;
             Ok(Statement::Switch { place, cases })
         }
-        _ => tell_alone(text, around, locals, statement),
     }
 }
 

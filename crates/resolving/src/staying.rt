@@ -6,7 +6,7 @@ ghost use Rattle.program.specs.declared.statement.Effect.TheVariants.{Break, Con
 ghost use Rattle.resolving.specs.Frames.{IsLocalFrame, number_model, staying_model};
 ghost use Rattle.resolving.specs.Locals.{LocalFrame, forget};
 ghost use Rattle.resolving.specs.Plain.{simple_of};
-ghost use Rattle.resolving.specs.Told.{forget_after, stays_here, in_switch};
+ghost use Rattle.resolving.specs.Staying.{stays_here, in_switch};
 
 use crate::locals::Locals;
 use crate::values::unread;
@@ -57,7 +57,7 @@ pub(crate) fn forget_past(place: Place, outer: Option<VarId>, last: Option<VarId
 
 /// What goes out of scope at a `break` or a `continue`, where this variable is the last that stays.
 fn forget_at_exit(locals: &Locals<'_>, place: Place, stays: Option<VarId>) -> Option<Forget>
-    ensures { (text : List ℕ) (f : LocalFrame) → IsLocalFrame text f locals.now → result ≡ forget_after place (number_model stays) f }
+    ensures { (text : List ℕ) (f : LocalFrame) → IsLocalFrame text f locals.now → result ≡ forget place (number_model stays) f.last }
 {
     forget_past(place, stays, locals.last())
 }
@@ -70,7 +70,7 @@ pub(crate) fn tell_break(
     stays: Staying,
 ) -> Statement
     ensures { (text : List ℕ) (f : LocalFrame) → IsLocalFrame text f locals.now
-        → statement_model result ≡ simple_of [] (Break (forget_after place (number_model stays.at_break) f)) }
+        → statement_model result ≡ simple_of [] (Break (forget place (number_model stays.at_break) f.last)) }
 {
     unread(
         alloc,
@@ -86,7 +86,7 @@ pub(crate) fn tell_continue(
     stays: Staying,
 ) -> Statement
     ensures { (text : List ℕ) (f : LocalFrame) → IsLocalFrame text f locals.now
-        → statement_model result ≡ simple_of [] (Continue (forget_after place (number_model stays.at_continue) f)) }
+        → statement_model result ≡ simple_of [] (Continue (forget place (number_model stays.at_continue) f.last)) }
 {
     unread(
         alloc,

@@ -24,7 +24,7 @@ use Rattle.syntax.proofs.pieces.CursorLemmas.{fixed_piece, named_piece}
 use Rattle.syntax.proofs.definitions.TypeRules.{pointer_piece}
 use Rattle.syntax.proofs.definitions.EndpointRules.{endpoint_end_piece}
 use Rattle.syntax.proofs.CaseRules.{tail_meets}
-use Rattle.syntax.proofs.SimpleRules.{declared_piece, assigned_piece, called_piece, channel_ends_piece}
+use Rattle.syntax.proofs.PlainRules.{declared_piece, assigned_piece, called_piece, channel_ends_piece}
 use Rattle.syntax.proofs.ExpressionFails.{index_piece}
 
 -- behind a name, a dot and a name
@@ -131,23 +131,23 @@ dotted_rest_piece = record { some = Made channel_ends_piece.some; each = way }
     way (Member span x) = form_way member_form (λ _ r h. h) ((next named_piece member_rest_piece).each (span, x))
 
 -- behind a name, where neither a star nor a dot is
-pub data PlainRest : Type 0 where
-  Called : Span × List ExpressionTree → PlainRest
-  Indexed : ExpressionTree → ValueTree → PlainRest
-  Assigned : ValueTree → PlainRest
+pub data BareRest : Type 0 where
+  Called : Span × List ExpressionTree → BareRest
+  Indexed : ExpressionTree → ValueTree → BareRest
+  Assigned : ValueTree → BareRest
 
 abbrev pub index : ExpressionTree → List Symbol
 index = within kind.OpenBracket expression kind.CloseBracket
 
-abbrev pub plain_rest : PlainRest → List Symbol
-plain_rest (Called p) = called p
-plain_rest (Indexed e v) = index e ++ assigned v
-plain_rest (Assigned v) = assigned v
+abbrev pub bare_rest : BareRest → List Symbol
+bare_rest (Called p) = called p
+bare_rest (Indexed e v) = index e ++ assigned v
+bare_rest (Assigned v) = assigned v
 
 abbrev pub opens_marked : Symbol → Bool
 opens_marked y = not (by_kind (λ k. kind_is kind.OpenParen k || kind_is kind.OpenBracket k) y)
 
-pub called_form : Form plain_rest called Called (is_kind kind.OpenParen)
+pub called_form : Form bare_rest called Called (is_kind kind.OpenParen)
 called_form = record {
   first = record { each = λ p. record { head = Placed kind.OpenParen p.0; tail = _; is = refl; first = refl } };
   same = λ p. refl;
@@ -158,7 +158,7 @@ called_form = record {
   ];
 }
 
-pub indexed_form : Form plain_rest (both index assigned) (λ p. Indexed p.0 p.1) (is_kind kind.OpenBracket)
+pub indexed_form : Form bare_rest (both index assigned) (λ p. Indexed p.0 p.1) (is_kind kind.OpenBracket)
 indexed_form = record {
   first = record { each = λ p. record { head = Fixed kind.OpenBracket; tail = _; is = refl; first = refl } };
   same = λ p. refl;
@@ -169,7 +169,7 @@ indexed_form = record {
   ];
 }
 
-pub assigned_form : Form plain_rest assigned Assigned opens_marked
+pub assigned_form : Form bare_rest assigned Assigned opens_marked
 assigned_form = record {
   first = record { each = λ v. record { head = Fixed kind.Equal; tail = _; is = refl; first = refl } };
   same = λ v. refl;
@@ -180,10 +180,10 @@ assigned_form = record {
   ];
 }
 
-pub plain_rest_piece : Piece plain_rest never (λ _. never)
-plain_rest_piece = record { some = Assigned assigned_piece.some; each = way }
+pub bare_rest_piece : Piece bare_rest never (λ _. never)
+bare_rest_piece = record { some = Assigned assigned_piece.some; each = way }
   where
-    way : (x : PlainRest) → ReadsOneWay plain_rest never (λ _. never) x
+    way : (x : BareRest) → ReadsOneWay bare_rest never (λ _. never) x
     way (Called p) = form_way called_form (λ _ r h. h) (called_piece.each p)
     way (Indexed e v) = form_way indexed_form (λ _ r h. h) ((next index_piece assigned_piece).each (e, v))
     way (Assigned v) = form_way assigned_form (λ _ r h. h) (assigned_piece.each v)
@@ -192,15 +192,15 @@ plain_rest_piece = record { some = Assigned assigned_piece.some; each = way }
 pub data NameRest : Type 0 where
   Pointed : Option Span → Span × Option ValueTree → NameRest
   Dotted : DottedRest → NameRest
-  Plain : PlainRest → NameRest
+  Bare : BareRest → NameRest
 
 abbrev pub name_rest : NameRest → List Symbol
 name_rest (Pointed b d) = pointer_tail b ++ declared d
 name_rest (Dotted x) = word kind.Dot ++ dotted_rest x
-name_rest (Plain x) = plain_rest x
+name_rest (Bare x) = bare_rest x
 
-abbrev pub opens_plain : Symbol → Bool
-opens_plain y = not (by_kind (λ k. kind_is kind.Star k || kind_is kind.Dot k) y)
+abbrev pub opens_bare : Symbol → Bool
+opens_bare y = not (by_kind (λ k. kind_is kind.Star k || kind_is kind.Dot k) y)
 
 pub pointed_form : Form name_rest (both pointer_tail declared) (λ p. Pointed p.0 p.1) (is_kind kind.Star)
 pointed_form = record {
@@ -209,14 +209,14 @@ pointed_form = record {
   each = elim [
     | Pointed b d ↦ Same (b, d) refl
     | Dotted x ↦ Other (record { head = Fixed kind.Dot; tail = _; is = refl; first = refl })
-    | Plain x ↦ plain x
+    | Bare x ↦ bare x
   ];
 }
   where
-    plain : (x : PlainRest) → FormOf name_rest (λ (p : Option Span × (Span × Option ValueTree)). Pointed p.0 p.1) (is_kind kind.Star) (Plain x)
-    plain (Called p) = Other (record { head = Placed kind.OpenParen p.0; tail = _; is = refl; first = refl })
-    plain (Indexed e v) = Other (record { head = Fixed kind.OpenBracket; tail = _; is = refl; first = refl })
-    plain (Assigned v) = Other (record { head = Fixed kind.Equal; tail = _; is = refl; first = refl })
+    bare : (x : BareRest) → FormOf name_rest (λ (p : Option Span × (Span × Option ValueTree)). Pointed p.0 p.1) (is_kind kind.Star) (Bare x)
+    bare (Called p) = Other (record { head = Placed kind.OpenParen p.0; tail = _; is = refl; first = refl })
+    bare (Indexed e v) = Other (record { head = Fixed kind.OpenBracket; tail = _; is = refl; first = refl })
+    bare (Assigned v) = Other (record { head = Fixed kind.Equal; tail = _; is = refl; first = refl })
 
 pub dotted_form : Form name_rest (λ p. word kind.Dot ++ dotted_rest p.1) (λ (p : Unit {0} × DottedRest). Dotted p.1) (is_kind kind.Dot)
 dotted_form = record {
@@ -225,35 +225,35 @@ dotted_form = record {
   each = elim [
     | Pointed b d ↦ Other (record { head = Fixed kind.Star; tail = _; is = refl; first = refl })
     | Dotted x ↦ Same (tt, x) refl
-    | Plain x ↦ plain x
+    | Bare x ↦ bare x
   ];
 }
   where
-    plain : (x : PlainRest) → FormOf name_rest (λ (p : Unit {0} × DottedRest). Dotted p.1) (is_kind kind.Dot) (Plain x)
-    plain (Called p) = Other (record { head = Placed kind.OpenParen p.0; tail = _; is = refl; first = refl })
-    plain (Indexed e v) = Other (record { head = Fixed kind.OpenBracket; tail = _; is = refl; first = refl })
-    plain (Assigned v) = Other (record { head = Fixed kind.Equal; tail = _; is = refl; first = refl })
+    bare : (x : BareRest) → FormOf name_rest (λ (p : Unit {0} × DottedRest). Dotted p.1) (is_kind kind.Dot) (Bare x)
+    bare (Called p) = Other (record { head = Placed kind.OpenParen p.0; tail = _; is = refl; first = refl })
+    bare (Indexed e v) = Other (record { head = Fixed kind.OpenBracket; tail = _; is = refl; first = refl })
+    bare (Assigned v) = Other (record { head = Fixed kind.Equal; tail = _; is = refl; first = refl })
 
-pub plain_form : Form name_rest plain_rest Plain opens_plain
-plain_form = record {
+pub bare_form : Form name_rest bare_rest Bare opens_bare
+bare_form = record {
   first = record { each = begins };
   same = λ x. refl;
   each = elim [
     | Pointed b d ↦ Other (record { head = Fixed kind.Star; tail = _; is = refl; first = refl })
     | Dotted x ↦ Other (record { head = Fixed kind.Dot; tail = _; is = refl; first = refl })
-    | Plain x ↦ Same x refl
+    | Bare x ↦ Same x refl
   ];
 }
   where
-    begins : (x : PlainRest) → Begins plain_rest opens_plain x
+    begins : (x : BareRest) → Begins bare_rest opens_bare x
     begins (Called p) = record { head = Placed kind.OpenParen p.0; tail = _; is = refl; first = refl }
     begins (Indexed e v) = record { head = Fixed kind.OpenBracket; tail = _; is = refl; first = refl }
     begins (Assigned v) = record { head = Fixed kind.Equal; tail = _; is = refl; first = refl }
 
 pub name_rest_piece : Piece name_rest never (λ _. never)
-name_rest_piece = record { some = Plain plain_rest_piece.some; each = way }
+name_rest_piece = record { some = Bare bare_rest_piece.some; each = way }
   where
     way : (x : NameRest) → ReadsOneWay name_rest never (λ _. never) x
     way (Pointed b d) = form_way pointed_form (λ _ r h. h) ((next pointer_piece declared_piece).each (b, d))
     way (Dotted x) = form_way dotted_form (λ _ r h. h) ((next (fixed_piece kind.Dot) dotted_rest_piece).each (tt, x))
-    way (Plain x) = form_way plain_form (λ _ r h. h) (plain_rest_piece.each x)
+    way (Bare x) = form_way bare_form (λ _ r h. h) (bare_rest_piece.each x)

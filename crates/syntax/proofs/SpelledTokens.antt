@@ -13,7 +13,7 @@ use Rattle.tree.specs.Expressions.{Unary, Chain, Done, More, Number, True, False
 use Rattle.tree.specs.Values.{Struct, Array, Expression, Call, New, call, made_spelling, value_spelling}
 use Rattle.tree.specs.StatementTrees as form
 use Rattle.tree.specs.StatementTrees.{NoStatement, MoreStatements, Braces, Test, NoOther, Else, ElseIf, Case, NoCase, MoreCases}
-use Rattle.tree.specs.StatementGrammar.{init, declare, assign, awaited, bind, statement, statements, block, test, others, case, cases}
+use Rattle.tree.specs.StatementGrammar.{init, declare, assign, plain, awaited, bind, statement, statements, block, test, others, case, cases}
 use Rattle.tree.specs.Trees as defined
 use Rattle.tree.specs.Programs.{field, result_type, claims_words, parameter, method, definition, item, program}
 use Rattle.tree.specs.declared.statement.Awaited.TheVariants as awaits
@@ -136,21 +136,24 @@ awaited_tokens (awaits.Closed span) = refl
 bind_tokens : SpellsTokens bind
 bind_tokens b = simp (list_all-append, optional_tokens value_type type_tokens b.ty)
 
+plain_tokens : SpellsTokens plain
+plain_tokens (form.Declare d) = declare_tokens d
+plain_tokens (form.Assign a) = assign_tokens a
+plain_tokens (form.Call c) = simp (list_all-append, call_tokens c)
+plain_tokens (form.Start span c) = simp (list_all-append, call_tokens c)
+plain_tokens (form.Delete span) = refl
+plain_tokens (form.Exchange e) = refl
+plain_tokens (form.NewChannel n) = refl
+plain_tokens (form.Break span) = refl
+plain_tokens (form.Continue span) = refl
+plain_tokens (form.Return span result) = simp (list_all-append, optional_tokens expression level_tokens result)
+
 mutual
   statement_tokens : SpellsTokens statement
   statement_tokens (form.Block b) = block_tokens b
-  statement_tokens (form.Declare d) = declare_tokens d
-  statement_tokens (form.Assign a) = assign_tokens a
-  statement_tokens (form.Call c) = simp (list_all-append, call_tokens c)
-  statement_tokens (form.Start span c) = simp (list_all-append, call_tokens c)
-  statement_tokens (form.Delete span) = refl
-  statement_tokens (form.Exchange e) = refl
-  statement_tokens (form.NewChannel n) = refl
+  statement_tokens (form.Plain x) = plain_tokens x
   statement_tokens (form.If t more) = simp (list_all-append, test_tokens kind.If t, others_tokens more)
   statement_tokens (form.While t) = test_tokens kind.While t
-  statement_tokens (form.Break span) = refl
-  statement_tokens (form.Continue span) = refl
-  statement_tokens (form.Return span result) = simp (list_all-append, optional_tokens expression level_tokens result)
   statement_tokens (form.Switch span first more close) = simp (list_all-append, case_tokens first, cases_tokens more)
 
   statements_tokens : SpellsTokens statements

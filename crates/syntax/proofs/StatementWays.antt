@@ -1,18 +1,12 @@
 -- Each statement is read in one way.
-use Rattle.std.proofs.Common.{List, [], Option, Some, None, refl, subst}
+use Rattle.std.proofs.Common.{[], refl, subst}
 use Rattle.std.specs.List.{flat_map}
 use Rattle.source.specs.declared.kind.Kind.{Kind}
 use Rattle.source.specs.declared.kind.Kind.TheVariants as kind
-use Rattle.source.specs.declared.token.Span.{Span}
 use Rattle.syntax.specs.Reading.{never}
-use Rattle.tree.specs.Expressions.{TargetTree, Variable, Field, Element, ExpressionTree}
-use Rattle.tree.specs.Values.{ValueTree}
-use Rattle.tree.specs.StatementTrees.{StatementTree, Block, Declare, Assign, Call, Start, Delete, Exchange, NewChannel, If, While, Break, Continue, Return, Switch, StatementTrees, NoStatement, MoreStatements, BlockTree, Braces, TestTree, Test, OtherTrees, NoOther, Else, ElseIf, CaseTree, Case, CaseTrees, NoCase, MoreCases}
+use Rattle.tree.specs.StatementTrees.{StatementTree, Block, Plain, If, While, Switch, StatementTrees, NoStatement, MoreStatements, BlockTree, Braces, TestTree, Test, OtherTrees, NoOther, Else, ElseIf, CaseTree, Case, CaseTrees, NoCase, MoreCases}
 use Rattle.tree.specs.StatementGrammar.{statement, block, test, others, case}
 use Rattle.syntax.specs.StatementFirsts.{statement_on, others_at, statement_at, statements_on, statements_at, statement_list, case_at, cases_on, cases_at, case_list}
-use Rattle.tree.specs.declared.types as tree
-use Rattle.tree.specs.declared.types.Type.TheVariants as type
-use Rattle.tree.specs.declared.types.Heap.TheVariants as heap
 use Rattle.syntax.proofs.pieces.Pieces.{Piece, ReadsOneWay, both, both_way, both_piece, via_way, same_way, wide_way, ends, meets, stops_never}
 use Rattle.syntax.proofs.pieces.Repeats.{nil_open_way, cons_open_way, many_open_piece}
 use Rattle.syntax.proofs.pieces.Options.{open_none_way, open_some_way}
@@ -21,44 +15,18 @@ use Rattle.syntax.proofs.pieces.Enclosed.{braced_way}
 use Rattle.syntax.proofs.pieces.CursorLemmas.{fixed_piece, placed_piece, named_piece}
 use Rattle.syntax.proofs.StatementSequences.{case_list_sequence}
 use Rattle.syntax.proofs.StatementLeads.{statement_starts}
-use Rattle.syntax.proofs.SimpleRules.{jump_piece, delete_piece, exchange_piece, start_piece, return_piece}
+use Rattle.syntax.proofs.PlainForms.{plain_piece}
 use Rattle.syntax.proofs.CaseRules.{case_front_piece}
-use Rattle.syntax.proofs.NameRests.{Passed, Written, Ended, Made, Member, Called, Indexed, Assigned, Pointed, Dotted, Plain}
-use Rattle.syntax.proofs.NamedForms.{named_way}
-use Rattle.syntax.proofs.StatementForms.{block_form, if_form, while_form, switch_form, break_form, continue_form, delete_form, exchange_form, return_form, start_form, scalar_declared_form, scalar_declared_piece}
+use Rattle.syntax.proofs.StatementForms.{block_form, plain_form, if_form, while_form, switch_form}
 use Rattle.syntax.proofs.StatementCycle.{block_to, block_from, block_back, block_spelled, test_to, test_from, test_back, test_spelled, Last, Further, others_to, others_from, others_back, others_spelled, others_stops, else_starts, else_opens, last_form, further_form, else_way, case_to, case_from, case_back, case_spelled, case_stops, case_starts, statement_splits, statement_leaves, case_splits, case_leaves, block_inside, cases_end, cases_follow, cases_meet, case_follows, case_meets, if_to, if_from, switch_to, switch_from}
 use Rattle.syntax.proofs.ExpressionFails.{parens_expression_piece}
-
-declare_way : (t : tree.Type.Type) (span : Span) (o : Option ValueTree) → ReadsOneWay statement statement_on statement_at (Declare (record { ty = t; name = span; value = o }))
-declare_way (type.Scalar s) span o = form_way scalar_declared_form (λ _ r _. stops_never r) (wide_way (λ y h. refl) (scalar_declared_piece.each (record { scalar = s; array = None }, (span, o))))
-declare_way (type.Heap (heap.Array s b)) span o = form_way scalar_declared_form (λ _ r _. stops_never r) (wide_way (λ y h. refl) (scalar_declared_piece.each (record { scalar = s; array = Some b }, (span, o))))
-declare_way (type.Heap (heap.Pointer first b)) span o = named_way first (Pointed b (span, o))
-declare_way (type.Heap (heap.Endpoint first end state bang in_heap)) span o = named_way first (Dotted (Ended (record { side = end; state = state; bang = bang; in_heap = in_heap }) (span, o)))
-
-assign_way : (t : TargetTree) (v : ValueTree) → ReadsOneWay statement statement_on statement_at (Assign (record { target = t; value = v }))
-assign_way (Variable first) v = named_way first (Plain (Assigned v))
-assign_way (Field first span) v = named_way first (Dotted (Member span (Written v)))
-assign_way (Element first e) v = named_way first (Plain (Indexed e v))
-
-call_way : (first left : Span) (o : Option Span) (es : List ExpressionTree) → ReadsOneWay statement statement_on statement_at (Call (record { name = first; member = o; open_paren = left; arguments = es }))
-call_way first left None es = named_way first (Plain (Called (left, es)))
-call_way first left (Some span) es = named_way first (Dotted (Member span (Passed (left, es))))
 
 mutual
   statement_way : (x : StatementTree) → ReadsOneWay statement statement_on statement_at x
   statement_way (Block b) = form_way block_form (λ _ r _. stops_never r) (wide_way (λ y h. refl) (block_way b))
-  statement_way (Declare d) = declare_way d.ty d.name d.value
-  statement_way (Assign a) = assign_way a.target a.value
-  statement_way (Call c) = call_way c.name c.open_paren c.member c.arguments
-  statement_way (Start span c) = form_way start_form (λ _ r _. stops_never r) (wide_way (λ y h. refl) (start_piece.each (span, c)))
-  statement_way (Delete span) = form_way delete_form (λ _ r _. stops_never r) (wide_way (λ y h. refl) (delete_piece.each span))
-  statement_way (Exchange e) = form_way exchange_form (λ _ r _. stops_never r) (wide_way (λ y h. refl) (exchange_piece.each e))
-  statement_way (NewChannel n) = named_way n.contract (Dotted (Made (record { word = n.word; «open» = n.«open»; first = n.first; second = n.second })))
+  statement_way (Plain x) = form_way plain_form (λ _ r _. stops_never r) (wide_way (λ y h. refl) (plain_piece.each x))
   statement_way (If t more) = form_way if_form {x = record { first = t; others = more }} (λ _ r h. h) (via_way if_to if_from (λ _. refl) (both_way (test_way kind.If t) (others_way more) ends meets))
   statement_way (While t) = form_way while_form (λ _ r _. stops_never r) (wide_way (λ y h. refl) (test_way kind.While t))
-  statement_way (Break span) = form_way break_form (λ _ r _. stops_never r) (wide_way (λ y h. refl) ((jump_piece kind.Break).each span))
-  statement_way (Continue span) = form_way continue_form (λ _ r _. stops_never r) (wide_way (λ y h. refl) ((jump_piece kind.Continue).each span))
-  statement_way (Return span e) = form_way return_form (λ _ r _. stops_never r) (wide_way (λ y h. refl) (return_piece.each (span, e)))
   statement_way (Switch span first more close) =
       subst (λ m. ReadsOneWay statement statement_on statement_at (Switch span first m close)) (case_list_sequence more)
       (form_way switch_form {x = record { word = span; first = first; others = case_list more; close = close }} (λ _ r _. stops_never r) (wide_way (λ y h. refl) (via_way switch_to switch_from (λ _. refl)

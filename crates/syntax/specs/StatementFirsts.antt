@@ -8,7 +8,7 @@ use Rattle.tree.specs.StatementTrees.{StatementTree, If, OtherTrees, NoOther, El
 use Rattle.tree.specs.StatementTrees.{StatementTrees, NoStatement, MoreStatements, CaseTrees, NoCase, MoreCases}
 use Rattle.syntax.specs.declared.leads.Lead.{Lead}
 use Rattle.syntax.specs.declared.leads.Lead.TheVariants as lead
-use Rattle.syntax.specs.declared.leads.SimpleLead.TheVariants as simple
+use Rattle.syntax.specs.declared.leads.PlainLead.TheVariants as plain_lead
 
 -- what a statement is that begins with a token of this kind
 abbrev pub lead_of : Option Kind → Option Lead
@@ -16,16 +16,16 @@ lead_of (Some kind.OpenBrace) = Some lead.Block
 lead_of (Some kind.If) = Some lead.If
 lead_of (Some kind.While) = Some lead.While
 lead_of (Some kind.Switch) = Some lead.Switch
-lead_of (Some kind.Name) = Some (lead.Simple simple.Name)
-lead_of (Some kind.Int) = Some (lead.Simple simple.Scalar)
-lead_of (Some kind.Bool) = Some (lead.Simple simple.Scalar)
-lead_of (Some kind.Byte) = Some (lead.Simple simple.Scalar)
-lead_of (Some kind.Start) = Some (lead.Simple simple.Start)
-lead_of (Some kind.Delete) = Some (lead.Simple simple.Delete)
-lead_of (Some kind.Exchange) = Some (lead.Simple simple.Exchange)
-lead_of (Some kind.Break) = Some (lead.Simple simple.Break)
-lead_of (Some kind.Continue) = Some (lead.Simple simple.Continue)
-lead_of (Some kind.Return) = Some (lead.Simple simple.Return)
+lead_of (Some kind.Name) = Some (lead.Plain plain_lead.Name)
+lead_of (Some kind.Int) = Some (lead.Plain plain_lead.Scalar)
+lead_of (Some kind.Bool) = Some (lead.Plain plain_lead.Scalar)
+lead_of (Some kind.Byte) = Some (lead.Plain plain_lead.Scalar)
+lead_of (Some kind.Start) = Some (lead.Plain plain_lead.Start)
+lead_of (Some kind.Delete) = Some (lead.Plain plain_lead.Delete)
+lead_of (Some kind.Exchange) = Some (lead.Plain plain_lead.Exchange)
+lead_of (Some kind.Break) = Some (lead.Plain plain_lead.Break)
+lead_of (Some kind.Continue) = Some (lead.Plain plain_lead.Continue)
+lead_of (Some kind.Return) = Some (lead.Plain plain_lead.Return)
 lead_of _ = None
 
 -- whether a statement begins with this token

@@ -12,12 +12,12 @@ pub enum Lead {
     If,
     While,
     Switch,
-    Simple(SimpleLead),
+    Plain(PlainLead),
 }
 
-/// A statement that holds no other, by its first token.
+/// A statement that holds no others, by its first token.
 #[derive(Clone, Copy)]
-pub enum SimpleLead {
+pub enum PlainLead {
     Name,
     Scalar,
     Start,
@@ -37,14 +37,14 @@ pub fn lead_of(kind: Option<Kind>) -> Option<Lead>
         Kind::If => Some(Lead::If),
         Kind::While => Some(Lead::While),
         Kind::Switch => Some(Lead::Switch),
-        Kind::Name => Some(Lead::Simple(SimpleLead::Name)),
-        Kind::Int | Kind::Bool | Kind::Byte => Some(Lead::Simple(SimpleLead::Scalar)),
-        Kind::Start => Some(Lead::Simple(SimpleLead::Start)),
-        Kind::Delete => Some(Lead::Simple(SimpleLead::Delete)),
-        Kind::Exchange => Some(Lead::Simple(SimpleLead::Exchange)),
-        Kind::Break => Some(Lead::Simple(SimpleLead::Break)),
-        Kind::Continue => Some(Lead::Simple(SimpleLead::Continue)),
-        Kind::Return => Some(Lead::Simple(SimpleLead::Return)),
+        Kind::Name => Some(Lead::Plain(PlainLead::Name)),
+        Kind::Int | Kind::Bool | Kind::Byte => Some(Lead::Plain(PlainLead::Scalar)),
+        Kind::Start => Some(Lead::Plain(PlainLead::Start)),
+        Kind::Delete => Some(Lead::Plain(PlainLead::Delete)),
+        Kind::Exchange => Some(Lead::Plain(PlainLead::Exchange)),
+        Kind::Break => Some(Lead::Plain(PlainLead::Break)),
+        Kind::Continue => Some(Lead::Plain(PlainLead::Continue)),
+        Kind::Return => Some(Lead::Plain(PlainLead::Return)),
         _ => None,
     }
 }

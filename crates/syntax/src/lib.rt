@@ -16,7 +16,7 @@ mod leads;
 mod messages;
 mod operators;
 mod parsing;
-mod simple;
+mod plain;
 mod statement_ends;
 mod statements;
 mod states;

@@ -1,4 +1,4 @@
-//! Reads pieces of statements that hold no other.
+//! Reads pieces of statements that hold no others.
 
 ghost use Rattle.std.specs.Prelude.{◌≡◌, true};
 ghost use Rattle.std.specs.Option.{option_map};

@@ -15,7 +15,7 @@ use crate::cursor::{Cursor, Stuck};
 use crate::expressions::read_parens;
 use crate::fitted::{push, shrink};
 use crate::leads::{Lead, lead_of};
-use crate::simple::simple_statement;
+use crate::plain::plain;
 use source::Kind;
 use std::alloc::Global;
 use tree::{Block, Case, If, Statement, Switch, Test};
@@ -33,7 +33,7 @@ fn statements(alloc: Global, cursor: &mut Cursor<'_>) -> Result<Vec<Statement>, 
     Ok(shrink(all))
 }
 
-/// statement = block | if | "while" test | switch | simple statement .
+/// statement = block | plain | if | "while" test | switch .
 #[cycle(statement)]
 fn statement(alloc: Global, cursor: &mut Cursor<'_>, lead: Lead) -> Result<Statement, Stuck>
     requires { lead_of (kind_at cursor.old) ≡ Some lead }
@@ -47,7 +47,7 @@ fn statement(alloc: Global, cursor: &mut Cursor<'_>, lead: Lead) -> Result<State
             Ok(Statement::While(Box::new(alloc, test)?))
         }
         Lead::Switch => Ok(Statement::Switch(Box::new(alloc, switch(alloc, cursor)?)?)),
-        Lead::Simple(simple) => simple_statement(alloc, cursor, simple),
+        Lead::Plain(lead) => Ok(Statement::Plain(plain(alloc, cursor, lead)?)),
     }
 }
 

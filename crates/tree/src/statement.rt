@@ -13,12 +13,21 @@ pub struct Block {
     pub close: Span,
 }
 
-/// A word, as `break` or `return`, is kept by where it lies. What is larger than a block stands in a box, so that a list of statements
-/// takes little for each.
+/// A statement. What is larger than a block stands in a box, so that a list of statements takes little for each.
 #[cycle(statement)]
 #[derive(Drop)]
 pub enum Statement {
     Block(Block),
+    Plain(Plain),
+    If(Box<If>),
+    /// "while" "(" expression ")" block .
+    While(Box<Test>),
+    Switch(Box<Switch>),
+}
+
+/// A statement that holds no others. A word, as `break` or `return`, is kept by where it lies.
+#[derive(Drop)]
+pub enum Plain {
     Declare(Box<Declare>),
     Assign(Box<Assign>),
     /// call ";" .
@@ -32,9 +41,6 @@ pub enum Statement {
     Delete(Span),
     Exchange(Box<Exchange>),
     NewChannel(Box<NewChannel>),
-    If(Box<If>),
-    /// "while" "(" expression ")" block .
-    While(Box<Test>),
     /// "break" ";" .
     Break(Span),
     /// "continue" ";" .
@@ -44,7 +50,6 @@ pub enum Statement {
         word: Span,
         value: Option<Box<Expression>>,
     },
-    Switch(Box<Switch>),
 }
 
 /// declare = type ID [ "=" value ] ";" .

@@ -7,7 +7,7 @@ use Rattle.source.specs.declared.token.Span.{Span}
 use Rattle.tree.specs.Expressions.{ExpressionTree}
 use Rattle.tree.specs.declared.class.Parameter.{Parameter}
 use Rattle.tree.specs.declared.contract.MessageParameter.{MessageParameter}
-use Rattle.names.specs.Expressions.{type_of, place_of, variable_type, whole_mistakes}
+use Rattle.names.specs.Expressions.{type_of, place_of, whole_mistakes}
 use Rattle.declarations.specs.Types.{agree, alike, is_block, type_meant, type_unknown, unless}
 use Rattle.declarations.specs.Program.{ProgramText}
 use Rattle.names.specs.Shapes.{shape}

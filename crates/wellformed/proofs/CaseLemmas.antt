@@ -6,7 +6,7 @@ use Rattle.std.specs.Option.{option_map_or}
 use Rattle.std.specs.Prelude.{Option, None, Some, ◌==◌, ◌&&◌, ◌||◌, if◌then◌else◌, option_and_then, option_map, slice_get}
 use Rattle.source.specs.declared.place.Place.{Place}
 use Rattle.source.specs.declared.token.Span.{Span}
-use Rattle.tree.specs.StatementTrees.{Case, CaseTree, CaseTrees, MoreCases, NoCase}
+use Rattle.tree.specs.StatementTrees.{Case, CaseTree, CaseTrees, MoreCases, NoCase, behind_case}
 use Rattle.tree.specs.declared.statement.Awaited.{Awaited}
 use Rattle.tree.specs.declared.statement.Awaited.TheVariants.{Closed, Message}
 use Rattle.names.specs.Bodies.{Surroundings, case_turn, cases_turn, head_of, heads_of, scope_in}
@@ -22,7 +22,8 @@ use Rattle.declarations.specs.declared.value_type.ValueType.{ValueType}
 use Rattle.declarations.specs.declared.value_type.ValueType.TheVariants as ty
 use Rattle.program.specs.Methods.{VariableModel}
 use Rattle.resolving.specs.Locals.{LocalFrame, Local, mention_of}
-use Rattle.resolving.specs.Told.{Staying, behind_case, case_endpoint, case_told, cases_told}
+use Rattle.resolving.specs.Told.{case_endpoint, case_told, cases_told}
+use Rattle.resolving.specs.Staying.{Staying}
 use Rattle.program.specs.Lists.{Each, is_among}
 use Rattle.program.specs.WellFormed.{endpoints, closes}
 use Rattle.wellformed.proofs.MentionLemmas.{held_known}

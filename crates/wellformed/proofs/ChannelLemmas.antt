@@ -20,7 +20,7 @@ use Rattle.program.specs.declared.types.HeapType.{HeapType}
 use Rattle.program.specs.declared.types.HeapType.TheVariants.{Endpoint}
 use Rattle.resolving.specs.Types.{contract_named, contract_number, number_at}
 use Rattle.resolving.specs.Locals.{number_of, LocalFrame, mention, mention_of}
-use Rattle.resolving.specs.Plain.{channel_or_nothing, channel_action, effect_of, ends_of}
+use Rattle.resolving.specs.Plain.{channel_found, channel_action, effect_of, ends_of}
 use Rattle.program.specs.Scopes.{IsInScope}
 use Rattle.program.specs.WellFormed.{IsEffect, Setting, are_ends}
 use Rattle.wellformed.proofs.ContractLemmas.{contract_is_at}
@@ -75,7 +75,7 @@ channel_contract p contract c side named known =
 
 found_fits : (p : ProgramText) (class : ℕ) (s : Setting) (f : LocalFrame) (g : names.NameFrame) (n : made.NewChannel.NewChannel) (c : Numbered ContractTree) → items.contract_named p n.contract ≡ Some c
     → s.scope ≡ last_of f → AreStanding p s.variables f g → variable_mistakes (scope_of p g) n.first ≡ [] → variable_mistakes (scope_of p g) n.second ≡ []
-    → ends_mistakes c.0 (variable_type (variable_of (scope_of p g) n.first)) (variable_type (variable_of (scope_of p g) n.second)) n.first n.second ≡ [] → IsEffect s (channel_or_nothing p class f n)
+    → ends_mistakes c.0 (variable_type (variable_of (scope_of p g) n.first)) (variable_type (variable_of (scope_of p g) n.second)) n.first n.second ≡ [] → IsEffect s (effect_of (channel_found p class f n))
 found_fits p class s f g n c named here standing first second none =
     let a = variable_type (variable_of (scope_of p g) n.first) in
     let b = variable_type (variable_of (scope_of p g) n.second) in
@@ -107,13 +107,13 @@ found_fits p class s f g n c named here standing first second none =
 
 named_fits : (p : ProgramText) (class : ℕ) (s : Setting) (f : LocalFrame) (g : names.NameFrame) (n : made.NewChannel.NewChannel) (o : Option (Numbered ContractTree)) → items.contract_named p n.contract ≡ o
     → s.scope ≡ last_of f → AreStanding p s.variables f g → variable_mistakes (scope_of p g) n.first ≡ [] → variable_mistakes (scope_of p g) n.second ≡ []
-    → new_ends_mistakes (scope_of p g) o n.contract n.first n.second ≡ [] → IsEffect s (channel_or_nothing p class f n)
+    → new_ends_mistakes (scope_of p g) o n.contract n.first n.second ≡ [] → IsEffect s (effect_of (channel_found p class f n))
 named_fits p class s f g n None named here standing first second none = cc
 named_fits p class s f g n (Some c) named here standing first second none = found_fits p class s f g n c named here standing first second none
 
 -- a new channel
 pub channel_fits : (p : ProgramText) (t : ClassTree) (class : ℕ) (result : Option type_nodes.Type.Type) (s : Setting) (f : LocalFrame) (g : names.NameFrame) (n : made.NewChannel.NewChannel)
-    → Around p t class result s → s.scope ≡ last_of f → AreStanding p s.variables f g → channel_mistakes (scope_of p g) n.contract n.first n.second ≡ [] → IsEffect s (channel_or_nothing p class f n)
+    → Around p t class result s → s.scope ≡ last_of f → AreStanding p s.variables f g → channel_mistakes (scope_of p g) n.contract n.first n.second ≡ [] → IsEffect s (effect_of (channel_found p class f n))
 channel_fits p t class result s f g n around here standing none =
     let named = items.contract_named p n.contract in
     let ends = new_ends_mistakes (scope_of p g) named n.contract n.first n.second in

@@ -29,7 +29,7 @@ use Rattle.resolving.specs.Counts.{structs_before}
 use Rattle.resolving.specs.Fields.{field_number, fields_held, owning_before, structs_told}
 use Rattle.resolving.specs.Types.{state_in}
 use Rattle.resolving.specs.Locals.{LocalFrame, Local, local_named, mention, mention_of, number_of}
-use Rattle.resolving.specs.Plain.{effect_of, exchange_by, exchange_found, exchange_of, exchange_or_nothing}
+use Rattle.resolving.specs.Plain.{effect_of, exchange_by, exchange_found, exchange_of}
 use Rattle.wellformed.proofs.FieldLemmas.{field_at, fields_clean, types_of_struct}
 use Rattle.wellformed.proofs.FindingLemmas.{none_said, unless_none}
 use Rattle.wellformed.proofs.HeapTypeLemmas.{HasStruct, Holding, agree_alike, alike_block, alike_held, block_holds, known_loud, loud_left, pointer_held, scalar_holds, struct_known, struct_of, type_known}
@@ -143,7 +143,7 @@ exchange_is p class f g vs e standing none n number is numbered v w holder given
 -- an exchange of a variable and of what a field holds, which are of one type
 action_fits : (p : ProgramText) (class : ℕ) (s : Setting) (f : LocalFrame) (e : made.Exchange.Exchange) (number : ℕ) (inside : HeapType) (v w : ℕ) (x y : VariableModel)
     → exchange_found p class f e ≡ Some (exchange_of p class f e number (mention_of e.holder v) (mention_of e.given w)) → slice_get s.variables v ≡ Some x → slice_get s.variables w ≡ Some y
-    → IsInScope s.variables s.scope (number_of w) → slice_get (field_types s.structs x.ty) number ≡ Some inside → same_type y.ty inside ≡ true → IsEffect s (exchange_or_nothing p class f e)
+    → IsInScope s.variables s.scope (number_of w) → slice_get (field_types s.structs x.ty) number ≡ Some inside → same_type y.ty inside ≡ true → IsEffect s (effect_of (exchange_found p class f e))
 action_fits p class s f e number inside v w x y found holder given scope types same =
     subst (λ o. IsEffect s (effect_of o)) (sym found) (
       scope,
@@ -153,7 +153,7 @@ action_fits p class s f e number inside v w x y found holder given scope types s
 
 -- an exchange
 pub exchange_fits : (p : ProgramText) (t : ClassTree) (class : ℕ) (result : Option type_nodes.Type.Type) (s : Setting) (f : LocalFrame) (g : names.NameFrame) (e : made.Exchange.Exchange)
-    → Around p t class result s → s.scope ≡ last_of f → AreStanding p s.variables f g → exchange_mistakes (scope_of p g) e ≡ [] → IsEffect s (exchange_or_nothing p class f e)
+    → Around p t class result s → s.scope ≡ last_of f → AreStanding p s.variables f g → exchange_mistakes (scope_of p g) e ≡ [] → IsEffect s (effect_of (exchange_found p class f e))
 exchange_fits p t class result s f g e around here standing none =
     let k = variable_type (variable_of (scope_of p g) e.holder) in
     let a = variable_type (variable_of (scope_of p g) e.given) in

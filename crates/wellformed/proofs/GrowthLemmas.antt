@@ -4,7 +4,7 @@ use Rattle.std.specs.Prelude.{Option, None, Some, option_map, slice_get, IfSome}
 use Rattle.source.specs.declared.place.Place.{Place}
 use Rattle.source.specs.declared.token.Span.{Span}
 use Rattle.tree.specs.StatementTrees as trees
-use Rattle.tree.specs.StatementTrees.{StatementTree, StatementTrees, BlockTree, TestTree, OtherTrees, CaseTree, CaseTrees}
+use Rattle.tree.specs.StatementTrees.{PlainTree, StatementTree, StatementTrees, BlockTree, TestTree, OtherTrees, CaseTree, CaseTrees, behind_case}
 use Rattle.tree.specs.declared.statement as made
 use Rattle.tree.specs.declared.contract as contract_nodes
 use Rattle.tree.specs.declared.types as type_nodes
@@ -19,7 +19,9 @@ use Rattle.program.specs.declared.method.Role.TheVariants.{Local}
 use Rattle.resolving.specs.Binds.{bind_told, binds_told, bound_as}
 use Rattle.resolving.specs.Types.{heap_type, state_in, type_held}
 use Rattle.resolving.specs.Locals.{LocalFrame, after_block, with_declaration, number_of}
-use Rattle.resolving.specs.Told.{Staying, stays_here, in_switch, behind_case, awaited_message, awaited_params, statement_told, statements_told, block_told, test_told, others_told, case_told, cases_told}
+use Rattle.resolving.specs.Plain.{frame_behind}
+use Rattle.resolving.specs.Told.{awaited_message, awaited_params, statement_told, statements_told, block_told, test_told, others_told, case_told, cases_told}
+use Rattle.resolving.specs.Staying.{Staying, stays_here, in_switch}
 use Rattle.program.specs.Scopes.{AreNested}
 use Rattle.wellformed.proofs.ListLemmas.{each_append}
 use Rattle.wellformed.proofs.Standing.{Grows, IsLocal, Within, declares}
@@ -102,21 +104,20 @@ closed_nests : (p : ProgramText) (f after : LocalFrame) → Nests f → Grows p 
 closed_nests p f after before grows inside = record { nested = inside.nested; last = still_below f.variables grows.more after.variables f.last grows.is before.last }
 
 module _ (p : ProgramText) (class : ℕ) where
+  plain_grows : (x : PlainTree) (f : LocalFrame) → Grows p f (frame_behind p class f x)
+  plain_grows (trees.Declare d) f = held_grows p d.name (type_meant p d.ty) (state_in d.ty) (type_held p d.ty) refl f
+  plain_grows x f = same_grows p f _ refl
+
+  plain_nests : (x : PlainTree) (f : LocalFrame) → Nests f → Nests (frame_behind p class f x)
+  plain_nests (trees.Declare d) f n = declared_nests p.text d.name (type_meant p d.ty) (type_held p d.ty) Local f n
+  plain_nests x f n = n
+
   mutual
     pub statement_grows : (stays : Staying) (x : StatementTree) (f : LocalFrame) → Grows p f (statement_told p class stays x f).frame
     statement_grows stays (trees.Block b) f = block_grows stays b f
-    statement_grows stays (trees.Declare d) f = held_grows p d.name (type_meant p d.ty) (state_in d.ty) (type_held p d.ty) refl f
-    statement_grows stays (trees.Assign a) f = same_grows p f _ refl
-    statement_grows stays (trees.Call c) f = same_grows p f _ refl
-    statement_grows stays (trees.Start word c) f = same_grows p f _ refl
-    statement_grows stays (trees.Delete name) f = same_grows p f _ refl
-    statement_grows stays (trees.Exchange e) f = same_grows p f _ refl
-    statement_grows stays (trees.NewChannel n) f = same_grows p f _ refl
+    statement_grows stays (trees.Plain x) f = plain_grows x f
     statement_grows stays (trees.If first others) f = grows_then p f _ _ (test_grows stays first f) (others_grow stays others (test_told p class stays first f).frame)
     statement_grows stays (trees.While test) f = test_grows (stays_here f) test f
-    statement_grows stays (trees.Break word) f = same_grows p f _ refl
-    statement_grows stays (trees.Continue word) f = same_grows p f _ refl
-    statement_grows stays (trees.Return word value) f = same_grows p f _ refl
     statement_grows stays (trees.Switch word first cases close) f =
         grows_then p f _ _ (case_grows (in_switch stays f) (behind_case cases close.place) first f) (cases_grow (in_switch stays f) cases close.place (case_told p class (in_switch stays f) (behind_case cases close.place) first f).frame)
 
@@ -149,18 +150,9 @@ module _ (p : ProgramText) (class : ℕ) where
   mutual
     statement_nests : (stays : Staying) (x : StatementTree) (f : LocalFrame) → Nests f → Nests (statement_told p class stays x f).frame
     statement_nests stays (trees.Block b) f n = block_nests stays b f n
-    statement_nests stays (trees.Declare d) f n = declared_nests p.text d.name (type_meant p d.ty) (type_held p d.ty) Local f n
-    statement_nests stays (trees.Assign a) f n = n
-    statement_nests stays (trees.Call c) f n = n
-    statement_nests stays (trees.Start word c) f n = n
-    statement_nests stays (trees.Delete name) f n = n
-    statement_nests stays (trees.Exchange e) f n = n
-    statement_nests stays (trees.NewChannel new) f n = n
+    statement_nests stays (trees.Plain x) f n = plain_nests x f n
     statement_nests stays (trees.If first others) f n = others_nest stays others (test_told p class stays first f).frame (test_nests stays first f n)
     statement_nests stays (trees.While test) f n = test_nests (stays_here f) test f n
-    statement_nests stays (trees.Break word) f n = n
-    statement_nests stays (trees.Continue word) f n = n
-    statement_nests stays (trees.Return word value) f n = n
     statement_nests stays (trees.Switch word first cases close) f n =
         let inside = in_switch stays f in
         cases_nest inside cases close.place (case_told p class inside (behind_case cases close.place) first f).frame (case_nests inside (behind_case cases close.place) first f n)

@@ -24,7 +24,7 @@ use Rattle.resolving.specs.Fields.{structs_told}
 use Rattle.resolving.specs.Types.{heap_type, result_held, state_in, type_held}
 use Rattle.resolving.specs.Locals.{LocalFrame, with_declaration, declared_as, number_of}
 use Rattle.resolving.specs.Methods.{body_told, method_told, methods_told, no_variables, parameter_declaration, parameters_frame, role_of, takes_some}
-use Rattle.resolving.specs.Told.{stays_here}
+use Rattle.resolving.specs.Staying.{stays_here}
 use Rattle.program.specs.Lists.{Each}
 use Rattle.program.specs.WellFormed.{AreStatements, AreWellFormed, IsType, IsWellFormed, Setting, is_parameter, setting}
 use Rattle.program.specs.Scopes.{IsInScope}

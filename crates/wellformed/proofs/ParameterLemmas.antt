@@ -21,7 +21,7 @@ use Rattle.program.specs.declared.method.Role.TheVariants as role
 use Rattle.resolving.specs.Types.{type_held}
 use Rattle.resolving.specs.Locals.{LocalFrame, with_declaration, declared_as}
 use Rattle.resolving.specs.Methods.{body_told, method_told, no_variables, parameter_declaration, parameters_frame, role_of}
-use Rattle.resolving.specs.Told.{stays_here}
+use Rattle.resolving.specs.Staying.{stays_here}
 use Rattle.program.specs.Lists.{Each}
 use Rattle.program.specs.WellFormed.{is_claimed, is_parameter, parameters}
 use Rattle.wellformed.proofs.GrowthLemmas.{statements_grow}

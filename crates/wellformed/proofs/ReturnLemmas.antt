@@ -8,7 +8,7 @@ use Rattle.tree.specs.StatementTrees as stated
 use Rattle.tree.specs.Trees.{ClassTree}
 use Rattle.tree.specs.Values.{CallTree}
 use Rattle.tree.specs.declared.types as tree
-use Rattle.names.specs.Bodies.{return_mistakes, statement_turn}
+use Rattle.names.specs.Bodies.{return_mistakes, plain_turn}
 use Rattle.names.specs.Expressions.{whole_mistakes}
 use Rattle.declarations.specs.declared.mistake.Mismatch.TheVariants.{ValueReturned}
 use Rattle.declarations.specs.declared.mistake.Mistake.TheVariants.{WrongType}
@@ -44,7 +44,7 @@ stated_by p t class result s f g c alone around standing (inl x) =
 stated_by p t class result s f g c alone around standing (inr x) = subst (λ o. IsStatement s (option_map_or seen.Send o (call_statement p class f c None []))) (sym x.1.is) x.1.fits
 
 pub call_stated_fits : (p : ProgramText) (t : ClassTree) (class : ℕ) (result : Option tree.Type.Type) (s : Setting) (f : LocalFrame) (g : names.NameFrame) (c : CallTree)
-    → Around p t class result s → AreStanding p s.variables f g → (statement_turn (record { program = p; class = t; result = result; breaks = false; continues = false }) (stated.Call c) g).found ≡ [] → IsStatement s (stated_call p class f c)
+    → Around p t class result s → AreStanding p s.variables f g → (plain_turn (record { program = p; class = t; result = result; breaks = false; continues = false }) (stated.Call c) g).found ≡ [] → IsStatement s (stated_call p class f c)
 call_stated_fits p t class result s f g c around standing none =
     stated_by p t class result s f g c _ around standing (call_means p t class result s f g _ c around standing none (λ m. gives_none p m.result ≡ true) (λ m name starts F same fits. by_none p F m.result fits (λ x. same (Some x))))
 
@@ -60,7 +60,7 @@ void_gives p (Some t) void = cc
 
 -- a start
 pub start_fits : (p : ProgramText) (t : ClassTree) (class : ℕ) (result : Option tree.Type.Type) (s : Setting) (f : LocalFrame) (g : names.NameFrame) (c : CallTree)
-    → (word : Span) → Around p t class result s → AreStanding p s.variables f g → (statement_turn (record { program = p; class = t; result = result; breaks = false; continues = false }) (stated.Start word c) g).found ≡ [] → IsStatement s (start_statement p class f c)
+    → (word : Span) → Around p t class result s → AreStanding p s.variables f g → (plain_turn (record { program = p; class = t; result = result; breaks = false; continues = false }) (stated.Start word c) g).found ≡ [] → IsStatement s (start_statement p class f c)
 start_fits p t class result s f g c word around standing none =
     let x = no_send p class s f g (λ m. can_start m ≡ true) c _ (call_means p t class result s f g _ c around standing none (λ m. can_start m ≡ true) (λ m name starts F same fits. none_said (can_start m) _ starts)) refl in
     let free = both_not (is_some x.method.result) (any_lent x.method.params) x.fits in

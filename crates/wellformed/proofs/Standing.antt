@@ -27,7 +27,7 @@ use Rattle.resolving.specs.Locals as locals
 use Rattle.resolving.specs.Locals.{Local, LocalFrame, number_of}
 use Rattle.resolving.specs.Callees.{NumberedMethod}
 use Rattle.resolving.specs.Methods.{methods_told, method_told, role_of}
-use Rattle.resolving.specs.Told.{Staying}
+use Rattle.resolving.specs.Staying.{Staying}
 use Rattle.program.specs.Lists.{Each}
 use Rattle.program.specs.Scopes as scopes
 use Rattle.program.specs.Scopes.{LeadsOut, AreNested, IsInScope}

@@ -3,11 +3,11 @@ use Rattle.std.proofs.Common.{◌≡◌, ℕ, List, [], ◌∷◌, ◌++◌, ◌
 use Rattle.std.specs.Prelude.{Option, option_map}
 use Rattle.source.specs.declared.place.Place.{Place}
 use Rattle.tree.specs.StatementTrees as trees
-use Rattle.tree.specs.StatementTrees.{StatementTree, StatementTrees, BlockTree, TestTree, OtherTrees, CaseTree, CaseTrees, DeclareTree}
+use Rattle.tree.specs.StatementTrees.{PlainTree, StatementTree, StatementTrees, BlockTree, TestTree, OtherTrees, CaseTree, CaseTrees, DeclareTree, behind_case}
 use Rattle.names.specs.Bodies as bodies
 use Rattle.declarations.specs.Types.{is_heap, type_meant, type_unknown}
 use Rattle.names.specs.Shapes.{shape}
-use Rattle.names.specs.Bodies.{Surroundings, block_turn, case_turn, cases_turn, others_turn, statement_turn, statements_turn, test_turn, head_of, heads_of}
+use Rattle.names.specs.Bodies.{Surroundings, plain_turn, block_turn, case_turn, cases_turn, others_turn, statement_turn, statements_turn, test_turn, head_of, heads_of}
 use Rattle.names.specs.Cases.{Head, binds_turn, head_mistakes}
 use Rattle.names.specs.Expressions.{truth_mistakes}
 use Rattle.declarations.specs.Program.{ProgramText}
@@ -16,8 +16,9 @@ use Rattle.names.specs.Variables as names
 use Rattle.resolving.specs.Binds.{binds_told}
 use Rattle.resolving.specs.Types.{state_in, type_held}
 use Rattle.resolving.specs.Locals.{LocalFrame, after_block, with_declaration, forget, next_number, number_of}
-use Rattle.resolving.specs.Plain.{declaration_of, first_value}
-use Rattle.resolving.specs.Told.{Staying, awaited_message, awaited_params, behind_case, block_told, case_told, cases_told, in_switch, others_told, statement_told, statements_told, stays_here, test_told}
+use Rattle.resolving.specs.Plain.{declaration_of, first_value, frame_behind, plain_told}
+use Rattle.resolving.specs.Told.{awaited_message, awaited_params, block_told, case_told, cases_told, others_told, statement_told, statements_told, test_told}
+use Rattle.resolving.specs.Staying.{Staying, in_switch, stays_here}
 use Rattle.program.specs.Methods.{VariableModel}
 use Rattle.program.specs.declared.method.Role.TheVariants as role
 use Rattle.program.specs.Scopes as scopes
@@ -151,6 +152,26 @@ left_fits s f place to stays here is leads =
 back_here : (s : Setting) (f last : LocalFrame) (place : Place) → s.scope ≡ last_of f → LeadsOut s.variables (last_of last) (last_of f) → GoesBack (last_of last) s.scope (forget place f.last last.last)
 back_here s f last place here leads = subst (λ o. GoesBack (last_of last) o (forget place f.last last.last)) (sym here) (goes_back s.variables place f.last last.last leads)
 
+-- a statement that holds no others
+plain_goes : (m : Surroundings) (class : ℕ) (s : Setting) → InMethod m class s → (stays : Staying) (x : PlainTree) (f : LocalFrame) (g : names.NameFrame)
+    → AreStanding m.program s.variables f g → AreStaying s f stays → Within s.variables (frame_behind m.program class f x) → (plain_turn m x g).found ≡ []
+    → Goes m.program s.variables (IsStatement (with_last s (last_of (frame_behind m.program class f x))) (plain_told m.program class f stays x)) f (frame_behind m.program class f x) (plain_turn m x g).frame
+plain_goes m class s around stays (trees.Declare d) f g standing staying within none = declaration_goes m class s around d f g standing within none
+plain_goes m class s around stays (trees.Assign a) f g standing staying within none =
+    let both = both_none (target_mistakes (scope_of m.program g) a.target) (value_mistakes (bodies.inside_of m g) (target_type (scope_of m.program g) a.target) a.value) none in
+    stands_still m.program s (plain_told m.program class f stays (trees.Assign a)) f g staying.scope (assign_fits m.program m.class class m.result s f g a.target a.value around staying.scope standing both.0 both.1) standing
+plain_goes m class s around stays (trees.Call c) f g standing staying within none = stands_still m.program s (plain_told m.program class f stays (trees.Call c)) f g staying.scope (call_stated_fits m.program m.class class m.result s f g c around standing none) standing
+plain_goes m class s around stays (trees.Start word c) f g standing staying within none = stands_still m.program s (plain_told m.program class f stays (trees.Start word c)) f g staying.scope (start_fits m.program m.class class m.result s f g c word around standing none) standing
+plain_goes m class s around stays (trees.Delete name) f g standing staying within none = stands_still m.program s (plain_told m.program class f stays (trees.Delete name)) f g staying.scope (tt, delete_fits m.program s f g standing name) standing
+plain_goes m class s around stays (trees.Exchange e) f g standing staying within none = stands_still m.program s (plain_told m.program class f stays (trees.Exchange e)) f g staying.scope (tt, exchange_fits m.program m.class class m.result s f g e around staying.scope standing none) standing
+plain_goes m class s around stays (trees.NewChannel n) f g standing staying within none = stands_still m.program s (plain_told m.program class f stays (trees.NewChannel n)) f g staying.scope (tt, channel_fits m.program m.class class m.result s f g n around staying.scope standing none) standing
+plain_goes m class s around stays (trees.Break word) f g standing staying within none =
+    stands_still m.program s (plain_told m.program class f stays (trees.Break word)) f g staying.scope (tt, left_fits s f word.place s.at_break stays.at_break staying.scope staying.break_is staying.at_break) standing
+plain_goes m class s around stays (trees.Continue word) f g standing staying within none =
+    stands_still m.program s (plain_told m.program class f stays (trees.Continue word)) f g staying.scope (tt, left_fits s f word.place s.at_continue stays.at_continue staying.scope staying.continue_is staying.at_continue) standing
+plain_goes m class s around stays (trees.Return word value) f g standing staying within none =
+    stands_still m.program s (plain_told m.program class f stays (trees.Return word value)) f g staying.scope (return_fits m.program m.class class m.result s f g word value around standing staying.scope none) standing
+
 mutual
   pub statement_goes : (m : Surroundings) (class : ℕ) (s : Setting) → InMethod m class s → (stays : Staying) (x : StatementTree) (f : LocalFrame) (g : names.NameFrame)
       → AreStanding m.program s.variables f g → AreStaying s f stays → Within s.variables (statement_told m.program class stays x f).frame → (statement_turn m x g).found ≡ []
@@ -158,15 +179,7 @@ mutual
   statement_goes m class s around stays (trees.Block b) f g standing staying within none =
       let r = block_goes m class s around stays b f g standing staying within none in
       statement_passes m.program s (statement_told m.program class stays (trees.Block b) f).what f (block_told m.program class stays b f).frame _ staying.scope (record { fits = r.fits; standing = r.standing; same = r.same })
-  statement_goes m class s around stays (trees.Declare d) f g standing staying within none = declaration_goes m class s around d f g standing within none
-  statement_goes m class s around stays (trees.Assign a) f g standing staying within none =
-      let both = both_none (target_mistakes (scope_of m.program g) a.target) (value_mistakes (bodies.inside_of m g) (target_type (scope_of m.program g) a.target) a.value) none in
-      stands_still m.program s (statement_told m.program class stays (trees.Assign a) f).what f g staying.scope (assign_fits m.program m.class class m.result s f g a.target a.value around staying.scope standing both.0 both.1) standing
-  statement_goes m class s around stays (trees.Call c) f g standing staying within none = stands_still m.program s (statement_told m.program class stays (trees.Call c) f).what f g staying.scope (call_stated_fits m.program m.class class m.result s f g c around standing none) standing
-  statement_goes m class s around stays (trees.Start word c) f g standing staying within none = stands_still m.program s (statement_told m.program class stays (trees.Start word c) f).what f g staying.scope (start_fits m.program m.class class m.result s f g c word around standing none) standing
-  statement_goes m class s around stays (trees.Delete name) f g standing staying within none = stands_still m.program s (statement_told m.program class stays (trees.Delete name) f).what f g staying.scope (tt, delete_fits m.program s f g standing name) standing
-  statement_goes m class s around stays (trees.Exchange e) f g standing staying within none = stands_still m.program s (statement_told m.program class stays (trees.Exchange e) f).what f g staying.scope (tt, exchange_fits m.program m.class class m.result s f g e around staying.scope standing none) standing
-  statement_goes m class s around stays (trees.NewChannel n) f g standing staying within none = stands_still m.program s (statement_told m.program class stays (trees.NewChannel n) f).what f g staying.scope (tt, channel_fits m.program m.class class m.result s f g n around staying.scope standing none) standing
+  statement_goes m class s around stays (trees.Plain x) f g standing staying within none = plain_goes m class s around stays x f g standing staying within none
   statement_goes m class s around stays (trees.If first others) f g standing staying within none =
       let p = m.program in
       let middle = (test_told p class stays first f).frame in
@@ -181,12 +194,6 @@ mutual
       record { scope = staying.scope; break_is = staying.scope; continue_is = staying.scope; at_break = leads_here s.variables (last_of f); at_continue = leads_here s.variables (last_of f) } in
       let r = test_goes (bodies.in_loop m) class (in_loop s) (around_at m class s s.scope s.scope s.scope around) (stays_here f) test f g standing inside within none in
       statement_passes m.program s (statement_told m.program class stays (trees.While test) f).what f (test_told m.program class (stays_here f) test f).frame _ staying.scope (record { fits = r.fits; standing = r.standing; same = r.same })
-  statement_goes m class s around stays (trees.Break word) f g standing staying within none =
-      stands_still m.program s (statement_told m.program class stays (trees.Break word) f).what f g staying.scope (tt, left_fits s f word.place s.at_break stays.at_break staying.scope staying.break_is staying.at_break) standing
-  statement_goes m class s around stays (trees.Continue word) f g standing staying within none =
-      stands_still m.program s (statement_told m.program class stays (trees.Continue word) f).what f g staying.scope (tt, left_fits s f word.place s.at_continue stays.at_continue staying.scope staying.continue_is staying.at_continue) standing
-  statement_goes m class s around stays (trees.Return word value) f g standing staying within none =
-      stands_still m.program s (statement_told m.program class stays (trees.Return word value) f).what f g staying.scope (return_fits m.program m.class class m.result s f g word value around standing staying.scope none) standing
   statement_goes m class s around stays (trees.Switch word first cases close) f g standing staying within none =
       let p = m.program in
       let inside = in_switch stays f in

@@ -6,7 +6,8 @@ use std::alloc::{AllocError, Global};
 use std::test::Fail;
 use syntax::parse;
 use tree::{
-    Definition, Expression, Factor, FactorOperator, Statement, Sum, SumOperator, Tree, Unary, Value,
+    Definition, Expression, Factor, FactorOperator, Plain, Statement, Sum, SumOperator, Tree,
+    Unary, Value,
 };
 
 /// What stands before a value here, in so many words.
@@ -168,7 +169,7 @@ fn first_assigned(tree: &Tree) -> Result<&Expression, Fail> {
     let Some(method) = class.methods.first() else {
         return Err(Fail::from("no method"));
     };
-    let Some(Statement::Assign(assign)) = method.body.statements.first() else {
+    let Some(Statement::Plain(Plain::Assign(assign))) = method.body.statements.first() else {
         return Err(Fail::from("no assignment"));
     };
     let Value::Expression(expression) = &assign.value else {

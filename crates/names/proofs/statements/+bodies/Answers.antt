@@ -1,26 +1,22 @@
-use Rattle.std.proofs.Common.{◌≡◌, ◌++◌, ◌∷◌, [], ◌+◌, Some, map, take, drop, List, length, get_or, sym, ap, ◌∙◌, subst, arith}
+use Rattle.std.proofs.Common.{◌≡◌, ◌∷◌, [], ◌+◌, Some, map, take, drop, List, length, get_or, sym, ap, ◌∙◌, subst, arith}
 use Rattle.std.specs.Prelude.{OnOk}
 use Rattle.std.specs.Option.{option_map}
 use Rattle.std.proofs.lemmas.List.{length-map}
 use Rattle.tree.specs.ExpressionTrees.{expression_tree}
-use Rattle.tree.specs.StatementTrees.{statement_tree, statement_sequence, block_tree, if_tree, test_tree, other_sequence, case_tree, declare_tree, assign_tree, case_sequence, switch_tree, CaseTree, IfTree, SwitchTree}
-use Rattle.tree.specs.Values.{call_tree}
+use Rattle.tree.specs.StatementTrees.{statement_tree, statement_sequence, block_tree, if_tree, test_tree, other_sequence, case_tree, case_sequence, switch_tree, CaseTree, IfTree, SwitchTree}
 use Rattle.tree.specs.declared.statement as made
-use Rattle.declarations.specs.declared.mistake.Mistake.TheVariants.{BreakOutside, ContinueOutside}
-use Rattle.names.specs.Bodies.{inside_of, scope_in, declaration_turn, statement_turn, statements_turn, block_turn, test_turn, others_turn, case_turn, cases_turn, head_of, outside, delete_mistakes, exchange_mistakes, channel_mistakes, return_mistakes}
+use Rattle.names.specs.Bodies.{scope_in, statement_turn, statements_turn, block_turn, test_turn, others_turn, case_turn, cases_turn, head_of}
 use Rattle.names.specs.Cases.{binds_turn, awaited_message}
 use Rattle.declarations.specs.Declarations.{bound_params}
 use Rattle.names.specs.Expressions.{variable_of, variable_type, truth_mistakes}
-use Rattle.declarations.specs.Mistakes.{Adds}
 use Rattle.names.specs.Frames.{Turned}
 use Rattle.names.specs.Heads.{IsHeads, switch_heads}
 use Rattle.names.specs.Shapes.{shape}
-use Rattle.names.specs.Values.{Alone, Started, call_mistakes, target_mistakes, target_type, value_mistakes}
 use Rattle.names.specs.Variables.{NameFrame, CheckedPiece, after_block, follow}
 use Rattle.names.proofs.BranchLemmas.{last_branch, no_branch, no_statement, next_statement, next_test, next_case, case_there, last_case}
 use Rattle.names.proofs.KeepLemmas.{kept, statements_extend, case_extends}
-use Rattle.tree.proofs.StatementTwins.{block_is, case_is, if_is, test_is, switch_is, of_declare, of_assign, of_call, of_start, of_delete, of_exchange, of_channel, of_break, of_continue, of_return}
-use Rattle.names.proofs.TurnLemmas.{Ongoing, goes_first, turned_then, adds_before, leaves, on_stays, on_before, on_ends, goes_on, ends}
+use Rattle.tree.proofs.StatementTwins.{block_is, case_is, if_is, test_is, switch_is, of_plain}
+use Rattle.names.proofs.TurnLemmas.{Ongoing, goes_first, turned_then, adds_before, leaves, on_before, on_ends, goes_on, ends}
 use Rattle.names.proofs.statements.+bodies.Goals as goal
 
 pub judge_block-returns : goal.judge_block-returns
@@ -128,104 +124,10 @@ pub judge_if-returns-in-None : goal.judge_if-returns-in-None
 judge_if-returns-in-None t c = λ m f around frame.
     ends (no_branch m c.deref-test-items.result.now c.loop-test.test-index _ c.loop-test-test.false c.in-None.is (c.loop-test.invariant m f around frame))
 
-pub judge_statement-returns-in-Declare : goal.judge_statement-returns-in-Declare
-judge_statement-returns-in-Declare t c = λ m f around frame.
-    let text = m.program.text in
-    let result = c.judge_declare.result in
-    let old = c.args.found.now.items in
-    let new = c.judge_declare.new.found.items in
-    subst (λ x. OnOk result (Turned text old new c.judge_declare.new.variables (statement_turn m x f))) (sym (ap statement_tree c.in-Declare.is ∙ of_declare c.in-Declare.declare))
-    (subst (λ d. OnOk result (Turned text old new c.judge_declare.new.variables (declaration_turn m (declare_tree d) f))) c.deref.ensures (c.judge_declare.ensures m f around frame))
-
-pub judge_statement-returns-in-Assign : goal.judge_statement-returns-in-Assign
-judge_statement-returns-in-Assign t c = λ m f around frame.
-    let text = m.program.text in
-    let result = c.judge_assign.result in
-    let old = c.args.found.now.items in
-    let new = c.judge_assign.new.found.items in
-    let v = c.args.variables.now in
-    subst (λ x. OnOk result (Turned text old new v (statement_turn m x f))) (sym (ap statement_tree c.in-Assign.is ∙ of_assign c.in-Assign.assign))
-    (on_stays result text old new v (target_mistakes (scope_in m f) (assign_tree c.in-Assign.assign.value).target ++ value_mistakes (inside_of m f) (target_type (scope_in m f) (assign_tree c.in-Assign.assign.value).target) (assign_tree c.in-Assign.assign.value).value) f frame (subst (λ a. OnOk result (Adds old new (target_mistakes (scope_in m f) (assign_tree a).target ++ value_mistakes (inside_of m f) (target_type (scope_in m f) (assign_tree a).target) (assign_tree a).value))) c.deref-in-Assign.ensures (c.judge_assign.ensures m f around frame)))
-
-pub judge_statement-returns-in-Call : goal.judge_statement-returns-in-Call
-judge_statement-returns-in-Call t c = λ m f around frame.
-    let text = m.program.text in
-    let result = c.judge_call.result in
-    let old = c.args.found.now.items in
-    let new = c.judge_call.new.found.items in
-    let v = c.args.variables.now in
-    subst (λ x. OnOk result (Turned text old new v (statement_turn m x f))) (sym (ap statement_tree c.in-Call.is ∙ of_call c.in-Call.call))
-    (on_stays result text old new v (call_mistakes (inside_of m f) Alone (call_tree c.in-Call.call.value)) f frame (subst (λ x. OnOk result (Adds old new (call_mistakes (inside_of m f) Alone (call_tree x)))) c.deref-in-Call.ensures (c.judge_call.ensures m f around frame)))
-
-pub judge_statement-returns-in-Start : goal.judge_statement-returns-in-Start
-judge_statement-returns-in-Start t c = λ m f around frame.
-    let text = m.program.text in
-    let result = c.judge_call-in-Start.result in
-    let old = c.args.found.now.items in
-    let new = c.judge_call-in-Start.new.found.items in
-    let v = c.args.variables.now in
-    subst (λ x. OnOk result (Turned text old new v (statement_turn m x f))) (sym (ap statement_tree c.in-Start.is ∙ of_start _ c.in-Start.call))
-    (on_stays result text old new v (call_mistakes (inside_of m f) Started (call_tree c.in-Start.call.value)) f frame (subst (λ x. OnOk result (Adds old new (call_mistakes (inside_of m f) Started (call_tree x)))) c.deref-in-Start.ensures (c.judge_call-in-Start.ensures m f around frame)))
-
-pub judge_statement-returns-in-Delete : goal.judge_statement-returns-in-Delete
-judge_statement-returns-in-Delete t c = λ m f around frame.
-    let text = m.program.text in
-    let result = c.judge_delete.result in
-    let old = c.args.found.now.items in
-    let new = c.judge_delete.new.found.items in
-    let v = c.args.variables.now in
-    subst (λ x. OnOk result (Turned text old new v (statement_turn m x f))) (sym (ap statement_tree c.in-Delete.is ∙ of_delete c.in-Delete.name))
-    (on_stays result text old new v (delete_mistakes (scope_in m f) c.in-Delete.name) f frame (c.judge_delete.ensures m.program f around.scope frame))
-
-pub judge_statement-returns-in-Exchange : goal.judge_statement-returns-in-Exchange
-judge_statement-returns-in-Exchange t c = λ m f around frame.
-    let text = m.program.text in
-    let result = c.judge_exchange.result in
-    let old = c.args.found.now.items in
-    let new = c.judge_exchange.new.found.items in
-    let v = c.args.variables.now in
-    subst (λ x. OnOk result (Turned text old new v (statement_turn m x f))) (sym (ap statement_tree c.in-Exchange.is ∙ of_exchange c.in-Exchange.exchange))
-    (on_stays result text old new v (exchange_mistakes (scope_in m f) c.in-Exchange.exchange.value) f frame (subst (λ (e : made.Exchange.Exchange). OnOk result (Adds old new (exchange_mistakes (scope_in m f) e))) c.deref-in-Exchange.ensures (c.judge_exchange.ensures m.program f around.scope frame)))
-
-pub judge_statement-returns-in-NewChannel : goal.judge_statement-returns-in-NewChannel
-judge_statement-returns-in-NewChannel t c = λ m f around frame.
-    let text = m.program.text in
-    let result = c.judge_channel.result in
-    let old = c.args.found.now.items in
-    let new = c.judge_channel.new.found.items in
-    let v = c.args.variables.now in
-    subst (λ x. OnOk result (Turned text old new v (statement_turn m x f))) (sym (ap statement_tree c.in-NewChannel.is ∙ of_channel c.in-NewChannel.channel))
-    (on_stays result text old new v (channel_mistakes (scope_in m f) c.in-NewChannel.channel.value.contract c.in-NewChannel.channel.value.first c.in-NewChannel.channel.value.second) f frame (subst (λ (n : made.NewChannel.NewChannel). OnOk result (Adds old new (channel_mistakes (scope_in m f) n.contract n.first n.second))) c.deref-in-NewChannel.ensures (c.judge_channel.ensures m.program f around.scope frame)))
-
-pub judge_statement-returns-in-Break : goal.judge_statement-returns-in-Break
-judge_statement-returns-in-Break t c = λ m f around frame.
-    let text = m.program.text in
-    let result = c.judge_break.result in
-    let old = c.args.found.now.items in
-    let new = c.judge_break.new.found.items in
-    let v = c.args.variables.now in
-    subst (λ x. OnOk result (Turned text old new v (statement_turn m x f))) (sym (ap statement_tree c.in-Break.is ∙ of_break c.in-Break.word))
-    (on_stays result text old new v (outside m.breaks (BreakOutside c.in-Break.word.place)) f frame (subst (λ b. OnOk result (Adds old new (outside b (BreakOutside c.in-Break.word.place)))) around.breaks c.judge_break.ensures))
-
-pub judge_statement-returns-in-Continue : goal.judge_statement-returns-in-Continue
-judge_statement-returns-in-Continue t c = λ m f around frame.
-    let text = m.program.text in
-    let result = c.judge_continue.result in
-    let old = c.args.found.now.items in
-    let new = c.judge_continue.new.found.items in
-    let v = c.args.variables.now in
-    subst (λ x. OnOk result (Turned text old new v (statement_turn m x f))) (sym (ap statement_tree c.in-Continue.is ∙ of_continue c.in-Continue.word))
-    (on_stays result text old new v (outside m.continues (ContinueOutside c.in-Continue.word.place)) f frame (subst (λ b. OnOk result (Adds old new (outside b (ContinueOutside c.in-Continue.word.place)))) around.continues c.judge_continue.ensures))
-
-pub judge_statement-returns-in-Return : goal.judge_statement-returns-in-Return
-judge_statement-returns-in-Return t c = λ m f around frame.
-    let text = m.program.text in
-    let result = c.judge_return.result in
-    let old = c.args.found.now.items in
-    let new = c.judge_return.new.found.items in
-    let v = c.args.variables.now in
-    subst (λ x. OnOk result (Turned text old new v (statement_turn m x f))) (sym (ap statement_tree c.in-Return.is ∙ of_return c.in-Return.word c.in-Return.value))
-    (on_stays result text old new v (return_mistakes (scope_in m f) m.result c.in-Return.word (option_map (λ e. expression_tree e.value) c.in-Return.value)) f frame (subst (λ o. OnOk result (Adds old new (return_mistakes (scope_in m f) o c.in-Return.word (option_map (λ e. expression_tree e.value) c.in-Return.value)))) around.result (c.judge_return.ensures m.program f (c.context-context.ensures m f around frame))))
+pub judge_statement-returns-in-Plain : goal.judge_statement-returns-in-Plain
+judge_statement-returns-in-Plain t c = λ m f around frame.
+    subst (λ x. OnOk c.judge_plain.result (Turned m.program.text c.args.found.now.items c.judge_plain.new.found.items c.judge_plain.new.variables (statement_turn m x f))) (sym (ap statement_tree c.in-Plain.is ∙ of_plain c.in-Plain.plain))
+    (c.judge_plain.ensures m f around frame)
 
 pub judge_switch-loop-index-init : goal.judge_switch-loop-index-init
 judge_switch-loop-index-init t c = λ m f around frame.

@@ -1,7 +1,7 @@
 use Rattle.std.proofs.Common.{◌≡◌, ◌<◌, ◌++◌, drop, map}
 use Rattle.std.specs.Option.{option_map}
-use Rattle.nearest.specs.Locals.{case_names, cases_names, next_place, others_names, statements_names, test_names}
-use Rattle.tree.specs.StatementTrees.{block_tree, case_sequence, case_tree, if_tree, other_sequence, statement_sequence, statement_tree, switch_tree, test_tree}
+use Rattle.nearest.specs.Locals.{case_names, cases_names, others_names, statements_names, test_names}
+use Rattle.tree.specs.StatementTrees.{behind_case, block_tree, case_sequence, case_tree, if_tree, other_sequence, statement_sequence, statement_tree, switch_tree, test_tree}
 use Rattle.tree.specs.declared.statement as made
 use Rattle.nearest.proofs.locals.+bodies.Given as goal
 
@@ -20,8 +20,8 @@ invariant-add_branches-loop-test l =
 abbrev pub invariant-add_cases-loop-next : goal.invariant-add_cases-loop-next
 invariant-add_cases-loop-next l = record {
   smaller : made.Case.size-Case l.case < made.Switch.size-Switch l.switch;
-  added : l.names.items ++ (case_names l.place (next_place (switch_tree l.switch).close.place (case_sequence (map case_tree (drop l.next-index l.next-items)))) (case_tree l.case)
+  added : l.names.items ++ (case_names l.place (behind_case (case_sequence (map case_tree (drop l.next-index l.next-items))) (switch_tree l.switch).close.place) (case_tree l.case)
       ++ cases_names l.place (switch_tree l.switch).close.place (case_sequence (map case_tree (drop l.next-index l.next-items))))
-      ≡ l.fn.names.items ++ (case_names l.place (next_place (switch_tree l.switch).close.place (case_sequence (switch_tree l.switch).others)) (switch_tree l.switch).first
+      ≡ l.fn.names.items ++ (case_names l.place (behind_case (case_sequence (switch_tree l.switch).others) (switch_tree l.switch).close.place) (switch_tree l.switch).first
       ++ cases_names l.place (switch_tree l.switch).close.place (case_sequence (switch_tree l.switch).others));
 }

@@ -6,7 +6,8 @@ use Rattle.resolving.specs.Around.{program_in}
 use Rattle.resolving.specs.Frames.{IsLocalFrame}
 use Rattle.resolving.specs.Methods.{no_variables, parameters_frame, takes_some}
 use Rattle.resolving.specs.Steps.{IsResolvedPiece}
-use Rattle.resolving.specs.Told.{stays_here, statements_told}
+use Rattle.resolving.specs.Told.{statements_told}
+use Rattle.resolving.specs.Staying.{stays_here}
 use Rattle.resolving.proofs.BlockLemmas.{number_is}
 use Rattle.resolving.proofs.TellLemmas.{method_is}
 use Rattle.resolving.proofs.methods.resolve_method.Goals as goal

@@ -7,7 +7,7 @@ use Rattle.tree.specs.StatementTrees as trees
 use Rattle.tree.specs.StatementTrees.{CaseTrees, IfTree, SwitchTree, statement_tree, statement_sequence, block_tree, case_tree, case_sequence, if_tree, switch_tree, test_tree}
 use Rattle.tree.specs.declared.statement as stated
 use Rattle.program.specs.Statements as seen
-use Rattle.program.specs.Statements.{StatementModel, BlockModel, CasesModel, IfModel, statement_model, block_model, case_model, if_model, test_model}
+use Rattle.program.specs.Statements.{BlockModel, CasesModel, IfModel, statement_model, block_model, case_model, if_model, test_model}
 use Rattle.program.specs.declared.statement as made
 use Rattle.program.specs.declared.statement.Statement.{Statement}
 use Rattle.program.specs.declared.statement.Test.{Test}
@@ -16,15 +16,15 @@ use Rattle.resolving.specs.Binds.{binds_told}
 use Rattle.resolving.specs.Frames.{staying_model}
 use Rattle.resolving.specs.Reads.{reads}
 use Rattle.resolving.specs.Steps.{IsResolvedPiece, pieces_in_order}
-use Rattle.resolving.specs.Told.{ResolvedPiece, follow, map_piece, block_told, block_of, others_told, awaited_as, awaited_message, awaited_params, cases_told, in_switch, statement_told, statements_told, test_told}
+use Rattle.resolving.specs.Told.{ResolvedPiece, follow, map_piece, block_told, block_of, others_told, awaited_as, awaited_message, awaited_params, cases_told, statement_told, statements_told, test_told}
+use Rattle.resolving.specs.Staying.{in_switch}
 use Rattle.resolving.proofs.BlockLemmas.{block_ends, if_told, made_told, number_is, told_as, test_ends}
 use Rattle.resolving.proofs.BodyLemmas.{sequence_told, walks_all, walks_more}
 use Rattle.resolving.proofs.CaseLemmas.{CasesGo, bound_in, case_ends, cases_end, cases_more, cases_start, first_inside, other_inside, switch_cases}
-use Rattle.resolving.proofs.FlatLemmas.{flat_alone}
 use Rattle.resolving.proofs.KeepLemmas.{kept, case_extends, statements_extend}
 use Rattle.resolving.proofs.SeenTwins as seen_as
 use Rattle.resolving.proofs.SeenTwins.{block_made, if_made}
-use Rattle.tree.proofs.StatementTwins.{block_is, if_is, switch_is, of_block, of_if, of_while, of_switch}
+use Rattle.tree.proofs.StatementTwins.{block_is, if_is, switch_is, of_block, of_plain, of_if, of_while, of_switch}
 use Rattle.resolving.proofs.statements.+statements.Goals as goal
 
 pub tell_statements-loop-statement-preserved : goal.tell_statements-loop-statement-preserved
@@ -132,20 +132,12 @@ tell_statement-returns-in_ok-told-in-While t c = λ items own f round h.
     (made_told text seen.While _ _ after (c.in_ok-told-in-While.ensures items own f round h)) in
     IfOk-weaker c.while_of.result _ _ (λ s is. told_as p own (staying_model c.args.stays) f tree is come) c.while_of.ensures
 
-pub tell_statement-returns-in_default : goal.tell_statement-returns-in_default
-tell_statement-returns-in_default t c = λ items own f round h.
+pub tell_statement-returns-in-Plain : goal.tell_statement-returns-in-Plain
+tell_statement-returns-in-Plain t c = λ items own f round h.
     let text = c.args.text.now in
     let p = program_in text items in
-    let stays = staying_model c.args.stays in
-    let alone = flat_alone p own stays f c.args.statement.now (record {
-      block = c.in_default.not-Block;
-      branches = c.in_default.not-If;
-      loop = c.in_default.not-While;
-      break = c.in_default.not-Break;
-      continue = c.in_default.not-Continue;
-      switch = c.in_default.not-Switch;
-    }) in
-    subst (λ (t : ResolvedPiece StatementModel). IfOk c.tell_alone.result (λ s. IsResolvedPiece text t (statement_model s) c.tell_alone.new.locals)) (sym alone.is) (c.tell_alone.ensures items own f round h)
+    subst (λ x. IfOk c.tell_alone.result (λ s. IsResolvedPiece text (statement_told p own (staying_model c.args.stays) x f) (statement_model s) c.tell_alone.new.locals)) (sym (ap statement_tree c.in-Plain.is ∙ of_plain c.in-Plain.plain))
+    (c.tell_alone.ensures items own f round h)
 
 pub tell_test-returns : goal.tell_test-returns
 tell_test-returns t c = λ items own f round h.

@@ -6,7 +6,7 @@ use Rattle.syntax.proofs.pieces.Pieces.{fails_here, fails_after, fails_first, fa
 use Rattle.syntax.proofs.pieces.CursorLemmas.{fixed_piece}
 use Rattle.tree.specs.Values.{value_tree}
 use Rattle.syntax.specs.StatementParts.{assigned}
-use Rattle.syntax.proofs.SimpleRules.{value_follows, value_end, assigned_to, assigned_from}
+use Rattle.syntax.proofs.PlainRules.{value_follows, value_end, assigned_to, assigned_from}
 use Rattle.syntax.proofs.ValueFails.{value_piece}
 use Rattle.syntax.proofs.statement_ends.assigned.Goals as goal
 

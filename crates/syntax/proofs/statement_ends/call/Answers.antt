@@ -4,7 +4,7 @@ use Rattle.syntax.proofs.pieces.Exits.{exits}
 use Rattle.syntax.proofs.pieces.Pieces.{fails_here, fails_after, fails_first, fails_second, via_fails}
 use Rattle.syntax.proofs.pieces.CursorLemmas.{named_piece}
 use Rattle.tree.specs.Values.{call_tree, call}
-use Rattle.syntax.proofs.SimpleRules.{member_end}
+use Rattle.syntax.proofs.PlainRules.{member_end}
 use Rattle.syntax.proofs.ValueForms.{call_to, call_from, maybe_dot_piece, dot_follows}
 use Rattle.syntax.proofs.ValueRules.{arguments_piece}
 use Rattle.syntax.proofs.statement_ends.call.Goals as goal

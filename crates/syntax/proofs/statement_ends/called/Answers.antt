@@ -5,7 +5,7 @@ use Rattle.syntax.proofs.pieces.Exits.{exits}
 use Rattle.syntax.proofs.pieces.Pieces.{fails_here, fails_after, via_fails}
 use Rattle.syntax.proofs.pieces.CursorLemmas.{fixed_piece}
 use Rattle.syntax.specs.StatementParts.{called, called_tree}
-use Rattle.syntax.proofs.SimpleRules.{called_to, called_from}
+use Rattle.syntax.proofs.PlainRules.{called_to, called_from}
 use Rattle.syntax.proofs.ValueRules.{arguments_piece}
 use Rattle.syntax.proofs.statement_ends.called.Goals as goal
 

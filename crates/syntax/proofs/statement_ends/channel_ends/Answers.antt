@@ -5,7 +5,7 @@ use Rattle.syntax.proofs.pieces.Exits.{exits}
 use Rattle.syntax.proofs.pieces.Pieces.{fails_here, fails_after, via_fails, next}
 use Rattle.syntax.proofs.pieces.CursorLemmas.{fixed_piece, placed_piece, named_piece}
 use Rattle.syntax.specs.StatementParts.{channel_ends}
-use Rattle.syntax.proofs.SimpleRules.{ends_to, ends_from}
+use Rattle.syntax.proofs.PlainRules.{ends_to, ends_from}
 use Rattle.syntax.proofs.statement_ends.channel_ends.Goals as goal
 
 pub returns-in_err-word : goal.returns-in_err-word

@@ -7,7 +7,7 @@ use Rattle.syntax.proofs.pieces.CursorLemmas.{fixed_piece, named_piece}
 use Rattle.std.specs.Option.{option_map}
 use Rattle.tree.specs.Values.{value_tree}
 use Rattle.syntax.specs.StatementParts.{declared}
-use Rattle.syntax.proofs.SimpleRules.{maybe_init_piece, maybe_init_follows, maybe_init_end, declared_to, declared_from}
+use Rattle.syntax.proofs.PlainRules.{maybe_init_piece, maybe_init_follows, maybe_init_end, declared_to, declared_from}
 use Rattle.syntax.proofs.statement_ends.declared.Goals as goal
 
 pub returns-in_err-name : goal.returns-in_err-name

@@ -5,7 +5,7 @@ use Rattle.syntax.proofs.pieces.Exits.{exits}
 use Rattle.syntax.proofs.pieces.Pieces.{fails_here, fails_after, via_fails, next}
 use Rattle.syntax.proofs.pieces.CursorLemmas.{fixed_piece, named_piece}
 use Rattle.syntax.specs.StatementParts.{delete}
-use Rattle.syntax.proofs.SimpleRules.{delete_to, delete_from}
+use Rattle.syntax.proofs.PlainRules.{delete_to, delete_from}
 use Rattle.syntax.proofs.statement_ends.delete.Goals as goal
 
 pub returns-in_err-expect : goal.returns-in_err-expect

@@ -5,7 +5,7 @@ use Rattle.tree.specs.StatementGrammar.{exchange}
 use Rattle.syntax.proofs.pieces.Exits.{exits}
 use Rattle.syntax.proofs.pieces.Pieces.{fails_here, fails_after, via_fails, next}
 use Rattle.syntax.proofs.pieces.CursorLemmas.{fixed_piece, placed_piece, named_piece}
-use Rattle.syntax.proofs.SimpleRules.{exchange_to, exchange_from}
+use Rattle.syntax.proofs.PlainRules.{exchange_to, exchange_from}
 use Rattle.syntax.proofs.statement_ends.exchange.Goals as goal
 
 pub returns-in_err-word : goal.returns-in_err-word

@@ -6,7 +6,7 @@ use Rattle.syntax.proofs.pieces.CursorLemmas.{fixed_piece}
 use Rattle.tree.specs.Values.{value_tree}
 use Rattle.syntax.specs.ValueReads.{value_on, value_at}
 use Rattle.tree.specs.StatementGrammar.{init}
-use Rattle.syntax.proofs.SimpleRules.{init_to, init_from}
+use Rattle.syntax.proofs.PlainRules.{init_to, init_from}
 use Rattle.syntax.proofs.ValueFails.{value_piece}
 use Rattle.syntax.proofs.statement_ends.init.Goals as goal
 

@@ -5,7 +5,7 @@ use Rattle.syntax.proofs.pieces.Exits.{exits}
 use Rattle.syntax.proofs.pieces.Pieces.{fails_here, fails_after, via_fails}
 use Rattle.syntax.proofs.pieces.CursorLemmas.{fixed_piece, placed_piece}
 use Rattle.syntax.specs.StatementParts.{jump}
-use Rattle.syntax.proofs.SimpleRules.{jump_to, jump_from}
+use Rattle.syntax.proofs.PlainRules.{jump_to, jump_from}
 use Rattle.syntax.proofs.statement_ends.jump.Goals as goal
 
 pub returns-in_err-word : goal.returns-in_err-word

@@ -10,7 +10,7 @@ use Rattle.syntax.specs.ExpressionReads.{opens_expression, expression_at}
 use Rattle.tree.specs.ExpressionTrees.{expression_tree}
 use Rattle.syntax.specs.StatementParts.{result_on}
 use Rattle.syntax.proofs.pieces.Options.{open_opt_fails}
-use Rattle.syntax.proofs.SimpleRules.{result_opens}
+use Rattle.syntax.proofs.PlainRules.{result_opens}
 use Rattle.syntax.proofs.ExpressionFails.{expression_piece, expression_starts}
 use Rattle.syntax.proofs.statement_ends.maybe_expression.Goals as goal
 

@@ -10,7 +10,7 @@ use Rattle.syntax.specs.ValueReads.{value_at}
 use Rattle.tree.specs.StatementGrammar.{init}
 use Rattle.syntax.specs.StatementParts.{init_on}
 use Rattle.syntax.proofs.pieces.Options.{open_opt_fails}
-use Rattle.syntax.proofs.SimpleRules.{init_piece, init_starts, init_opens}
+use Rattle.syntax.proofs.PlainRules.{init_piece, init_starts, init_opens}
 use Rattle.syntax.proofs.statement_ends.maybe_init.Goals as goal
 
 pub returns-in_err-init : goal.returns-in_err-init

@@ -7,7 +7,7 @@ use Rattle.syntax.proofs.pieces.CursorLemmas.{fixed_piece, placed_piece}
 use Rattle.std.specs.Option.{option_map}
 use Rattle.tree.specs.ExpressionTrees.{expression_tree}
 use Rattle.syntax.specs.StatementParts.{return_parts}
-use Rattle.syntax.proofs.SimpleRules.{maybe_expression_piece, result_follows, result_end, return_to, return_from}
+use Rattle.syntax.proofs.PlainRules.{maybe_expression_piece, result_follows, result_end, return_to, return_from}
 use Rattle.syntax.proofs.statement_ends.return_statement.Goals as goal
 
 pub returns-in_err-word : goal.returns-in_err-word

@@ -6,7 +6,7 @@ use Rattle.syntax.proofs.pieces.Pieces.{fails_here, fails_after, via_fails, next
 use Rattle.syntax.proofs.pieces.CursorLemmas.{fixed_piece, placed_piece}
 use Rattle.tree.specs.Values.{call_tree}
 use Rattle.syntax.specs.StatementParts.{start}
-use Rattle.syntax.proofs.SimpleRules.{start_to, start_from}
+use Rattle.syntax.proofs.PlainRules.{start_to, start_from}
 use Rattle.syntax.proofs.ValueForms.{call_piece}
 use Rattle.syntax.proofs.statement_ends.start.Goals as goal
 

@@ -18,11 +18,12 @@ use Rattle.syntax.specs.StatementFirsts.{lead_of, opens_statement, statement_on,
 use Rattle.syntax.specs.declared.leads.Lead.TheVariants as lead
 use Rattle.syntax.proofs.CaseRules.{case_front_piece}
 use Rattle.syntax.proofs.StatementLeads.{lead_leads, statement_starts}
-use Rattle.syntax.proofs.StatementForms.{block_form, if_form, while_form, switch_form}
+use Rattle.syntax.proofs.StatementForms.{block_form, plain_form, if_form, while_form, switch_form}
 use Rattle.std.specs.Prelude.{is_some}
 use Rattle.tree.specs.Symbols.{Fixed}
 use Rattle.syntax.proofs.pieces.Beginnings.{begun_shorter}
-use Rattle.syntax.proofs.StatementFolds.{made_switch, rolled_block, rolled_case, rolled_if, rolled_else, rolled_switch, rolled_test}
+use Rattle.tree.proofs.StatementTwins.{of_switch}
+use Rattle.syntax.proofs.StatementFolds.{rolled_block, rolled_case, rolled_if, rolled_else, rolled_switch, rolled_test}
 use Rattle.syntax.proofs.StatementCycle.{block_fails, block_inside, case_fails, case_starts, case_splits, case_leaves, statement_splits, statement_leaves, if_to, if_from, last_form, further_form, switch_to, switch_from, case_follows, cases_follow, test_fails}
 use Rattle.syntax.proofs.StatementWays.{statement_piece, statements_piece, block_piece, others_piece, case_piece, cases_piece, cases_end_piece, switch_end_piece}
 use Rattle.syntax.proofs.StatementReads.{block_read, case_read, if_fails, if_read, sequence_read, sequence_ended, shorter_more, switch_read, test_read}
@@ -98,6 +99,10 @@ pub statement-returns-in_err-block-in-Block : goal.statement-returns-in_err-bloc
 statement-returns-in_err-block-in-Block t c = exits statement_tree statement statement_on statement_at _ _ _ _ _ c.from_residual.ensures.1 c.in_err-block-in-Block.ensures
     (λ h. form_fails block_form (lead_leads lead.Block _ (c.requires ∙ ap (λ l. Some l) c.in-Block.is)) (wide_fails (λ y k. refl) h))
 
+pub statement-returns-in_err-plain-in-Plain : goal.statement-returns-in_err-plain-in-Plain
+statement-returns-in_err-plain-in-Plain t c = exits statement_tree statement statement_on statement_at _ _ _ _ _ c.from_residual-in_err-plain-in-Plain.ensures.1 c.in_err-plain-in-Plain.ensures
+    (λ h. form_fails plain_form (lead_leads (lead.Plain c.in-Plain.lead) _ (c.requires ∙ ap (λ l. Some l) c.in-Plain.is)) (wide_fails (λ y k. refl) h))
+
 pub statement-returns-in_err-if_statement-in-If : goal.statement-returns-in_err-if_statement-in-If
 statement-returns-in_err-if_statement-in-If t c = exits statement_tree statement statement_on statement_at _ _ _ _ _ c.from_residual-in_err-if_statement-in-If.ensures.1 c.in_err-if_statement-in-If.ensures
     (λ h. form_fails if_form (lead_leads lead.If _ (c.requires ∙ ap (λ l. Some l) c.in-If.is)) h)
@@ -114,7 +119,7 @@ pub statement-returns-in_ok-new-in-Switch : goal.statement-returns-in_ok-new-in-
 statement-returns-in_ok-new-in-Switch t c =
     let s = c.in_ok-new-in-Switch.field-0 in
     let ended = subst (λ x. c.args.cursor.now ≡ switch_parts (switch_tree x) ++ c.switch.new.cursor) (sym c.in_ok-new-in-Switch.ensures.ok) c.in_ok-switch-in-Switch.ensures.0 in
-    (form_reads switch_form (switch_tree s.value) _ _ _ (made_switch s) ended, subst (λ z. Stops (statement_at z) c.switch.new.cursor) (sym (made_switch s)) (stops_never _))
+    (form_reads switch_form (switch_tree s.value) _ _ _ (of_switch s) ended, subst (λ z. Stops (statement_at z) c.switch.new.cursor) (sym (of_switch s)) (stops_never _))
 
 pub statements-returns-in_err-statement : goal.statements-returns-in_err-statement
 statements-returns-in_err-statement t c = exits (λ v. map statement_tree v.items) (flat_map statement) statements_on statements_at _ _ _ _ _ c.from_residual.ensures.1 c.in_err-statement.ensures

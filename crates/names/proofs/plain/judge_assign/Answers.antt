@@ -5,7 +5,7 @@ use Rattle.names.specs.Bodies.{scope_in, inside_of}
 use Rattle.declarations.specs.Mistakes.{Adds}
 use Rattle.names.specs.Values.{target_mistakes, target_type, value_mistakes}
 use Rattle.names.proofs.PassLemmas.{on_adds}
-use Rattle.names.proofs.simple_statements.judge_assign.Goals as goal
+use Rattle.names.proofs.plain.judge_assign.Goals as goal
 
 pub returns : goal.returns
 returns c = λ m f around frame.

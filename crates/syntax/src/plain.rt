@@ -1,16 +1,16 @@
-//! Reads statements that hold no other, by their first tokens.
+//! Reads statements that hold no others, by their first tokens.
 
 ghost use Rattle.std.specs.Prelude.{◌≡◌, ◌≢◌, ◌++◌};
 ghost use Rattle.tree.specs.Symbols.{kind_at};
 ghost use Rattle.tree.specs.Spelling.{word, name};
-ghost use Rattle.syntax.specs.Reading.{Reads};
-ghost use Rattle.tree.specs.StatementTrees.{statement_tree};
-ghost use Rattle.tree.specs.StatementGrammar.{statement};
-ghost use Rattle.syntax.specs.StatementFirsts.{lead_of, statement_on, statement_at};
+ghost use Rattle.syntax.specs.Reading.{ReadsEnded};
+ghost use Rattle.tree.specs.StatementTrees.{plain_tree};
+ghost use Rattle.tree.specs.StatementGrammar.{plain};
+ghost use Rattle.syntax.specs.StatementFirsts.{lead_of};
 
 use crate::cursor::{Cursor, Stuck};
 use crate::expressions::read_index;
-use crate::leads::{Lead, SimpleLead};
+use crate::leads::{Lead, PlainLead};
 use crate::statement_ends::{
     assigned, called, channel_ends, declared, delete, exchange, jump, return_statement, start,
 };
@@ -18,55 +18,51 @@ use crate::types::{endpoint_end, is_side, pointer_tail, scalar_type};
 use source::{Kind, Span};
 use std::alloc::Global;
 use tree::{
-    Assign, Call, Declare, ElementTarget, FieldTarget, Heap, NewChannel, Statement, Target, Type,
+    Assign, Call, Declare, ElementTarget, FieldTarget, Heap, NewChannel, Plain, Target, Type,
 };
 
-/// A statement that begins so and holds no other.
-pub fn simple_statement(
-    alloc: Global,
-    cursor: &mut Cursor<'_>,
-    simple: SimpleLead,
-) -> Result<Statement, Stuck>
-    requires { lead_of (kind_at cursor.old) ≡ Some (Lead.Simple simple) }
-    ensures { Reads statement_tree statement statement_on statement_at cursor.old cursor.new result }
+/// A statement that begins so and holds no others.
+pub fn plain(alloc: Global, cursor: &mut Cursor<'_>, lead: PlainLead) -> Result<Plain, Stuck>
+    requires { lead_of (kind_at cursor.old) ≡ Some (Lead.Plain lead) }
+    ensures { ReadsEnded plain_tree plain cursor.old cursor.new result }
 {
-    match simple {
-        SimpleLead::Name => {
+    match lead {
+        PlainLead::Name => {
             let name = cursor.name()?;
             after_name(alloc, cursor, name)
         }
-        SimpleLead::Scalar => {
+        PlainLead::Scalar => {
             let ty = Type::from(scalar_type(cursor)?);
             let (name, value) = declared(alloc, cursor)?;
             let declare = Box::new(alloc, Declare { ty, name, value })?;
-            Ok(Statement::Declare(declare))
+            Ok(Plain::Declare(declare))
         }
-        SimpleLead::Start => {
+        PlainLead::Start => {
             let (word, call) = start(alloc, cursor)?;
             let call = Box::new(alloc, call)?;
-            Ok(Statement::Start { word, call })
+            Ok(Plain::Start { word, call })
         }
-        SimpleLead::Delete => Ok(Statement::Delete(delete(cursor)?)),
-        SimpleLead::Exchange => Ok(Statement::Exchange(Box::new(alloc, exchange(cursor)?)?)),
-        SimpleLead::Break => Ok(Statement::Break(jump(cursor, Kind::Break)?)),
-        SimpleLead::Continue => Ok(Statement::Continue(jump(cursor, Kind::Continue)?)),
-        SimpleLead::Return => {
+        PlainLead::Delete => Ok(Plain::Delete(delete(cursor)?)),
+        PlainLead::Exchange => Ok(Plain::Exchange(Box::new(alloc, exchange(cursor)?)?)),
+        PlainLead::Break => Ok(Plain::Break(jump(cursor, Kind::Break)?)),
+        PlainLead::Continue => Ok(Plain::Continue(jump(cursor, Kind::Continue)?)),
+        PlainLead::Return => {
             let (word, value) = return_statement(alloc, cursor)?;
-            Ok(Statement::Return { word, value })
+            Ok(Plain::Return { word, value })
         }
     }
 }
 
 /// The rest of a statement that begins with this name.
-fn after_name(alloc: Global, cursor: &mut Cursor<'_>, first: Span) -> Result<Statement, Stuck>
-    ensures { Reads statement_tree statement statement_on statement_at (name first ++ cursor.old) cursor.new result }
+fn after_name(alloc: Global, cursor: &mut Cursor<'_>, first: Span) -> Result<Plain, Stuck>
+    ensures { ReadsEnded plain_tree plain (name first ++ cursor.old) cursor.new result }
 {
     if cursor.is_next(Kind::Star) {
         let bang = pointer_tail(cursor)?;
         let ty = Type::Heap(Heap::Pointer { name: first, bang });
         let (name, value) = declared(alloc, cursor)?;
         let declare = Box::new(alloc, Declare { ty, name, value })?;
-        Ok(Statement::Declare(declare))
+        Ok(Plain::Declare(declare))
     } else if cursor.take_if(Kind::Dot) {
         after_dot(alloc, cursor, first)
     } else {
@@ -75,10 +71,10 @@ fn after_name(alloc: Global, cursor: &mut Cursor<'_>, first: Span) -> Result<Sta
 }
 
 /// The rest of a statement that begins with the name of a variable or a method, where no dot stands behind it.
-fn after_variable(alloc: Global, cursor: &mut Cursor<'_>, first: Span) -> Result<Statement, Stuck>
+fn after_variable(alloc: Global, cursor: &mut Cursor<'_>, first: Span) -> Result<Plain, Stuck>
     requires star { kind_at cursor.old ≢ Some Kind.Star }
     requires dot { kind_at cursor.old ≢ Some Kind.Dot }
-    ensures { Reads statement_tree statement statement_on statement_at (name first ++ cursor.old) cursor.new result }
+    ensures { ReadsEnded plain_tree plain (name first ++ cursor.old) cursor.new result }
 {
     if cursor.is_next(Kind::OpenParen) {
         let (open, arguments) = called(alloc, cursor)?;
@@ -88,7 +84,7 @@ fn after_variable(alloc: Global, cursor: &mut Cursor<'_>, first: Span) -> Result
             open,
             arguments,
         };
-        Ok(Statement::Call(Box::new(alloc, call)?))
+        Ok(Plain::Call(Box::new(alloc, call)?))
     } else if cursor.is_next(Kind::OpenBracket) {
         let element = ElementTarget {
             variable: first,
@@ -97,18 +93,18 @@ fn after_variable(alloc: Global, cursor: &mut Cursor<'_>, first: Span) -> Result
         let target = Target::Element(Box::new(alloc, element)?);
         let value = assigned(alloc, cursor)?;
         let assign = Box::new(alloc, Assign { target, value })?;
-        Ok(Statement::Assign(assign))
+        Ok(Plain::Assign(assign))
     } else {
         let value = assigned(alloc, cursor)?;
         let target = Target::Variable(first);
         let assign = Box::new(alloc, Assign { target, value })?;
-        Ok(Statement::Assign(assign))
+        Ok(Plain::Assign(assign))
     }
 }
 
 /// The rest of a statement that begins with this name and a dot.
-fn after_dot(alloc: Global, cursor: &mut Cursor<'_>, first: Span) -> Result<Statement, Stuck>
-    ensures { Reads statement_tree statement statement_on statement_at (name first ++ (word Kind.Dot ++ cursor.old))
+fn after_dot(alloc: Global, cursor: &mut Cursor<'_>, first: Span) -> Result<Plain, Stuck>
+    ensures { ReadsEnded plain_tree plain (name first ++ (word Kind.Dot ++ cursor.old))
         cursor.new result }
 {
     if is_side(cursor.peek()) {
@@ -122,7 +118,7 @@ fn after_dot(alloc: Global, cursor: &mut Cursor<'_>, first: Span) -> Result<Stat
         });
         let (name, value) = declared(alloc, cursor)?;
         let declare = Box::new(alloc, Declare { ty, name, value })?;
-        Ok(Statement::Declare(declare))
+        Ok(Plain::Declare(declare))
     } else if cursor.is_next(Kind::NewChannel) {
         let ends = channel_ends(cursor)?;
         let channel = NewChannel {
@@ -132,7 +128,7 @@ fn after_dot(alloc: Global, cursor: &mut Cursor<'_>, first: Span) -> Result<Stat
             first: ends.first,
             second: ends.second,
         };
-        Ok(Statement::NewChannel(Box::new(alloc, channel)?))
+        Ok(Plain::NewChannel(Box::new(alloc, channel)?))
     } else {
         let member = cursor.name()?;
         after_member(alloc, cursor, first, member)
@@ -145,8 +141,8 @@ fn after_member(
     cursor: &mut Cursor<'_>,
     first: Span,
     member: Span,
-) -> Result<Statement, Stuck>
-    ensures { Reads statement_tree statement statement_on statement_at
+) -> Result<Plain, Stuck>
+    ensures { ReadsEnded plain_tree plain
         (name first ++ (word Kind.Dot ++ (name member ++ cursor.old))) cursor.new result }
 {
     if cursor.is_next(Kind::OpenParen) {
@@ -157,7 +153,7 @@ fn after_member(
             open,
             arguments,
         };
-        Ok(Statement::Call(Box::new(alloc, call)?))
+        Ok(Plain::Call(Box::new(alloc, call)?))
     } else {
         let value = assigned(alloc, cursor)?;
         let field = FieldTarget {
@@ -166,6 +162,6 @@ fn after_member(
         };
         let target = Target::Field(Box::new(alloc, field)?);
         let assign = Box::new(alloc, Assign { target, value })?;
-        Ok(Statement::Assign(assign))
+        Ok(Plain::Assign(assign))
     }
 }

@@ -9,7 +9,7 @@ use Rattle.declarations.specs.Types.{is_heap, type_meant, type_unknown}
 use Rattle.names.specs.Variables.{declared_variable}
 use Rattle.declarations.proofs.AddLemmas.{adds_then}
 use Rattle.names.proofs.TurnLemmas.{on_before}
-use Rattle.names.proofs.simple_statements.judge_declare.Goals as goal
+use Rattle.names.proofs.plain.judge_declare.Goals as goal
 
 pub returns : goal.returns
 returns c = λ m f around frame.

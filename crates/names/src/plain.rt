@@ -1,4 +1,4 @@
-//! What is wrong with the names and types in statements that hold no other statement.
+//! What is wrong with the names and types in statements that hold no others.
 
 ghost use Rattle.std.specs.Prelude.{◌≡◌, ◌++◌, None, Some, OnOk, option_map};
 ghost use Rattle.tree.specs.ExpressionTrees.{expression_tree};

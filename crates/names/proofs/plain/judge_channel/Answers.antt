@@ -3,7 +3,7 @@ use Rattle.names.specs.Bodies.{new_ends_mistakes}
 use Rattle.names.specs.Expressions.{InScope, variable_mistakes}
 use Rattle.declarations.specs.Program.{contract_named}
 use Rattle.names.proofs.PassLemmas.{on_adds}
-use Rattle.names.proofs.simple_statements.judge_channel.Goals as goal
+use Rattle.names.proofs.plain.judge_channel.Goals as goal
 
 pub returns : goal.returns
 returns c = λ p f scope frame.
