@@ -1,5 +1,6 @@
 -- The heads of a switch, as the code has them.
-use Rattle.std.specs.Prelude.{◌≡◌, ℕ, Bool, ltb, true, false, ◌||◌, ◌&&◌, not, List, ◌∷◌, Option, None, Some, option_map, position, map}
+use Rattle.std.specs.Prelude.{◌≡◌, ℕ, Bool, ltb, true, false, ◌||◌, ◌&&◌, not, List, [], ◌∷◌, Option, None, Some, option_map, position, map}
+use Rattle.std.specs.Prelude.{slice_get, Result, OnOk}
 use Rattle.std.specs.Borrow.{Bor}
 use Rattle.std.specs.BTreeMap.{get}
 use Rattle.std.specs.Cmp.Lexicographic.{slice_cmp}
@@ -9,12 +10,24 @@ use Rattle.tree.specs.StatementTrees.{SwitchTree, case_sequence}
 use Rattle.tree.specs.declared.statement as made
 use Rattle.tree.specs.declared.statement.Awaited.{Awaited}
 use Rattle.tree.specs.declared.statement.Awaited.TheVariants.{Message, Closed}
-use Rattle.names.specs.Bodies.{head_of, heads_of}
-use Rattle.names.specs.Cases.{Head, names_endpoint, awaits_closed}
+use Rattle.declarations.specs.Mistakes.{Adds}
+use Rattle.declarations.specs.Program.{ProgramText}
+use Rattle.declarations.specs.Scopes.{IsScope}
+use Rattle.declarations.specs.declared.mistake.Mistake.{Mistake}
+use Rattle.declarations.specs.declared.scope.Scope.{Scope}
+use Rattle.names.specs.Bodies as bodies
+use Rattle.names.specs.Bodies.{case_turn, cases_turn, head_of, heads_of}
+use Rattle.names.specs.Cases.{Head, awaits_too, names_endpoint, awaits_closed}
+use Rattle.names.specs.Expressions.{InScope}
+use Rattle.names.specs.Frames.{AreSurroundings, IsNameFrame, Turned}
+use Rattle.names.specs.Operands.{in_frame}
+use Rattle.names.specs.Variables.{NameFrame, CheckedPiece, follow}
 use Rattle.tables.specs.Tables.{IsTable}
 use Rattle.tables.specs.Words.{word_at, words_at, same_word}
 use Rattle.names.specs.declared.heads.Awaiting.{Awaiting}
 use Rattle.names.specs.declared.heads.Heads.{Heads}
+use Rattle.names.specs.declared.surroundings.Surroundings.{Surroundings}
+use Rattle.names.specs.declared.variables.ScopeVariables.{ScopeVariables}
 
 -- the heads of a switch, in order
 abbrev pub switch_heads : SwitchTree → List Head
@@ -65,8 +78,27 @@ abbrev pub is_before : ℕ → Option ℕ → Bool
 is_before place None = false
 is_before place (Some first) = ltb first place
 
+-- a switch, in surroundings that are those within it
+abbrev pub switch_turn : bodies.Surroundings → SwitchTree → NameFrame → CheckedPiece
+switch_turn m s f = follow (case_turn m (switch_heads s) [] s.first f)
+    (cases_turn m (switch_heads s) (head_of s.first ∷ []) (case_sequence s.others))
+
+-- Whatever heads stand before this one in its switch, if they tell whether one of them awaits the same, these mistakes are added.
+abbrev pub AddsBehind : {X E : Type 0} → Scope → (twice : Bool) → Head → (old new : List Mistake) → Result X E
+    → (InScope → List Head → List Mistake) → Type 0
+AddsBehind scope twice head old new answer more = (p : ProgramText) (f : NameFrame) (earlier : List Head) → IsScope p scope
+    → twice ≡ awaits_too p.text head earlier → OnOk answer (Adds old new (more (in_frame p f) earlier))
+
 -- where the heads of a switch stand
 pub record IsHeads (text : List ℕ) (all : List Head) (heads : Heads) : Type 0 where
   pub cases : (key : Bor (List ℕ) × Option (Bor (List ℕ))) → get (λ x y. ordering_then (slice_cmp nat_cmp x.0.now y.0.now)
       (option_cmp (λ a b. slice_cmp nat_cmp a.now b.now) x.1 y.1)) heads.cases key ≡ key_at text (key_words key) all
   pub endpoints : IsTable (words_at text (map (λ h. h.endpoint) all)) heads.endpoints
+
+-- Whatever heads a switch has, if this one stands at this index among them, what is added and what is in scope behind its case are those
+-- of a turn.
+abbrev pub TurnsAmong : {X E : Type 0} → Surroundings → Heads → (index : ℕ) → Head → (before behind : ScopeVariables)
+    → (old new : List Mistake) → Result X E → (bodies.Surroundings → List Head → NameFrame → CheckedPiece) → Type 0
+TurnsAmong around heads index head before behind old new answer turn =
+    (m : bodies.Surroundings) (f : NameFrame) (all : List Head) → AreSurroundings m around → IsNameFrame m.program.text f before
+    → IsHeads m.program.text all heads → slice_get all index ≡ Some head → OnOk answer (Turned m.program.text old new behind (turn m all f))

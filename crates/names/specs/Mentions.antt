@@ -1,6 +1,9 @@
 -- What is judged of the variables in expressions and targets.
-use Rattle.std.specs.Prelude.{◌≡◌, List}
+use Rattle.std.specs.Prelude.{◌≡◌, ℕ, List, [], ◌∷◌, Option, is_some, if◌then◌else◌}
+use Rattle.source.specs.declared.token.Span.{Span}
 use Rattle.declarations.specs.declared.mistake.Mistake.{Mistake}
+use Rattle.declarations.specs.declared.mistake.Mistake.TheVariants.{Unknown}
+use Rattle.declarations.specs.declared.mistake.NameSort.TheVariants as sort
 use Rattle.names.specs.Expressions.{InScope}
 use Rattle.declarations.specs.Mistakes.{Adds}
 use Rattle.names.specs.Frames.{IsNameFrame}
@@ -11,6 +14,10 @@ use Rattle.names.specs.Variables.{NameFrame}
 use Rattle.declarations.specs.declared.value_type.ValueType.{ValueType}
 use Rattle.declarations.specs.declared.scope.Scope.{Scope}
 use Rattle.names.specs.declared.variables.ScopeVariables.{ScopeVariables}
+
+-- what is wrong with a name of a field of the struct that is the item at this index: that the struct lacks it, where it has none
+abbrev pub unknown_field : {A : Type 0} → Option A → (index : ℕ) → Span → List Mistake
+unknown_field named index field = if is_some named then [] else Unknown field (sort.Field index) ∷ []
 
 -- it is of this type, and these findings were added
 pub record IsGiven (is : ValueType) (more : List Mistake) (old new : List Mistake) (k : ValueType) : Type 0 where

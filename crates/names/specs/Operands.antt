@@ -1,5 +1,5 @@
 -- What the parts of an expression are judged to be.
-use Rattle.std.specs.Prelude.{◌≡◌, ◌++◌, ◌||◌, List, Result, OnOk, if◌then◌else◌}
+use Rattle.std.specs.Prelude.{◌≡◌, ◌++◌, ◌||◌, List, map, Result, OnOk, if◌then◌else◌}
 use Rattle.declarations.specs.declared.mistake.Mistake.{Mistake}
 use Rattle.source.specs.declared.place.Place.{Place}
 use Rattle.names.specs.Expressions.{InScope, type_of, place_of, expression_mistakes, whole_mistakes}
@@ -9,9 +9,11 @@ use Rattle.names.specs.Frames.{IsContext, IsNameFrame}
 use Rattle.declarations.specs.Types.{is_unknown}
 use Rattle.declarations.specs.Program.{ProgramText}
 use Rattle.declarations.specs.Scopes.{IsScope}
-use Rattle.names.specs.Shapes.{Shape, Joint, OperandSign}
+use Rattle.names.specs.Shapes.{Shape, Joint, OperandSign, shape}
 use Rattle.names.specs.Variables.{NameFrame}
 use Rattle.declarations.specs.declared.value_type.ValueType.TheVariants as ty
+use Rattle.tree.specs.ExpressionTrees.{expression_tree}
+use Rattle.tree.specs.declared.expression.Expression.{Expression}
 use Rattle.names.specs.declared.operands.Operand.{Operand}
 use Rattle.names.specs.declared.surroundings.NameContext.{NameContext}
 use Rattle.declarations.specs.declared.scope.Scope.{Scope}
@@ -20,6 +22,10 @@ use Rattle.names.specs.declared.variables.ScopeVariables.{ScopeVariables}
 -- what a program and the variables of a frame bring into scope
 abbrev pub in_frame : ProgramText → NameFrame → InScope
 in_frame p f = record { program = p; variables = f.variables }
+
+-- expressions as what is judged of them
+abbrev pub shapes_of : List Expression → List Shape
+shapes_of es = map shape (map expression_tree es)
 
 -- Whatever the program and the variables of a frame are, these mistakes are added.
 abbrev pub AddsIn : {X E : Type 0} → Scope → ScopeVariables → (old new : List Mistake) → Result X E → (InScope → List Mistake) → Type 0

@@ -8,7 +8,7 @@ ghost use Rattle.declarations.specs.Program.{ProgramText};
 ghost use Rattle.declarations.specs.Scopes.{IsScope};
 ghost use Rattle.names.specs.Shapes.{shape};
 ghost use Rattle.names.specs.Values.{argument_asked, argument_mistakes};
-ghost use Rattle.names.specs.Operands.{AddsIn};
+ghost use Rattle.names.specs.Operands.{AddsIn, shapes_of};
 
 use crate::expressions::judge_whole;
 use crate::variables::ScopeVariables;
@@ -53,7 +53,7 @@ pub(crate) fn judge_arguments(
     found: &mut Vec<Mistake>,
 ) -> Result<(), Memory>
     ensures { AddsIn scope.now variables.now found.old.items found.new.items result
-        (λ s. argument_mistakes s asked.now (map shape (map expression_tree arguments.now))) }
+        (λ s. argument_mistakes s asked.now (shapes_of arguments.now)) }
 {
     for (index, argument) in arguments.iter().enumerate() {
         let ty = type_at(asked, index);
@@ -124,7 +124,7 @@ pub(crate) fn judge_typed_arguments<T: Typed>(
 ) -> Result<(), Memory>
     ensures { AddsIn scope.now variables.now found.old.items found.new.items result
         (λ s. argument_mistakes s (map (λ x. type_meant s.program (T.as_written x)) typed.now)
-        (map shape (map expression_tree arguments.now))) }
+        (shapes_of arguments.now)) }
 {
     let types = types_of(alloc, scope, typed, arguments.len())?;
     judge_arguments(scope, variables, &types, arguments, found)

@@ -1,21 +1,19 @@
 //! What is wrong with the names and types in calls.
 
-ghost use Rattle.std.specs.Prelude.{◌≡◌, ◌&&◌, ◌∷◌, ℕ, [], map};
+ghost use Rattle.std.specs.Prelude.{◌≡◌, ◌&&◌, ◌∷◌, ℕ, []};
 ghost use Rattle.std.specs.Prelude.{Option, Some, OnOk};
-ghost use Rattle.tree.specs.ExpressionTrees.{expression_tree};
 ghost use Rattle.tree.specs.Trees.{MethodTree, message_tree, method_tree};
 ghost use Rattle.tree.specs.Values.{call_tree};
 ghost use Rattle.names.specs.Expressions.{variable_of};
 ghost use Rattle.declarations.specs.Mistakes.{Adds};
 ghost use Rattle.declarations.specs.Program.{ProgramText, class_named};
 ghost use Rattle.declarations.specs.Scopes.{IsScope, IsCallee};
-ghost use Rattle.names.specs.Shapes.{shape};
 ghost use Rattle.names.specs.Values.{argument_mistakes, result_fits, result_type, demand_of, start_mistakes, method_mistakes};
 ghost use Rattle.declarations.specs.Owning.{can_start};
 ghost use Rattle.names.specs.Values.{sends, is_alone, message_mistakes, contract_message, send_mismatch, send_mistakes};
 ghost use Rattle.names.specs.Values.{class_mistakes, class_meant, member_mistakes, call_mistakes};
 ghost use Rattle.source.specs.declared.token.Span.{Span as SpanModel};
-ghost use Rattle.names.specs.Operands.{AddsHere};
+ghost use Rattle.names.specs.Operands.{AddsHere, shapes_of};
 ghost use Rattle.names.specs.Frames.{AddsAround};
 
 use crate::arguments::{judge_arguments, judge_typed_arguments};
@@ -104,12 +102,9 @@ fn judge_known_method(
     site: &CallSite<'_>,
     found: &mut Vec<Mistake>,
 ) -> Result<(), Memory>
-    ensures { (class : Option SpanModel)
-        → callee.entry.startable ≡ can_start (method_tree callee.entry.method.now)
-        → AddsHere context.now found.old.items found.new.items result
-        (λ s. method_mistakes s (Some
-        (method_tree callee.entry.method.now)) class site.now.purpose site.now.name
-        (map shape (map expression_tree site.now.arguments.now))) }
+    ensures { let m = method_tree callee.entry.method.now in (class : Option SpanModel) → callee.entry.startable ≡ can_start m
+        → AddsHere context.now found.old.items found.new.items result (λ s. method_mistakes s (Some m) class
+        site.now.purpose site.now.name (shapes_of site.now.arguments.now)) }
 {
     let NameContext {
         alloc,
@@ -141,7 +136,7 @@ pub(crate) fn judge_unknown(
 ) -> Result<(), Memory>
     ensures { AddsHere context.now found.old.items found.new.items result
         (λ s. Mistake.Unknown name sort
-        ∷ argument_mistakes s [] (map shape (map expression_tree arguments.now))) }
+        ∷ argument_mistakes s [] (shapes_of arguments.now)) }
 {
     let NameContext {
         scope,
@@ -163,7 +158,7 @@ fn judge_method(
     ensures { (m : Option MethodTree) → IsCallee m callee.entry
         → AddsHere context.now found.old.items found.new.items result
         (λ s. method_mistakes s m class site.now.purpose site.now.name
-        (map shape (map expression_tree site.now.arguments.now))) }
+        (shapes_of site.now.arguments.now)) }
 {
     match callee {
         Some(callee) => judge_known_method(context, callee, site, found),
@@ -211,7 +206,7 @@ fn judge_known_message(
     ensures { (n : ℕ) → AddsHere context.now found.old.items found.new.items result
         (λ s. message_mistakes s n
         (Some (message_tree message.now)) end site.now.purpose site.now.name
-        (map shape (map expression_tree site.now.arguments.now))) }
+        (shapes_of site.now.arguments.now)) }
 {
     let NameContext {
         alloc,
@@ -252,7 +247,7 @@ fn judge_end(
     ensures { AddsHere context.now found.old.items found.new.items result
         (λ s. message_mistakes s index
         (contract_message s index site.now.name) end site.now.purpose site.now.name
-        (map shape (map expression_tree site.now.arguments.now))) }
+        (shapes_of site.now.arguments.now)) }
 {
     match context.scope.sent_message(index, site.name) {
         Some(message) => judge_known_message(context, message, end, site, found),
@@ -276,7 +271,7 @@ fn judge_send(
 ) -> Result<(), Memory>
     ensures { AddsHere context.now found.old.items found.new.items result
         (λ s. send_mistakes s ty site.now.purpose variable site.now.name
-        (map shape (map expression_tree site.now.arguments.now))) }
+        (shapes_of site.now.arguments.now)) }
 {
     let NameContext {
         scope,
@@ -303,7 +298,7 @@ fn judge_class(
     ensures { AddsHere context.now found.old.items found.new.items result
         (λ s. class_mistakes s (class_meant
         (class_named s.program class)) site.now.purpose class site.now.name
-        (map shape (map expression_tree site.now.arguments.now))) }
+        (shapes_of site.now.arguments.now)) }
 {
     match context.scope.class(class) {
         Some(methods) => {
@@ -326,7 +321,7 @@ fn judge_member(
 ) -> Result<(), Memory>
     ensures { AddsHere context.now found.old.items found.new.items result
         (λ s. member_mistakes s (variable_of s front) site.now.purpose front site.now.name
-        (map shape (map expression_tree site.now.arguments.now))) }
+        (shapes_of site.now.arguments.now)) }
 {
     match context.variables.find(context.scope.text, front) {
         Some(variable) => judge_send(context, variable.ty, front, site, found),

@@ -1,20 +1,18 @@
 //! What is wrong with the cases of a switch.
 
-ghost use Rattle.std.specs.Prelude.{◌≡◌, List, Some, [], take, if◌then◌else◌, OnOk, option_map, option_and_then, slice_get};
+ghost use Rattle.std.specs.Prelude.{◌≡◌, List, Some, [], take, if◌then◌else◌, OnOk, option_map};
 ghost use Rattle.tree.specs.Trees.{message_tree};
-ghost use Rattle.names.specs.Cases.{Head, awaits_too, awaited_mistakes, endpoint_head_mistakes, type_head_mistakes};
+ghost use Rattle.names.specs.Cases.{Head, awaited_mistakes, endpoint_head_mistakes, type_head_mistakes};
 ghost use Rattle.names.specs.Cases.{other_head_mistakes, head_mistakes, binds_turn, awaited_message};
 ghost use Rattle.declarations.specs.Declarations.{bound_params};
-ghost use Rattle.names.specs.Expressions.{variable_of, variable_type};
 ghost use Rattle.declarations.specs.Mistakes.{Adds};
 ghost use Rattle.names.specs.Frames.{IsContext, IsNameFrame, Turned};
 ghost use Rattle.names.specs.Operands.{in_frame};
-ghost use Rattle.names.specs.Heads.{IsHeads, case_head};
+ghost use Rattle.names.specs.Bodies.{params_of_case};
+ghost use Rattle.names.specs.Heads.{AddsBehind, IsHeads, case_head};
 ghost use Rattle.declarations.specs.Types.{is_silent};
-ghost use Rattle.declarations.specs.Program.{ProgramText, as_contract, item_at};
+ghost use Rattle.declarations.specs.Program.{ProgramText};
 ghost use Rattle.declarations.specs.Scopes.{IsScope};
-ghost use Rattle.declarations.specs.Named.{message_written};
-ghost use Rattle.tables.specs.Words.{word_at};
 ghost use Rattle.names.specs.Variables.{NameFrame, ScopeVariable};
 
 use crate::awaits::{
@@ -94,9 +92,8 @@ fn judge_awaited(
     case: &Case,
     found: &mut Vec<Mistake>,
 ) -> Result<(), Memory>
-    ensures { (p : ProgramText) (f : NameFrame) (earlier : List Head) → IsScope p context.now.scope.now
-        → twice ≡ awaits_too p.text (case_head case.now) earlier → OnOk result (Adds found.old.items found.new.items
-        (endpoint_head_mistakes (in_frame p f) earlier (ValueType.Endpoint end.side end.item) end.side (case_head case.now))) }
+    ensures { AddsBehind context.now.scope.now twice (case_head case.now) found.old.items found.new.items result (λ s earlier.
+        endpoint_head_mistakes s earlier (ValueType.Endpoint end.side end.item) end.side (case_head case.now)) }
 {
     match case.message {
         Awaited::Closed(word) => {
@@ -116,10 +113,9 @@ fn judge_message(
     case: &Case,
     found: &mut Vec<Mistake>,
 ) -> Result<(), Memory>
-    ensures { (p : ProgramText) (f : NameFrame) (earlier : List Head) → IsScope p context.now.scope.now
-        → case.now.message ≡ Awaited.Message word → twice ≡ awaits_too p.text (case_head case.now) earlier
-        → OnOk result (Adds found.old.items found.new.items (awaited_mistakes (in_frame p f) earlier
-        (ValueType.Endpoint end.side end.item) end.side (case_head case.now) (Awaited.Message word))) }
+    ensures { case.now.message ≡ Awaited.Message word
+        → AddsBehind context.now.scope.now twice (case_head case.now) found.old.items found.new.items result (λ s earlier.
+        awaited_mistakes s earlier (ValueType.Endpoint end.side end.item) end.side (case_head case.now) (Awaited.Message word)) }
 {
     match context.scope.message(end.item, word) {
         Some(message) => {
@@ -150,8 +146,8 @@ pub(crate) fn judge_binds<'a>(
     found: &mut Vec<Mistake>,
 ) -> Result<(), Memory>
     ensures { (p : ProgramText) (f : NameFrame) → IsScope p scope.now → IsNameFrame p.text f variables.old → OnOk result
-        (Turned p.text found.old.items found.new.items variables.new (binds_turn p (bound_params (awaited_message (in_frame p f)
-        (variable_type (variable_of (in_frame p f) case.now.endpoint)) case.now.message)) case.now.binds.items f)) }
+        (Turned p.text found.old.items found.new.items variables.new
+        (binds_turn p (params_of_case (in_frame p f) (case_head case.now)) case.now.binds.items f)) }
 {
     let binds = &case.binds;
     match held_type(scope, variables, case.endpoint) {

@@ -1,6 +1,6 @@
 //! What is wrong with the variables in an expression, their fields and their elements.
 
-ghost use Rattle.std.specs.Prelude.{◌≡◌, ℕ, List, [], ◌∷◌, OnOk, IfOk, is_some, codes, if◌then◌else◌};
+ghost use Rattle.std.specs.Prelude.{◌≡◌, List, [], ◌∷◌, OnOk, IfOk, codes, if◌then◌else◌};
 ghost use Rattle.declarations.specs.declared.mistake.Mistake.{Mistake as MistakeModel};
 ghost use Rattle.source.specs.declared.token.Span.{Span};
 ghost use Rattle.tree.specs.Trees.{StructTree};
@@ -8,7 +8,7 @@ ghost use Rattle.names.specs.Expressions.{InScope, variable_of, variable_type, v
 ghost use Rattle.names.specs.Expressions.{element_type, element_mistakes, struct_field_type, is_owning, owns};
 ghost use Rattle.declarations.specs.Named.{field_named};
 ghost use Rattle.declarations.specs.Mistakes.{Adds};
-ghost use Rattle.names.specs.Mentions.{GivesOperand, GivesIn, IsGiven};
+ghost use Rattle.names.specs.Mentions.{GivesOperand, GivesIn, IsGiven, unknown_field};
 ghost use Rattle.names.specs.Operands.{Judges};
 ghost use Rattle.declarations.specs.Scopes.{IsScope, AreFieldsOf};
 ghost use Rattle.names.specs.Shapes as shapes;
@@ -228,9 +228,8 @@ fn judge_field_in(
     found: &mut Vec<Mistake>,
 ) -> Result<ValueType, Memory>
     ensures { IfOk result (λ k. (s : InScope) (x : StructTree) → IsScope s.program scope.now → AreFieldsOf scope.now.text.now x fields.now
-        → IsGiven (struct_field_type s (field_named scope.now.text.now x field))
-        (if is_some (field_named scope.now.text.now x field) then [] else Mistake.Unknown field (NameSort.Field index) ∷ [])
-        found.old.items found.new.items k) }
+        → (let named = field_named scope.now.text.now x field in IsGiven (struct_field_type s named)
+        (unknown_field named index field) found.old.items found.new.items k)) }
 {
     match fields.find(scope.text, field) {
         Some(declared) => Ok(scope.type_meant(declared.ty)),

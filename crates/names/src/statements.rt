@@ -1,15 +1,14 @@
 //! What is wrong with the names and types in statements.
 
-ghost use Rattle.std.specs.Prelude.{◌≡◌, List, Some, map, take, OnOk, slice_get, [], ◌∷◌};
+ghost use Rattle.std.specs.Prelude.{map, take};
 ghost use Rattle.tree.specs.StatementTrees.{plain_tree, statement_tree, statement_sequence, block_tree, test_tree};
-ghost use Rattle.tree.specs.StatementTrees.{if_tree, switch_tree, case_tree, case_sequence};
+ghost use Rattle.tree.specs.StatementTrees.{if_tree, switch_tree, case_tree};
 ghost use Rattle.names.specs.Bodies as bodies;
 ghost use Rattle.names.specs.Bodies.{in_loop, in_switch, plain_turn, statement_turn, statements_turn, block_turn};
-ghost use Rattle.names.specs.Bodies.{test_turn, others_turn, case_turn, cases_turn, head_of};
-ghost use Rattle.names.specs.Cases.{Head};
-ghost use Rattle.names.specs.Frames.{AreSurroundings, IsNameFrame, Turned, Turns};
-ghost use Rattle.names.specs.Heads.{IsHeads, switch_heads};
-ghost use Rattle.names.specs.Variables.{NameFrame, follow};
+ghost use Rattle.names.specs.Bodies.{test_turn, others_turn, case_turn, head_of};
+ghost use Rattle.names.specs.Frames.{AreSurroundings, Turns};
+ghost use Rattle.names.specs.Heads.{TurnsAmong, switch_turn};
+ghost use Rattle.names.specs.Variables.{follow};
 
 use crate::calls::{Purpose, judge_call};
 use crate::cases::{judge_binds, judge_head};
@@ -179,11 +178,7 @@ fn judge_switch<'a>(
     found: &mut Vec<Mistake>,
 ) -> Result<(), Memory>
     ensures { Turns around.now variables.old variables.new found.old.items found.new.items result
-        (λ m f. follow (case_turn m (switch_heads (switch_tree switch.now)) []
-        (switch_tree switch.now).first f)
-        (cases_turn m (switch_heads (switch_tree switch.now))
-        (head_of (switch_tree switch.now).first ∷ [])
-        (case_sequence (switch_tree switch.now).others))) }
+        (λ m. switch_turn m (switch_tree switch.now)) }
 {
     let heads = Heads::of(around.alloc, around.scope.text, switch)?;
     judge_case(around, variables, &heads, 0, &switch.first, found)?;
@@ -203,11 +198,8 @@ fn judge_case<'a>(
     case: &Case,
     found: &mut Vec<Mistake>,
 ) -> Result<(), Memory>
-    ensures { (m : bodies.Surroundings) (f : NameFrame) (all : List Head) → AreSurroundings m around.now
-        → IsNameFrame m.program.text f variables.old → IsHeads m.program.text all heads.now
-        → slice_get all index ≡ Some (head_of (case_tree case.now))
-        → OnOk result (Turned m.program.text found.old.items found.new.items variables.new
-        (case_turn m all (take index all) (case_tree case.now) f)) }
+    ensures { TurnsAmong around.now heads.now index (head_of (case_tree case.now)) variables.old variables.new
+        found.old.items found.new.items result (λ m all. case_turn m all (take index all) (case_tree case.now)) }
 {
     let scope = around.scope;
     judge_head(&around.context(variables), heads, index, case, found)?;

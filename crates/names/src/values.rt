@@ -1,13 +1,11 @@
 //! What is wrong with the names and types in values.
 
-ghost use Rattle.std.specs.Prelude.{◌≡◌, map, IfOk};
-ghost use Rattle.tree.specs.ExpressionTrees.{expression_tree};
+ghost use Rattle.std.specs.Prelude.{◌≡◌, IfOk};
 ghost use Rattle.tree.specs.Values.{value_tree, new_tree, made_tree};
-ghost use Rattle.names.specs.Operands.{AddsHere, in_frame};
+ghost use Rattle.names.specs.Operands.{AddsHere, in_frame, shapes_of};
 ghost use Rattle.declarations.specs.Types.{pointer_type};
 ghost use Rattle.declarations.specs.Program.{ProgramText, struct_named};
 ghost use Rattle.declarations.specs.Scopes.{IsScope};
-ghost use Rattle.names.specs.Shapes.{shape};
 ghost use Rattle.names.specs.Values.{made_type, made_mistakes, struct_made_mistakes, new_mistakes, value_mistakes};
 ghost use Rattle.names.specs.Variables.{NameFrame};
 ghost use Rattle.names.specs.Frames.{AddsAround};
@@ -34,7 +32,7 @@ fn judge_structure(
     ensures ty { IfOk result (λ ty. (p : ProgramText) → IsScope p context.now.scope.now → ty ≡ pointer_type (struct_named p name)) }
     ensures found { AddsHere context.now found.old.items found.new.items result
         (λ s. struct_made_mistakes s (struct_named s.program name) name
-        (map shape (map expression_tree arguments.now))) }
+        (shapes_of arguments.now)) }
 {
     let NameContext {
         alloc,

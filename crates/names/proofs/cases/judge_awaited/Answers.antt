@@ -31,4 +31,4 @@ returns-in-Message c = λ p f earlier scope twice.
     let old = c.args.found.now.items in
     let new = c.judge_message.new.found.items in
     subst (λ a. OnOk result (Adds old new (awaited_mistakes s earlier (ty.Endpoint c.args.end.side c.args.end.item) c.args.end.side h a))) (sym c.in-Message.is)
-    (c.judge_message.ensures p f earlier scope c.in-Message.is twice)
+    (c.judge_message.ensures c.in-Message.is p f earlier scope twice)

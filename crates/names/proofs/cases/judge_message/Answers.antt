@@ -11,7 +11,7 @@ use Rattle.names.proofs.PassLemmas.{on_adds}
 use Rattle.names.proofs.cases.judge_message.Goals as goal
 
 pub returns-in_ok-judge_message_case-in-Some : goal.returns-in_ok-judge_message_case-in-Some
-returns-in_ok-judge_message_case-in-Some c = λ p f earlier scope awaits twice.
+returns-in_ok-judge_message_case-in-Some c = λ awaits p f earlier scope twice.
     let s = in_frame p f in
     let h = case_head c.args.case.now in
     let result = c.judge_case_twice.result in
@@ -28,7 +28,7 @@ returns-in_ok-judge_message_case-in-Some c = λ p f earlier scope awaits twice.
     (told_twice result mid new s earlier h c.args.twice twice c.judge_case_twice.ensures))
 
 pub returns-in-None : goal.returns-in-None
-returns-in-None c = λ p f earlier scope awaits twice.
+returns-in-None c = λ awaits p f earlier scope twice.
     let s = in_frame p f in
     let h = case_head c.args.case.now in
     let result = c.add_unknown.result in
