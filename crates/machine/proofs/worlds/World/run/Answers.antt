@@ -5,7 +5,7 @@ use Rattle.flow.specs.Graphs.{Act, Branch, Forget, New, Return, Stop, Switch, ca
 use Rattle.flow.specs.declared.graph.Instr.TheVariants as made
 use Rattle.rules.specs.Programs.{model_of}
 use Rattle.machine.specs.Answers.{Tells, on_stack}
-use Rattle.machine.specs.Views.{blocks_model, frame_model, stack_model, world_model}
+use Rattle.machine.specs.Views.{blocks_model, stack_model, world_model}
 use Rattle.machine.specs.World.{Frame, stack_at}
 use Rattle.machine.specs.declared.worlds as worlds
 use Rattle.machine.proofs.StepLemmas.{frame_read, frame_same, frame_tells, same_blocks, one_choice, stack_same, stack_tells, tells_at, the_world, with_top}
