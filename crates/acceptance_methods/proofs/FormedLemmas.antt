@@ -3,8 +3,7 @@ use Rattle.std.proofs.Common.{◌≡◌, ◌<◌, ◌∙◌, ℕ, zero, suc, fal
 use Rattle.std.specs.Prelude.{IfSome}
 use Rattle.std.specs.Global.{Vec}
 use Rattle.program.specs.Methods.{MethodModel, VariableModel, method_model}
-use Rattle.program.specs.Parts.{contract_model}
-use Rattle.program.specs.Programs.{type_lists}
+use Rattle.program.specs.Programs.{ProgramModel, program_model, type_lists}
 use Rattle.program.specs.Scopes.{Grows}
 use Rattle.program.specs.Statements.{statement_sequence}
 use Rattle.program.specs.WellFormed.{AreStatements, AreWellFormed, Setting, in_loop, is_parameter, with_last, setting}
@@ -28,9 +27,12 @@ local_at (suc (suc n)) v there = absurd (none_some v there)
 stays : Grows method.variables (Some record { 0 = 1 }) (Some record { 0 = 1 })
 stays = record { count = 0; by = refl }
 
+abbrev program : ProgramModel
+program = record { contracts = []; messages = []; structs = structs; methods = method ∷ [] }
+
 -- where the statements of the loop stand
 abbrev inside : Setting
-inside = in_loop (with_last (setting [] [] structs (method ∷ []) method None) (Some record { 0 = 1 }))
+inside = in_loop (with_last (setting program method None) (Some record { 0 = 1 }))
 
 turn : AreStatements inside (statement_sequence (new 0 [] ∷ exchange ∷ deletes 0 ∷ [])) (Some record { 0 = 1 })
 turn = (
@@ -53,7 +55,7 @@ turn = (
   ),
 )
 
-is_well_formed : AreWellFormed [] [] structs (method ∷ [])
+is_well_formed : AreWellFormed program
 is_well_formed = record {
   messages_are = tt;
   structs_are = (record { few = omega arith; types_are = tt }, (record { few = omega arith; types_are = (tt, tt) }, tt));
@@ -102,12 +104,12 @@ is_well_formed = record {
 
 -- the same of what lies in memory
 pub made_well_formed : (contracts : List Contract) (messages fields : List (Vec HeapType)) (methods : List Method) → contracts ≡ [] → messages ≡ [] → type_lists fields ≡ structs
-    → map method_model methods ≡ method ∷ [] → AreWellFormed (map contract_model contracts) (type_lists messages) (type_lists fields) (map method_model methods)
+    → map method_model methods ≡ method ∷ [] → AreWellFormed (program_model (contracts, type_lists messages, type_lists fields, methods))
 made_well_formed contracts messages fields methods no_contract no_message told is =
-    subst (λ (cs : List Contract). AreWellFormed (map contract_model cs) (type_lists messages) (type_lists fields) (map method_model methods)) (sym no_contract)
-    (subst (λ (ms : List (Vec HeapType)). AreWellFormed [] (type_lists ms) (type_lists fields) (map method_model methods)) (sym no_message)
-    (subst (λ (ks : List (List HeapType)). AreWellFormed [] [] ks (map method_model methods)) (sym told)
-    (subst (λ (ms : List MethodModel). AreWellFormed [] [] structs ms) (sym is) is_well_formed)))
+    subst (λ (cs : List Contract). AreWellFormed (program_model (cs, type_lists messages, type_lists fields, methods))) (sym no_contract)
+    (subst (λ (ms : List (Vec HeapType)). AreWellFormed (program_model ([], type_lists ms, type_lists fields, methods))) (sym no_message)
+    (subst (λ (ks : List (List HeapType)). AreWellFormed (program_model ([], [], ks, methods))) (sym told)
+    (subst (λ (ms : List MethodModel). AreWellFormed (record { contracts = []; messages = []; structs = structs; methods = ms })) (sym is) is_well_formed)))
 
 -- it is the one method
 pub one_method : (old all : List Method) (m : Method) → old ≡ [] → all ≡ old ++ m ∷ [] → method_model m ≡ method → map method_model all ≡ method ∷ []

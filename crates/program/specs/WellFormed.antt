@@ -8,6 +8,7 @@ use Rattle.program.specs.Parts.{StateModel, MessageModel, ContractModel}
 use Rattle.program.specs.declared.number.MessageId.{MessageId}
 use Rattle.program.specs.declared.number.StateId.{StateId}
 use Rattle.program.specs.Methods.{MethodModel, VariableModel}
+use Rattle.program.specs.Programs.{ProgramModel}
 use Rattle.program.specs.Statements.{CallModel, NewModel, SendModel, StatementModel, Simple, New, Call, Start, Send}
 use Rattle.program.specs.Statements.{Block, If, While, Switch}
 use Rattle.program.specs.Statements.{StatementsModel, NoStatement, MoreStatements, BlockModel, Braces, TestModel, Test}
@@ -93,14 +94,10 @@ field_types structs (Struct n) = option_map_or (λ types. types) (slice_get stru
 field_types structs (Array element) = []
 field_types structs (Endpoint contract side state) = []
 
--- Where a statement stands: the contracts of the program, what its messages bring, what its structs have in fields that own, and its
--- methods; the variables of its own method, and what that gives; the last variable in scope, and the last that stays at a `break` and at
--- a `continue`.
+-- Where a statement stands: the program; the variables of its own method, and what that gives; the last variable in scope, and the last
+-- that stays at a `break` and at a `continue`.
 pub record Setting : Type 0 where
-  pub contracts : List ContractModel
-  pub messages : List (List HeapType)
-  pub structs : List (List HeapType)
-  pub methods : List MethodModel
+  pub program : ProgramModel
   pub variables : List VariableModel
   pub result : Option HeapType
   pub scope : Option VarId
@@ -153,7 +150,7 @@ module _ (s : Setting) where
 
   -- an endpoint whose contract is so
   abbrev pub IsEnd : (ContractModel → Type 0) → Mention → Type 0
-  IsEnd P m = IsSomeAnd (slice_get s.variables m.variable.0) (λ v. IsSomeAnd (contract_held s.contracts v.ty) P)
+  IsEnd P m = IsSomeAnd (slice_get s.variables m.variable.0) (λ v. IsSomeAnd (contract_held s.program.contracts v.ty) P)
 
   -- an argument for each parameter, of its type, and claimed where the parameter is
   abbrev pub AreGiven : List VariableModel → List Argument → Type 0
@@ -189,7 +186,7 @@ module _ (s : Setting) where
   pub record IsSend (x : SendModel) : Type 0 where
     pub reads : Each IsMention x.reads
     pub endpoint : IsEnd (λ c. IsMessageOf c x.message) x.endpoint
-    pub payloads : IsSomeAnd (slice_get s.messages x.message.0) (λ types. HoldAll types (map (λ m. m.variable) x.payloads))
+    pub payloads : IsSomeAnd (slice_get s.program.messages x.message.0) (λ types. HoldAll types (map (λ m. m.variable) x.payloads))
 
   abbrev pub IsChannel : Channel → Type 0
   IsChannel c = IsSomeAnd (slice_get s.variables c.first.variable.0) (λ v. IsSomeAnd (slice_get s.variables c.second.variable.0)
@@ -200,12 +197,12 @@ module _ (s : Setting) where
     pub reads : Each IsMention n.reads
     pub in_scope : IsIn n.target.variable
     pub taken : IsSomeAnd (slice_get s.variables n.target.variable.0) (λ x. (is_end x.ty ≡ false)
-        × HoldAll (field_types s.structs x.ty) (map (λ m. m.variable) n.arguments))
+        × HoldAll (field_types s.program.structs x.ty) (map (λ m. m.variable) n.arguments))
 
   -- a variable, and a field that owns, of its type and of the block that another variable has
   abbrev pub IsExchange : Exchange → Type 0
   IsExchange e = IsIn e.given.variable × IsSomeAnd (slice_get s.variables e.holder.variable.0)
-      (λ v. IsSomeAnd (slice_get (field_types s.structs v.ty) e.field) (λ k. Holds k e.given.variable))
+      (λ v. IsSomeAnd (slice_get (field_types s.program.structs v.ty) e.field) (λ k. Holds k e.given.variable))
 
   -- what is assigned is in scope
   abbrev pub IsAction : Action → Type 0
@@ -230,7 +227,7 @@ module _ (s : Setting) where
 
   -- what a case binds, for what its message brings; a close brings nothing
   abbrev pub IsBrought : Awaited → List VarId → Type 0
-  IsBrought (Message id) targets = IsSomeAnd (slice_get s.messages id.0) (λ types. HoldAll types targets)
+  IsBrought (Message id) targets = IsSomeAnd (slice_get s.program.messages id.0) (λ types. HoldAll types targets)
   IsBrought Closed targets = targets ≡ []
 
 abbrev mutual
@@ -238,8 +235,8 @@ abbrev mutual
   pub IsStatement : Setting → StatementModel → Type 0
   IsStatement s (Simple reads effect) = Each (IsMention s) reads × IsEffect s effect
   IsStatement s (New n) = IsNew s n
-  IsStatement s (Call c) = IsSomeAnd (slice_get s.methods c.method.0) (IsCallOf s c)
-  IsStatement s (Start c) = IsSomeAnd (slice_get s.methods c.method.0) (IsStartOf s c)
+  IsStatement s (Call c) = IsSomeAnd (slice_get s.program.methods c.method.0) (IsCallOf s c)
+  IsStatement s (Start c) = IsSomeAnd (slice_get s.program.methods c.method.0) (IsStartOf s c)
   IsStatement s (Send x) = IsSend s x
   IsStatement s (Block b) = IsBlock s b
   IsStatement s (If first others) = IsTest s first × AreOthers s others
@@ -278,13 +275,9 @@ abbrev mutual
   AreCases s (MoreCases c cases) = IsCase s c × AreCases s cases
 
 -- where the statements of a method begin, if these parameters are in scope there; a `break` and a `continue` leave them in scope
-abbrev pub setting : List ContractModel → (messages structs : List (List HeapType)) → List MethodModel → MethodModel
-    → (begins : Option VarId) → Setting
-setting contracts messages structs methods m begins = record {
-  contracts = contracts;
-  messages = messages;
-  structs = structs;
-  methods = methods;
+abbrev pub setting : ProgramModel → MethodModel → (begins : Option VarId) → Setting
+setting p m begins = record {
+  program = p;
   variables = m.variables;
   result = m.result;
   scope = begins;
@@ -292,12 +285,11 @@ setting contracts messages structs methods m begins = record {
   at_continue = begins;
 }
 
--- a method among those of a program of these contracts, whose messages bring this, and whose structs have this
-pub record IsWellFormed (contracts : List ContractModel) (messages structs : List (List HeapType)) (methods : List MethodModel)
-    (m : MethodModel) : Type 0 where
-  pub result : IfSome m.result (IsType contracts)
+-- a method of a program
+pub record IsWellFormed (p : ProgramModel) (m : MethodModel) : Type 0 where
+  pub result : IfSome m.result (IsType p.contracts)
   pub void : m.gives ≡ false → m.result ≡ None
-  pub types : Each (λ v. IsType contracts v.ty) m.variables
+  pub types : Each (λ v. IsType p.contracts v.ty) m.variables
   pub few : length m.variables ≤ MOST_VARIABLES
   pub nested : AreNested m.variables
   -- the last variable in scope where the method begins: all parameters are in scope there
@@ -305,7 +297,7 @@ pub record IsWellFormed (contracts : List ContractModel) (messages structs : Lis
   pub begins_with : IfSome begins (λ v. v.0 < length m.variables)
   pub parameters : (n : VarId) (v : VariableModel) → slice_get m.variables n.0 ≡ Some v → is_parameter v.role ≡ true
       → IsInScope m.variables begins n
-  pub statements : AreStatements (setting contracts messages structs methods m begins) m.statements m.scope
+  pub statements : AreStatements (setting p m begins) m.statements m.scope
 
 -- what a struct has in its fields that own, in order: types as they are declared, no more than may be
 pub record AreFields (contracts : List ContractModel) (types : List HeapType) : Type 0 where
@@ -313,8 +305,7 @@ pub record AreFields (contracts : List ContractModel) (types : List HeapType) : 
   pub types_are : Each (IsType contracts) types
 
 -- a program: what its messages bring, what its structs have in fields that own, and its methods
-pub record AreWellFormed (contracts : List ContractModel) (messages structs : List (List HeapType)) (methods : List MethodModel)
-    : Type 0 where
-  pub messages_are : Each (Each (IsType contracts)) messages
-  pub structs_are : Each (AreFields contracts) structs
-  pub methods_are : Each (IsWellFormed contracts messages structs methods) methods
+pub record AreWellFormed (p : ProgramModel) : Type 0 where
+  pub messages_are : Each (Each (IsType p.contracts)) p.messages
+  pub structs_are : Each (AreFields p.contracts) p.structs
+  pub methods_are : Each (IsWellFormed p) p.methods

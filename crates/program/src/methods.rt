@@ -3,7 +3,7 @@
 ghost use Rattle.std.specs.Prelude.{◌≡◌, ◌<◌, Some, length, map, slice_get};
 ghost use Rattle.program.specs.Parts.{contract_model};
 ghost use Rattle.program.specs.Methods.{method_model};
-ghost use Rattle.program.specs.Programs.{contracts_model, messages_model, methods_model, type_lists, structs_model};
+ghost use Rattle.program.specs.Programs.{contracts_model, messages_model, methods_model, program_model, structs_model, type_lists};
 ghost use Rattle.program.specs.Lists.{Each};
 ghost use Rattle.program.specs.WellFormed.{AreFields, AreWellFormed, IsType, IsWellFormed};
 
@@ -29,10 +29,8 @@ pub struct Methods {
 
 impl Model for Methods {
     ghost use Rattle.std.specs.Coded.{codes};
-    ghost use Rattle.std.specs.Prelude.{List, map};
-    ghost use Rattle.program.specs.Parts.{contract_model};
-    ghost use Rattle.program.specs.Methods.{method_model};
-    ghost use Rattle.program.specs.Programs.{type_lists};
+    ghost use Rattle.std.specs.Prelude.{List};
+    ghost use Rattle.program.specs.Programs.{program_model, type_lists};
     ghost use Rattle.program.specs.WellFormed.{AreWellFormed};
     ghost use Rattle.program.specs.contracts.statement.Statement as statement;
     ghost use Rattle.program.specs.declared.contract.Contract.{Contract};
@@ -45,8 +43,12 @@ impl Model for Methods {
 
     ghost view = { λ m. (m.contracts.contracts.items, type_lists m.messages.items, type_lists m.structs.items, m.list.items) };
 
-    ghost invariant = { λ m. AreWellFormed (map contract_model m.contracts.contracts.items) (type_lists m.messages.items)
-        (type_lists m.structs.items) (map method_model m.list.items) };
+    ghost invariant = { λ m. AreWellFormed (program_model (
+      m.contracts.contracts.items,
+      type_lists m.messages.items,
+      type_lists m.structs.items,
+      m.list.items,
+    )) };
 }
 
 impl Methods {
@@ -57,8 +59,12 @@ impl Methods {
         structs: Vec<Vec<HeapType>>,
         list: Vec<Method>,
     ) -> Methods
-        requires well_formed { AreWellFormed (map contract_model contracts.contracts.items) (type_lists messages.items)
-            (type_lists structs.items) (map method_model list.items) }
+        requires well_formed { AreWellFormed (program_model (
+          contracts.contracts.items,
+          type_lists messages.items,
+          type_lists structs.items,
+          list.items,
+        )) }
         ensures contracts { contracts_model result ≡ map contract_model contracts.contracts.items }
         ensures messages { messages_model result ≡ type_lists messages.items }
         ensures structs { structs_model result ≡ type_lists structs.items }
@@ -98,8 +104,7 @@ impl Methods {
     /// The methods, in order of the text.
     pub fn list(&self) -> &[Method]
         ensures list { map method_model result.now ≡ methods_model self.now }
-        ensures well_formed { AreWellFormed (contracts_model self.now) (messages_model self.now) (structs_model self.now)
-            (methods_model self.now) }
+        ensures well_formed { AreWellFormed (program_model self.now) }
     {
         self.list.as_slice()
     }
@@ -108,8 +113,7 @@ impl Methods {
     pub fn method(&self, id: MethodId) -> &Method
         requires there { id.0 < length (methods_model self.now) }
         ensures method { slice_get (methods_model self.now) id.0 ≡ Some (method_model result.now) }
-        ensures well_formed { IsWellFormed (contracts_model self.now) (messages_model self.now) (structs_model self.now)
-            (methods_model self.now) (method_model result.now) }
+        ensures well_formed { IsWellFormed (program_model self.now) (method_model result.now) }
     {
         &self.list[id.0 as usize]
     }

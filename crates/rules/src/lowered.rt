@@ -5,7 +5,7 @@ ghost use Rattle.std.proofs.Props.{props};
 ghost use Rattle.contracts.specs.Sounds.{sound_parts};
 ghost use Rattle.flow.specs.Graphs.{graph_model};
 ghost use Rattle.flow.specs.Lowering.{graph_of};
-ghost use Rattle.program.specs.Methods.{method_model, variable_model};
+ghost use Rattle.program.specs.Methods.{method_model};
 ghost use Rattle.program.specs.Parts.{contract_model};
 ghost use Rattle.program.specs.Programs.{contracts_model, methods_model, program_model, type_lists};
 ghost use Rattle.program.specs.WellFormed as formed;
@@ -116,8 +116,7 @@ impl Program {
         requires there { method.0 < length (model_of self.now).methods }
         ensures method { slice_get (model_of self.now).methods method.0 ≡ Some (method_model result.now) }
         ensures few { length result.now.variables.items ≤ MOST_VARIABLES }
-        ensures well_formed { IsWellFormed (model_of self.now).contracts (model_of self.now).messages (model_of self.now).structs
-            (model_of self.now).methods (method_model result.now) }
+        ensures well_formed { IsWellFormed (model_of self.now) (method_model result.now) }
     {
         self.methods.method(method)
     }

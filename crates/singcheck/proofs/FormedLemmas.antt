@@ -18,26 +18,27 @@ use Rattle.resolving.specs.Fields.{structs_told}
 use Rattle.resolving.specs.Methods.{methods_told}
 use Rattle.sound.specs.Premises.{AreSound}
 use Rattle.wellformed.specs.Bare.{IsBare}
+use Rattle.wellformed.specs.Told.{program_told}
 use Rattle.singcheck.specs.Checks.{HasProgram}
 
 -- what the crates below say of programs with nothing wrong in their names
 pub record CleanPrograms : Type 0 where
   pub whole : (p : ProgramText) → program_mistakes p ≡ [] → All (λ (c : ContractModel). IsWhole c.parts) (resolved_contracts p.text (contracts_of p.items))
-  pub formed : (p : ProgramText) → program_mistakes p ≡ [] → AreWellFormed (resolved_contracts p.text (contracts_of p.items)) (messages_told p) (structs_told p) (methods_told p)
+  pub formed : (p : ProgramText) → program_mistakes p ≡ [] → AreWellFormed (program_told p)
   pub bare : (p : ProgramText) → Each IsBare (methods_told p)
 
 -- the items of a text whose program this is, with the text
 abbrev of_items : (text : List ℕ) (p : ProgramModel) → HasProgram text p → ProgramText
 of_items text p has = record { text = text; items = has.items }
 
-pub formed_of : CleanPrograms → (text : List ℕ) (p : ProgramModel) → HasProgram text p → AreWellFormed p.contracts p.messages p.structs p.methods
+pub formed_of : CleanPrograms → (text : List ℕ) (p : ProgramModel) → HasProgram text p → AreWellFormed p
 formed_of laws text p has =
     let q = of_items text p has in
     let told = resolved_contracts text (contracts_of has.items) in
-    subst (λ (cs : List ContractModel). AreWellFormed cs p.messages p.structs p.methods) (sym has.program.are)
-    (subst (λ (ms : List (List HeapType)). AreWellFormed told ms p.structs p.methods) (sym has.messages)
-    (subst (λ (ss : List (List HeapType)). AreWellFormed told (messages_told q) ss p.methods) (sym has.structs)
-    (subst (λ (ms : List MethodModel). AreWellFormed told (messages_told q) (structs_told q) ms) (sym has.methods)
+    subst (λ (cs : List ContractModel). AreWellFormed (record { contracts = cs; messages = p.messages; structs = p.structs; methods = p.methods })) (sym has.program.are)
+    (subst (λ (ms : List (List HeapType)). AreWellFormed (record { contracts = told; messages = ms; structs = p.structs; methods = p.methods })) (sym has.messages)
+    (subst (λ (ss : List (List HeapType)). AreWellFormed (record { contracts = told; messages = messages_told q; structs = ss; methods = p.methods })) (sym has.structs)
+    (subst (λ (ms : List MethodModel). AreWellFormed (record { contracts = told; messages = messages_told q; structs = structs_told q; methods = ms })) (sym has.methods)
     (laws.formed q has.program.clean))))
 
 pub bare_of : CleanPrograms → (text : List ℕ) (p : ProgramModel) → HasProgram text p → Each IsBare p.methods

@@ -167,7 +167,7 @@ takes_nothing true takes is = absurd (cc)
 takes_nothing false true is = absurd (cc)
 takes_nothing false false is = refl
 
-entry_at : (p : ProgramModel) (n : ℕ) (o : Option MethodModel) → AreWellFormed p.contracts p.messages p.structs p.methods → Each IsBare p.methods
+entry_at : (p : ProgramModel) (n : ℕ) (o : Option MethodModel) → AreWellFormed p → Each IsBare p.methods
     → slice_get p.methods n ≡ o → IsSomeAnd o (λ m. is_entry m ≡ true) → IsEntry p n
 entry_at p n None formed bare at is = absurd is
 entry_at p n (Some m) formed bare at is = record {
@@ -177,22 +177,22 @@ entry_at p n (Some m) formed bare at is = record {
   alone = each_there IsBare p.methods n m bare at (takes_nothing m.gives m.takes is);
 }
 
-pub entry_is : (p : ProgramModel) → AreWellFormed p.contracts p.messages p.structs p.methods → Each IsBare p.methods → (n : ℕ) → BeginsWith p n
+pub entry_is : (p : ProgramModel) → AreWellFormed p → Each IsBare p.methods → (n : ℕ) → BeginsWith p n
     → IsEntry p n
 entry_is p formed bare n is = entry_at p n (slice_get p.methods n) formed bare refl is
 
 -- the laws of runs: those of a program in which nothing is found, and those of every program
 abbrev pub AreSafeAlways : Type 0
-AreSafeAlways = (p : ProgramModel) (bound : QueueBounds) → AreWellFormed p.contracts p.messages p.structs p.methods → AreSound p → AreBounds p bound
+AreSafeAlways = (p : ProgramModel) (bound : QueueBounds) → AreWellFormed p → AreSound p → AreBounds p bound
     → NothingIsFound p → (n : ℕ) (w : World) → IsEntry p n → Run p bound n w → IsSafe p bound w
 
 abbrev pub AreBoundedAlways : Type 0
-AreBoundedAlways = (p : ProgramModel) (bound : QueueBounds) → AreWellFormed p.contracts p.messages p.structs p.methods → AreSound p → AreBounds p bound
+AreBoundedAlways = (p : ProgramModel) (bound : QueueBounds) → AreWellFormed p → AreSound p → AreBounds p bound
     → (n : ℕ) (w : World) → Run p bound n w → IsBounded p bound w
 
 -- what is known of the program of a text, and of runs
 pub record KnownOf (text : List ℕ) : Type 0 where
-  pub formed : (p : ProgramModel) → HasProgram text p → AreWellFormed p.contracts p.messages p.structs p.methods
+  pub formed : (p : ProgramModel) → HasProgram text p → AreWellFormed p
   pub sound : (p : ProgramModel) → HasProgram text p → AreSound p
   pub bare : (p : ProgramModel) → HasProgram text p → Each IsBare p.methods
   pub bounds : (p : ProgramModel) → HasProgram text p → ((bound : QueueBounds) → AreBounds p bound → ⊥) → ⊥

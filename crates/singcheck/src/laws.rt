@@ -93,7 +93,7 @@ pub fn findings_or_program()
 /// no parameter of the exchange heap (`bare`), whatever is found in its methods.
 pub fn each_program_is_well_formed()
     ensures formed { (text : List ℕ) (p : ProgramModel) → HasProgram text p
-        → AreWellFormed p.contracts p.messages p.structs p.methods }
+        → AreWellFormed p }
     ensures sound { (text : List ℕ) (p : ProgramModel) → HasProgram text p → AreSound p }
     ensures bare { (text : List ℕ) (p : ProgramModel) → HasProgram text p → Each IsBare p.methods }
 {

@@ -250,7 +250,7 @@ made_well p graphs = record {
 
 -- in every run queues are walks, and no send passes the bound of a queue
 pub runs_are_bounded : HeldAlways → NeverLonger → (p : ProgramModel) (bound : QueueBounds)
-    → AreWellFormed p.contracts p.messages p.structs p.methods → AreSound p → AreBounds p bound
+    → AreWellFormed p → AreSound p → AreBounds p bound
     → (n : ℕ) (w : World) → Run p bound n w → IsBounded p bound w
 runs_are_bounded always longer p bound well sound bounds n w run =
     let program = sound_program p bound sound bounds in

@@ -30,14 +30,11 @@ use Rattle.sound.proofs.Operands.{all_claim, contract_at, end_variable, found_ty
 use Rattle.sound.proofs.Scopes.{Grown, in_scope, own_gone, scope_parted}
 use Rattle.rules.proofs.EndLemmas.{each_at}
 
-module _ (p : ProgramModel) (m : MethodModel) (well : IsWellFormed p.contracts p.messages p.structs p.methods m) where
+module _ (p : ProgramModel) (m : MethodModel) (well : IsWellFormed p m) where
   -- a statement of the method, where these variables are the last in scope
   abbrev pub around : (exit again here : Option VarId) → Setting
   around exit again here = record {
-    contracts = p.contracts;
-    messages = p.messages;
-    structs = p.structs;
-    methods = p.methods;
+    program = p;
     variables = m.variables;
     result = m.result;
     scope = here;

@@ -177,7 +177,7 @@ module _ (always : HeldAlways) (longer : NeverLonger) (p : ProgramModel) (bound 
 
 -- where nothing is found, every run is safe
 pub empty_report_is_safe : HeldAlways → NeverLonger → (p : ProgramModel) (bound : QueueBounds)
-    → AreWellFormed p.contracts p.messages p.structs p.methods → AreSound p → AreBounds p bound → NothingIsFound p
+    → AreWellFormed p → AreSound p → AreBounds p bound → NothingIsFound p
     → (n : ℕ) (w : World) → IsEntry p n → Run p bound n w → IsSafe p bound w
 empty_report_is_safe always longer p bound well sound bounds nothing n w entry run =
     let graphs = graphs_fit p well in

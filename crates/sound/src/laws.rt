@@ -19,13 +19,13 @@ use program::Methods;
 /// fields of a new block and what changes places with a field, each point has a scope, and what leaves the scope is in the Forget of the
 /// instruction.
 pub fn graphs_fit()
-    ensures { (p : ProgramModel) → AreWellFormed p.contracts p.messages p.structs p.methods → AreGraphsFit p }
+    ensures { (p : ProgramModel) → AreWellFormed p → AreGraphsFit p }
 {}
 
 /// In every run of a program of sound contracts, whatever is found in its methods, each queue is a walk of its contract and keeps
 /// within its bound, and no send passes a bound.
 pub fn runs_are_bounded()
-    ensures { (p : ProgramModel) (bound : QueueBounds) → AreWellFormed p.contracts p.messages p.structs p.methods → AreSound p
+    ensures { (p : ProgramModel) (bound : QueueBounds) → AreWellFormed p → AreSound p
         → AreBounds p bound
         → (n : ℕ) (w : World) → Run p bound n w → IsBounded p bound w }
 {
@@ -36,7 +36,7 @@ pub fn runs_are_bounded()
 /// its contract, a process holds just what it owns, what is cut off stays so, and a process that has ended owns nothing. In a block that
 /// is not freed each field that owns holds a block; that block stands in no variable and in no other field, and none is inside itself.
 pub fn empty_report_is_safe()
-    ensures { (p : ProgramModel) (bound : QueueBounds) → AreWellFormed p.contracts p.messages p.structs p.methods → AreSound p
+    ensures { (p : ProgramModel) (bound : QueueBounds) → AreWellFormed p → AreSound p
         → AreBounds p bound
         → NothingIsFound p → (n : ℕ) (w : World) → IsEntry p n → Run p bound n w → IsSafe p bound w }
 {
@@ -45,7 +45,7 @@ pub fn empty_report_is_safe()
 
 /// All that `empty_report_is_safe` asks can be met at once: it is refuted that no program, bounds and method meet it.
 pub fn premises_can_be_met()
-    ensures { ((p : ProgramModel) (bound : QueueBounds) (n : ℕ) → AreWellFormed p.contracts p.messages p.structs p.methods → AreSound p
+    ensures { ((p : ProgramModel) (bound : QueueBounds) (n : ℕ) → AreWellFormed p → AreSound p
         → AreBounds p bound → NothingIsFound p → IsEntry p n → ⊥) → ⊥ }
 {}
 

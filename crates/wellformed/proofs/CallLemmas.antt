@@ -164,12 +164,12 @@ call_of_fits p t class result s f g c target behind Is around standing x taken m
 
 -- the method of that number
 pub method_there : (p : ProgramText) (t : ClassTree) (class : ℕ) (result : Option tree.Type.Type) (s : Setting) (m : MethodTree) (number : ℕ) → Around p t class result s → (is : IsMethod p m number)
-    → slice_get s.methods number ≡ Some (method_told p is.class m)
+    → slice_get s.program.methods number ≡ Some (method_told p is.class m)
 method_there p t class result s m number around is = ap (λ ms. slice_get ms number) around.methods_are ∙ is.told
 
 pub call_fits : (p : ProgramText) (t : ClassTree) (class : ℕ) (result : Option tree.Type.Type) (s : Setting) (f : LocalFrame) (g : names.NameFrame) (c : CallTree) (target : Option Mention) (behind : List Mention) (Is : MethodTree → Type 0)
     → Around p t class result s → AreStanding p s.variables f g → (x : CallsMethod p class f g Is c) → IsTarget s (result_held p x.method.result) target → Each (IsMention s) behind
-    → IsSomeAnd (slice_get s.methods x.number) (IsCallOf s (call_of p class f c target behind (record { number = x.number; method = x.method })))
+    → IsSomeAnd (slice_get s.program.methods x.number) (IsCallOf s (call_of p class f c target behind (record { number = x.number; method = x.method })))
 call_fits p t class result s f g c target behind Is around standing x taken mentioned =
     subst (λ o. IsSomeAnd o (IsCallOf s (call_of p class f c target behind (record { number = x.number; method = x.method })))) (sym (method_there p t class result s x.method x.number around x.told))
     (call_of_fits p t class result s f g c target behind Is around standing x taken mentioned)

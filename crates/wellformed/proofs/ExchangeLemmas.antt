@@ -143,11 +143,11 @@ exchange_is p class f g vs e standing none n number is numbered v w holder given
 -- an exchange of a variable and of what a field holds, which are of one type
 action_fits : (p : ProgramText) (class : ℕ) (s : Setting) (f : LocalFrame) (e : made.Exchange.Exchange) (number : ℕ) (inside : HeapType) (v w : ℕ) (x y : VariableModel)
     → exchange_found p class f e ≡ Some (exchange_of p class f e number (mention_of e.holder v) (mention_of e.given w)) → slice_get s.variables v ≡ Some x → slice_get s.variables w ≡ Some y
-    → IsInScope s.variables s.scope (number_of w) → slice_get (field_types s.structs x.ty) number ≡ Some inside → same_type y.ty inside ≡ true → IsEffect s (effect_of (exchange_found p class f e))
+    → IsInScope s.variables s.scope (number_of w) → slice_get (field_types s.program.structs x.ty) number ≡ Some inside → same_type y.ty inside ≡ true → IsEffect s (effect_of (exchange_found p class f e))
 action_fits p class s f e number inside v w x y found holder given scope types same =
     subst (λ o. IsEffect s (effect_of o)) (sym found) (
       scope,
-      subst (λ o. IsSomeAnd o (λ z. IsSomeAnd (slice_get (field_types s.structs z.ty) number) (λ k. Holds s k (number_of w)))) (sym holder)
+      subst (λ o. IsSomeAnd o (λ z. IsSomeAnd (slice_get (field_types s.program.structs z.ty) number) (λ k. Holds s k (number_of w)))) (sym holder)
           (subst (λ o. IsSomeAnd o (λ k. Holds s k (number_of w))) (sym types) (subst (λ o. IsSomeAnd o (λ z. same_type z.ty inside ≡ true)) (sym given) same)),
     )
 

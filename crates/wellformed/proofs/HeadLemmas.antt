@@ -68,7 +68,7 @@ message_looked p vs f g name n side word standing none is =
     ap (λ o. option_and_then (λ k. message_named p k word) (option_and_then (λ v. contract_of v.ty) o)) m.is ∙ ap (λ k. option_and_then (λ c. message_named p c word) (contract_of k)) same
 
 -- what it brings stands at its number
-message_brings : (p : ProgramText) (s : Setting) (f : LocalFrame) (name word : Span) (n : ℕ) (m : MessageTree) (a : AnswersMessage p n (message_named p n word) m) → slice_get s.messages a.meant.id.0 ≡ Some (payload_types p m)
+message_brings : (p : ProgramText) (s : Setting) (f : LocalFrame) (name word : Span) (n : ℕ) (m : MessageTree) (a : AnswersMessage p n (message_named p n word) m) → slice_get s.program.messages a.meant.id.0 ≡ Some (payload_types p m)
     → awaited_params (awaited_message p f name (waits.Message word)) ≡ m.params → awaited_message p f name (waits.Message word) ≡ Some a.meant
     → (bound : List VarId) → HoldAll s (params_held p (awaited_params (awaited_message p f name (waits.Message word)))) bound
     → IsBrought s (awaited_as (waits.Message word) (awaited_message p f name (waits.Message word))) bound

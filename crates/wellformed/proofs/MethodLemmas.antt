@@ -19,8 +19,6 @@ use Rattle.declarations.specs.declared.value_type as declared_types
 use Rattle.program.specs.Methods.{VariableModel}
 use Rattle.program.specs.declared.types.HeapType.{HeapType}
 use Rattle.program.specs.declared.method.Role.{Role}
-use Rattle.resolving.specs.Brought.{messages_told}
-use Rattle.resolving.specs.Fields.{structs_told}
 use Rattle.resolving.specs.Types.{heap_type, result_held, state_in, type_held}
 use Rattle.resolving.specs.Locals.{LocalFrame, with_declaration, declared_as, number_of}
 use Rattle.resolving.specs.Methods.{body_told, method_told, methods_told, no_variables, parameter_declaration, parameters_frame, role_of, takes_some}
@@ -40,6 +38,7 @@ use Rattle.wellformed.proofs.ProgramLemmas.{every_method, method_clean}
 use Rattle.wellformed.proofs.LeadLemmas.{leads_here, leads_then}
 use Rattle.wellformed.proofs.ReturnLemmas.{void_gives}
 use Rattle.wellformed.proofs.ScopeLemmas.{declared_inner, declared_stands, last_within}
+use Rattle.wellformed.specs.Told.{program_told}
 use Rattle.wellformed.proofs.Standing.{Around, AreStanding, AreStaying, Grows, IsLocal, Within, declares, last_of}
 use Rattle.wellformed.proofs.StatementLemmas.{statements_go}
 
@@ -169,13 +168,13 @@ result_type p (Some t) (Some held) is = held_type p (type_meant p t) held (recor
 
 -- a method of a class
 method_fits : (p : ProgramText) (class : ℕ) (c : ClassTree) (m : MethodTree) (index : ℕ) → program_mistakes p ≡ [] → item_at as_class p class ≡ Some (class, c) → slice_get c.methods index ≡ Some m
-    → IsWellFormed (contracts p) (messages_told p) (structs_told p) (methods_told p) (method_told p class m)
+    → IsWellFormed (program_told p) (method_told p class m)
 method_fits p class c m index clean there at =
     let seen = method_told p class m in
     let vs = seen.variables in
     let opened = parameters_frame p m.params no_variables in
     let begins = last_of opened in
-    let s = setting (contracts p) (messages_told p) (structs_told p) (methods_told p) seen begins in
+    let s = setting (program_told p) seen begins in
     let after = (body_told p class m.body opened).frame in
     let start : names.NameFrame = record { variables = []; heap = 0 } in
     let turns = method_clean p class c m index clean there at in
@@ -207,9 +206,9 @@ method_fits p class c m index clean there at =
       statements = fits.statements;
     }
 
-pub well_formed : (p : ProgramText) → program_mistakes p ≡ [] → AreWellFormed (resolved_contracts p.text (contracts_of p.items)) (messages_told p) (structs_told p) (methods_told p)
+pub well_formed : (p : ProgramText) → program_mistakes p ≡ [] → AreWellFormed (program_told p)
 well_formed p clean = record {
   messages_are = brought_types p;
   structs_are = fields_types p clean;
-  methods_are = every_method (IsWellFormed (contracts p) (messages_told p) (structs_told p) (methods_told p)) p (λ class c m index there at. method_fits p class c m index clean there at);
+  methods_are = every_method (IsWellFormed (program_told p)) p (λ class c m index there at. method_fits p class c m index clean there at);
 }

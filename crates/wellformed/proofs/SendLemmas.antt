@@ -43,13 +43,13 @@ use Rattle.wellformed.proofs.ProgramLemmas.{message_clean}
 use Rattle.wellformed.proofs.Standing.{Around, AreStanding, IsHeld, IsKnown, named, scope_of}
 
 -- the contract of an endpoint that is there
-pub is_end : (p : ProgramText) (s : Setting) (n : ℕ) (side : Side) (c : ContractTree) (P : ContractModel → Type 0) (m : Mention) (v : VariableModel) → s.contracts ≡ resolved_contracts p.text (contracts_of p.items)
+pub is_end : (p : ProgramText) (s : Setting) (n : ℕ) (side : Side) (c : ContractTree) (P : ContractModel → Type 0) (m : Mention) (v : VariableModel) → s.program.contracts ≡ resolved_contracts p.text (contracts_of p.items)
     → item_at as_contract p n ≡ Some (n, c) → slice_get s.variables m.variable.0 ≡ Some v → IsHeld p (ty.Endpoint side n) v.ty
     → ((r : ContractModel) → contract_at p n ≡ Some r → P r) → IsEnd s P m
 is_end p s n side c P m v contracts is there holds each =
     let at = contract_is_at p n c is in
     let found = ap (λ cs. contract_held cs v.ty) contracts ∙ end_held p n side v.ty holds ∙ at.is in
-    subst (λ o. IsSomeAnd o (λ w. IsSomeAnd (contract_held s.contracts w.ty) P)) (sym there) (subst (λ o. IsSomeAnd o P) (sym found) (each _ at.is))
+    subst (λ o. IsSomeAnd o (λ w. IsSomeAnd (contract_held s.program.contracts w.ty) P)) (sym there) (subst (λ o. IsSomeAnd o P) (sym found) (each _ at.is))
 
 -- a call that sends a message
 pub record SendsMessage (p : ProgramText) (class : ℕ) (s : Setting) (f : LocalFrame) (c : CallTree) : Type 0 where

@@ -116,10 +116,10 @@ pub record AreStaying (s : Setting) (f : LocalFrame) (stays : Staying) : Type 0 
 pub record Around (p : ProgramText) (c : ClassTree) (class : ℕ) (result : Option tree.Type.Type) (s : Setting) : Type 0 where
   pub clean : program_mistakes p ≡ []
   pub class_is : item_at as_class p class ≡ Some (class, c)
-  pub contracts_are : s.contracts ≡ resolved_contracts p.text (contracts_of p.items)
-  pub messages_are : s.messages ≡ messages_told p
-  pub structs_are : s.structs ≡ structs_told p
-  pub methods_are : s.methods ≡ methods_told p
+  pub contracts_are : s.program.contracts ≡ resolved_contracts p.text (contracts_of p.items)
+  pub messages_are : s.program.messages ≡ messages_told p
+  pub structs_are : s.program.structs ≡ structs_told p
+  pub methods_are : s.program.methods ≡ methods_told p
   pub result_is : s.result ≡ result_held p result
   pub result_known : result_unknown p result ≡ []
   pub nested : AreNested s.variables

@@ -49,17 +49,7 @@ InMethod m class s = Around m.program m.class class m.result s
 
 -- the same place in another scope, where these stay
 abbrev placed : Setting → (scope at_break at_continue : Option VarId) → Setting
-placed s scope at_break at_continue = record {
-  contracts = s.contracts;
-  messages = s.messages;
-  structs = s.structs;
-  methods = s.methods;
-  variables = s.variables;
-  result = s.result;
-  scope = scope;
-  at_break = at_break;
-  at_continue = at_continue;
-}
+placed s scope at_break at_continue = record s { scope = scope; at_break = at_break; at_continue = at_continue }
 
 around_at : (m : Surroundings) (class : ℕ) (s : Setting) (scope at_break at_continue : Option VarId) → InMethod m class s → InMethod m class (placed s scope at_break at_continue)
 around_at m class s scope at_break at_continue a = record {

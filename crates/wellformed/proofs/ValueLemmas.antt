@@ -131,7 +131,7 @@ move_fits s target v o source is there holds inside =
 
 -- what takes a new block is no end of a channel, and what is given is of the types that the block has in its fields that own
 abbrev pub IsMade : Setting → HeapType → List Mention → Type 0
-IsMade s held given = (is_end held ≡ false) × HoldAll s (field_types s.structs held) (map (λ m. m.variable) given)
+IsMade s held given = (is_end held ≡ false) × HoldAll s (field_types s.program.structs held) (map (λ m. m.variable) given)
 
 -- a type that is like a pointer is one to the same struct
 pointer_made : (p : ProgramText) (n : ℕ) (k : declared.ValueType.ValueType) (held : HeapType) → alike (ty.Pointer n) k ≡ true → IsHeld p k held → held ≡ struct_of (structs_before p.items n)
@@ -157,7 +157,7 @@ given_fits p class s f g x name given clean standing there none =
     subst (λ ks. HoldAll s ks (map (λ m. m.variable) (payloads p class f given))) (params_are p x.1.fields) (payloads_given p class s f g standing params given known as_many_params found)
 
 struct_made : (p : ProgramText) (class : ℕ) (s : Setting) (f : LocalFrame) (g : names.NameFrame) (k : declared.ValueType.ValueType) (held : HeapType) (o : Option (Numbered StructTree)) (name : Span) (given : List ExpressionTree)
-    → program_mistakes p ≡ [] → s.structs ≡ structs_told p → AreStanding p s.variables f g → struct_named p name ≡ o → IsKnown p k → struct_made_mistakes (scope_of p g) o name (map shape given) ≡ []
+    → program_mistakes p ≡ [] → s.program.structs ≡ structs_told p → AreStanding p s.variables f g → struct_named p name ≡ o → IsKnown p k → struct_made_mistakes (scope_of p g) o name (map shape given) ≡ []
     → agree (pointer_type o) k ≡ true → IsHeld p k held → IsMade s held (payloads p class f given)
 struct_made p class s f g k held None name given clean structs standing named known none fits is = cc
 struct_made p class s f g k held (Some x) name given clean structs standing named known none fits is =
@@ -167,7 +167,7 @@ struct_made p class s f g k held (Some x) name given clean structs standing name
     let holds = given_fits p class s f g x name given clean standing there none in
     subst (λ h. IsMade s h (payloads p class f given)) (sym same) (refl, subst (λ ks. HoldAll s ks (map (λ m. m.variable) (payloads p class f given))) (sym types) holds)
 
-made_fits : (p : ProgramText) (class : ℕ) (s : Setting) (f : LocalFrame) (g : names.NameFrame) (k : declared.ValueType.ValueType) (held : HeapType) (m : MadeTree) → program_mistakes p ≡ [] → s.structs ≡ structs_told p
+made_fits : (p : ProgramText) (class : ℕ) (s : Setting) (f : LocalFrame) (g : names.NameFrame) (k : declared.ValueType.ValueType) (held : HeapType) (m : MadeTree) → program_mistakes p ≡ [] → s.program.structs ≡ structs_told p
     → AreStanding p s.variables f g → IsKnown p k → made_mistakes (scope_of p g) m ≡ [] → agree (made_type (scope_of p g) m) k ≡ true → IsHeld p k held → IsMade s held (made_arguments p class f m)
 made_fits p class s f g k held (values.Struct name left given) clean structs standing known none fits is =
     struct_made p class s f g k held (struct_named p name) name given clean structs standing refl known none fits is

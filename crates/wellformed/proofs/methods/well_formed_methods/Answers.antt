@@ -21,11 +21,14 @@ pub new-requires : goal.new-requires
 new-requires c =
     let p = program_of c.args.text.now c.args.tree.now in
     let told = resolved_contracts p.text (contracts_of p.items) in
-    let fits = subst (λ ms. AreWellFormed told (messages_told p) (structs_told p) ms) (sym c.in_ok-messages.ensures.resolved) (well_formed p c.requires.clean) in
-    let has = subst (λ ss. AreWellFormed told (messages_told p) ss (map method_model c.in_ok-messages.field-0.methods.items)) (sym c.in_ok-messages.ensures.structs) fits in
-    let brings = subst (λ ms. AreWellFormed told ms (type_lists c.in_ok-messages.field-0.structs.items) (map method_model c.in_ok-messages.field-0.methods.items)) (sym c.in_ok-messages.ensures.messages) has in
+    let made = c.in_ok-messages.field-0 in
+    let methods = map method_model made.methods.items in
+    let structs = type_lists made.structs.items in
+    let fits = subst (λ ms. AreWellFormed (record { contracts = told; messages = messages_told p; structs = structs_told p; methods = ms })) (sym c.in_ok-messages.ensures.resolved) (well_formed p c.requires.clean) in
+    let has = subst (λ ss. AreWellFormed (record { contracts = told; messages = messages_told p; structs = ss; methods = methods })) (sym c.in_ok-messages.ensures.structs) fits in
+    let brings = subst (λ ms. AreWellFormed (record { contracts = told; messages = ms; structs = structs; methods = methods })) (sym c.in_ok-messages.ensures.messages) has in
     record {
-      well_formed = subst (λ cs. AreWellFormed cs (type_lists c.in_ok-messages.field-0.messages.items) (type_lists c.in_ok-messages.field-0.structs.items) (map method_model c.in_ok-messages.field-0.methods.items)) (sym c.requires.contracts) brings;
+      well_formed = subst (λ cs. AreWellFormed (record { contracts = cs; messages = type_lists made.messages.items; structs = structs; methods = methods })) (sym c.requires.contracts) brings;
     }
 
 pub returns-clause-bare : goal.returns-clause-bare

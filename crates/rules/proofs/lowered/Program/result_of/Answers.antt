@@ -15,5 +15,5 @@ returns-clause-numbered c =
     let look = c.in_ok-get.ensures.lookup in
     let there = slice_get_read c.list.result.now _ n m refl look.3.0 look.1 in
     let told = ap (λ l. slice_get l n) (sym c.list.ensures.list) ∙ slice_get-map method_model c.list.result.now n ∙ ap (option_map method_model) there in
-    let formed = each_at (IsWellFormed p.contracts p.messages p.structs p.methods) p.methods n (method_model m) c.list.ensures.well_formed.methods_are told in
+    let formed = each_at (IsWellFormed p) p.methods n (method_model m) c.list.ensures.well_formed.methods_are told in
     option_numbered c.args.self.now.sounds.items p.contracts m.result c.args.self.now.sound formed.result
