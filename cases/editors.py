@@ -19,7 +19,7 @@ PAGE = TOP / 'editors' / 'README.md'
 def reserved():
     """The reserved words, as the definitions of the lexer have them."""
     text = (TOP / 'crates/source/specs/Words.antt').read_text()
-    return sorted(re.findall(r'^(?:statement_word|word_text) \w+ = codes "(\w+)"$', text, re.M))
+    return sorted(re.findall(r'\(\w+, codes "(\w+)"\)', text))
 
 
 def unlike(what, given):

@@ -3,7 +3,7 @@
 mod findings;
 mod slow;
 
-use source::{Kind, MAX_TEXT, Place, TextFault, lex};
+use source::{ALL_KINDS, Kind, MAX_TEXT, Place, TextFault, lex, text_of};
 use std::alloc::Global;
 use std::test::Fail;
 
@@ -115,48 +115,6 @@ fn places_and_spans(rt: HostRuntime) -> Result<(), Fail> {
     Ok(())
 }
 
-/// Every reserved word, in order of the alphabet.
-const RESERVED: [Kind; 38] = [
-    Kind::Bool,
-    Kind::Break,
-    Kind::Byte,
-    Kind::Case,
-    Kind::Class,
-    Kind::ChannelClosed,
-    Kind::Claims,
-    Kind::Continue,
-    Kind::Contract,
-    Kind::Delete,
-    Kind::Else,
-    Kind::Exchange,
-    Kind::Exp,
-    Kind::ExHeap,
-    Kind::False,
-    Kind::If,
-    Kind::Imp,
-    Kind::In,
-    Kind::Int,
-    Kind::Internal,
-    Kind::Message,
-    Kind::New,
-    Kind::NewChannel,
-    Kind::One,
-    Kind::Out,
-    Kind::Private,
-    Kind::Public,
-    Kind::Receive,
-    Kind::Rep,
-    Kind::Return,
-    Kind::Start,
-    Kind::State,
-    Kind::Static,
-    Kind::Struct,
-    Kind::Switch,
-    Kind::True,
-    Kind::Void,
-    Kind::While,
-];
-
 #[test]
 fn reserved_words(rt: HostRuntime) -> Result<(), Fail> {
     let text =
@@ -164,11 +122,28 @@ fn reserved_words(rt: HostRuntime) -> Result<(), Fail> {
         false if Imp in int internal message new NewChannel one out private public receive rep return start \
         state static struct switch true void while";
     let words = kinds(rt.alloc(), text)?;
-    assert_eq!(rt; words.as_slice(), RESERVED.as_slice());
+    // Behind names and numbers, the list of all kinds has the reserved words in order of the alphabet.
+    assert_eq!(rt; words.as_slice(), &ALL_KINDS[2..40]);
     let text =
         b"Bool breaks channelClosed exheap In i iff _in internall Case rece NewChannels exchanged Exchange";
     let names = kinds(rt.alloc(), text)?;
     assert_eq!(rt; names.as_slice(), [Kind::Name; 14].as_slice());
+    Ok(())
+}
+
+#[test]
+fn kinds_as_they_are_written(rt: HostRuntime) -> Result<(), Fail> {
+    assert_eq!(rt; text_of(Kind::Name), "");
+    assert_eq!(rt; text_of(Kind::Number), "");
+    assert_eq!(rt; text_of(Kind::ChannelClosed), "ChannelClosed");
+    assert_eq!(rt; text_of(Kind::Void), "void");
+    assert_eq!(rt; text_of(Kind::Arrow), "->");
+    for kind in &ALL_KINDS {
+        if !matches!(kind, Kind::Name | Kind::Number) {
+            let read = kinds(rt.alloc(), text_of(*kind).as_bytes())?;
+            assert_eq!(rt; read.as_slice(), [*kind].as_slice());
+        }
+    }
     Ok(())
 }
 

@@ -1,5 +1,5 @@
+pub mod AmongLemmas
 pub mod BraceLemmas
-pub mod EveryKind
 pub mod ItemLemmas
 pub mod Picking
 pub mod Trials

@@ -4,8 +4,8 @@ ghost use Rattle.std.specs.Prelude.{◌≡◌, ◌≤◌, ◌↔◌, length, IfO
 ghost use Rattle.source.specs.declared.kind.Kind.{Kind};
 ghost use Rattle.expected.specs.Expected.{IsExpected, IsSublist};
 
-use crate::kinds::ALL_KINDS;
-use source::{Kind, Memory, Span, Token, Tokens};
+use source::laws::each_kind_is_listed;
+use source::{ALL_KINDS, Kind, Memory, Span, Token, Tokens};
 use std::alloc::Global;
 use syntax::{SyntaxFault, parse};
 
@@ -43,6 +43,7 @@ pub fn expected_kinds(
         ↔ IsExpected tokens.now.list.items count at kind) }
     ensures order { IfOk result (λ kinds. IsSublist kinds.items ALL_KINDS) }
 {
+    each_kind_is_listed();
     let mut front = Tokens {
         list: Vec::with_capacity(alloc, count + 1)?,
         end: tokens.end,

@@ -4,15 +4,11 @@
 mod braces;
 mod following;
 mod groups;
-mod kinds;
 mod laws;
 mod wording;
-mod words;
 
 pub use braces::open_brace;
 pub use following::expected_kinds;
 pub use groups::{GROUPS, Group};
-pub use kinds::ALL_KINDS;
 pub use laws::{fault_is_within, words_are_read_back};
-pub use wording::{MAX_ITEMS, expectation};
-pub use words::word_of;
+pub use wording::{MAX_ITEMS, expectation, word_of};

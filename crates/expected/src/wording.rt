@@ -9,12 +9,22 @@ ghost use Rattle.expected.specs.Expectations.{rest_of_items, item_list, listed_i
 ghost use Rattle.expected.specs.declared.groups.TheConstants.{GROUPS};
 
 use crate::groups::{GROUPS, kinds_of_group, word_of_group};
-use crate::words::word_of;
-use source::{Kind, Memory};
+use source::{Kind, Memory, text_of};
 use std::alloc::Global;
 
 /// How many items a text lists. If there are more, it says how many.
 pub const MAX_ITEMS: usize = 8;
+
+/// A kind as a person reads it: the symbol or the reserved word itself, else `a name` or `a number`.
+pub fn word_of(kind: Kind) -> &'static str
+    ensures { result.now ≡ word_of kind }
+{
+    match kind {
+        Kind::Name => "a name",
+        Kind::Number => "a number",
+        _ => text_of(kind),
+    }
+}
 
 /// Whether a kind is one of these.
 fn has(kinds: &[Kind], kind: Kind) -> bool

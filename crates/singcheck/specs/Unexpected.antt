@@ -15,7 +15,7 @@ use Rattle.tree.specs.Programs.{program}
 use Rattle.expected.specs.Expectations.{expectation_of}
 use Rattle.expected.specs.Expected.{IsExpected, IsSublist}
 use Rattle.expected.specs.OpenBraces.{open_braces}
-use Rattle.expected.specs.declared.kinds.TheConstants.{ALL_KINDS}
+use Rattle.source.specs.declared.kinds.TheConstants.{ALL_KINDS}
 use Rattle.traces.specs.Explained.{ExplainedModel, is_asked}
 use Rattle.traces.specs.Lines.{LineModel, line}
 use Rattle.singcheck.specs.Answers.{wrong_token}

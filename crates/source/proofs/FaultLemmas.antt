@@ -15,9 +15,8 @@ use Rattle.source.specs.Marks.{mark_len, body_of}
 use Rattle.source.specs.Numbers.{number_value}
 use Rattle.source.specs.Pieces.{is_number}
 use Rattle.source.specs.Places.{place_of}
-use Rattle.source.specs.Symbols.{symbol}
 use Rattle.source.specs.Tokens.{AreTokens}
-use Rattle.source.specs.Words.{word_kind}
+use Rattle.source.specs.Words.{symbol, word_kind}
 use Rattle.source.specs.declared.kind.Kind.TheVariants.{Number}
 use Rattle.source.specs.declared.token.Token.{Token}
 use Rattle.source.specs.declared.place.Place.{Place}

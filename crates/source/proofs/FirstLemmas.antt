@@ -9,10 +9,9 @@ use Rattle.source.specs.declared.kind.Kind.TheVariants.{Number}
 use Rattle.source.specs.Classes.{is_blank_byte, starts_word, in_word}
 use Rattle.source.specs.Comments.{is_comment}
 use Rattle.source.specs.Pieces.{is_piece, is_word, is_number, kind_of}
-use Rattle.source.specs.Symbols.{single, symbol}
-use Rattle.source.specs.Words.{word_kind}
+use Rattle.source.specs.Words.{symbol, word_kind}
 use Rattle.source.specs.Cutting.{IsFirstPiece}
-use Rattle.source.proofs.FrontLemmas.{front_word, front_digit, front_blank, digit_no_word, blank_no_word, blank_no_digit}
+use Rattle.source.proofs.FrontLemmas.{front_word, front_digit, front_blank, digit_no_word, blank_no_word, blank_no_digit, blank_no_symbol}
 
 -- the first k bytes pass a test
 pub all_taken : (q : ℕ → Bool) (bs : List ℕ) (k : ℕ) → k ≤ length bs → ((j : ℕ) → j < k → q (get_or bs j 0) ≡ true) → list_all q (take k bs) ≡ true
@@ -43,9 +42,6 @@ run_first q b bs k front within each stop = record {
 word_goes_on : (b : ℕ) → starts_word b ≡ true → in_word b ≡ true
 word_goes_on b h = grind (arith, nat_tests)
 
-blank_no_single : (b : ℕ) → is_blank_byte b ≡ true → single b ≡ None
-blank_no_single b h = grind (arith, nat_tests)
-
 -- a word, of n bytes
 pub first_word : (rest : List ℕ) (n : ℕ) → 0 < length rest → starts_word (get_or rest 0 0) ≡ true → n ≤ length rest → ((k : ℕ) → k < n → in_word (get_or rest k 0) ≡ true) → (n < length rest → in_word (get_or rest n 0) ≡ false) → IsFirstPiece rest n × (Some (word_kind (take n rest)) ≡ kind_of (take n rest))
 first_word [] n some w within each stop = absurd (omega arith)
@@ -74,10 +70,10 @@ first_blank (b ∷ bs) some blank = (
   record {
     some = omega arith;
     within = omega arith;
-    piece = λ i. (((blank i || is_comment (b ∷ [])) || is_word (b ∷ [])) || is_number (b ∷ [])) || is_some (single b);
+    piece = λ i. (((blank i || is_comment (b ∷ [])) || is_word (b ∷ [])) || is_number (b ∷ [])) || is_some (symbol (b ∷ []));
     longest = λ m low high. longer b bs m low high blank;
   },
-  sym (λ i. if blank_no_word b blank i && true then Some (word_kind (b ∷ [])) else (if blank_no_digit b blank i && true then Some Number else blank_no_single b blank i)),
+  sym (λ i. if blank_no_word b blank i && true then Some (word_kind (b ∷ [])) else (if blank_no_digit b blank i && true then Some Number else blank_no_symbol b [] blank i)),
 )
   where
     longer : (b : ℕ) (bs : List ℕ) (m : ℕ) → 1 < m → m ≤ length (b ∷ bs) → is_blank_byte b ≡ true → is_piece (take m (b ∷ bs)) ≡ false

@@ -9,7 +9,8 @@ use Rattle.source.specs.Classes.{is_blank_byte, starts_word, in_word}
 use Rattle.source.specs.Comments.{is_comment, closes}
 use Rattle.source.specs.Places.{ends_line}
 use Rattle.source.specs.Pieces.{is_piece, is_blank}
-use Rattle.source.specs.Symbols.{single, double, symbol}
+use Rattle.source.specs.Words.{symbol, all_symbols}
+use Rattle.source.proofs.WrittenLemmas.{all_bytes, none_begins}
 
 -- a byte that begins a word begins nothing else
 word_no_blank : (b : ℕ) → starts_word b ≡ true → is_blank_byte b ≡ false
@@ -21,12 +22,6 @@ word_no_slash b h = grind (arith, nat_tests)
 pub word_no_digit : (b : ℕ) → starts_word b ≡ true → is_ascii_digit b ≡ false
 word_no_digit b h = grind (arith, nat_tests)
 
-word_no_single : (b : ℕ) → starts_word b ≡ true → single b ≡ None
-word_no_single b h = grind (arith, nat_tests)
-
-word_no_double : (b c : ℕ) → starts_word b ≡ true → double b c ≡ None
-word_no_double b c h = grind (arith, nat_tests)
-
 -- a digit begins nothing but a number
 digit_no_blank : (b : ℕ) → is_ascii_digit b ≡ true → is_blank_byte b ≡ false
 digit_no_blank b h = grind (arith, nat_tests)
@@ -36,12 +31,6 @@ digit_no_slash b h = grind (arith, nat_tests)
 
 pub digit_no_word : (b : ℕ) → is_ascii_digit b ≡ true → starts_word b ≡ false
 digit_no_word b h = grind (arith, nat_tests)
-
-digit_no_single : (b : ℕ) → is_ascii_digit b ≡ true → single b ≡ None
-digit_no_single b h = grind (arith, nat_tests)
-
-digit_no_double : (b c : ℕ) → is_ascii_digit b ≡ true → double b c ≡ None
-digit_no_double b c h = grind (arith, nat_tests)
 
 -- a blank begins nothing else
 blank_no_slash : (b : ℕ) → is_blank_byte b ≡ true → (b == 47) ≡ false
@@ -53,9 +42,6 @@ blank_no_word b h = grind (arith, nat_tests)
 pub blank_no_digit : (b : ℕ) → is_blank_byte b ≡ true → is_ascii_digit b ≡ false
 blank_no_digit b h = grind (arith, nat_tests)
 
-blank_no_double : (b c : ℕ) → is_blank_byte b ≡ true → double b c ≡ None
-blank_no_double b c h = grind (arith, nat_tests)
-
 -- what is known of the other forms of piece
 no_blank : (b : ℕ) (bs : List ℕ) → is_blank_byte b ≡ false → is_blank (b ∷ bs) ≡ false
 no_blank b [] h = h
@@ -65,32 +51,29 @@ no_comment : (b : ℕ) (bs : List ℕ) → (b == 47) ≡ false → is_comment (b
 no_comment b [] h = refl
 no_comment b (c ∷ bs) h = λ i. h i && c == 47 && list_all (λ x. not (ends_line x)) bs || h i && c == 42 && closes bs
 
-no_symbol : (b : ℕ) (bs : List ℕ) → single b ≡ None → ((c : ℕ) → double b c ≡ None) → is_some (symbol (b ∷ bs)) ≡ false
-no_symbol b [] h k = ap is_some h
-no_symbol b (c ∷ []) h k = ap is_some (k c)
-no_symbol b (c ∷ d ∷ bs) h k = refl
+no_symbol : (p : ℕ → Bool) → all_bytes (λ b. not (p b)) all_symbols ≡ true → (b : ℕ) (bs : List ℕ) → p b ≡ true → symbol (b ∷ bs) ≡ None
+no_symbol p apart b bs h = none_begins (λ b. not (p b)) all_symbols b bs apart (ap not h)
+
+pub blank_no_symbol : (b : ℕ) (bs : List ℕ) → is_blank_byte b ≡ true → symbol (b ∷ bs) ≡ None
+blank_no_symbol b bs h = no_symbol is_blank_byte refl b bs h
 
 -- what goes on a word
 pub front_word : (b : ℕ) (bs : List ℕ) → starts_word b ≡ true → is_piece (b ∷ bs) ≡ list_all in_word bs
 front_word b bs h =
     let t = list_all in_word bs in
-    let only : is_piece (b ∷ bs) ≡ ((t || false) || false) = λ i. no_blank b bs (word_no_blank b h) i || no_comment b bs (word_no_slash b h) i || h i && t || word_no_digit b h i && list_all is_ascii_digit bs || no_symbol b bs (word_no_single b h) (λ c. word_no_double b c h) i in
+    let only : is_piece (b ∷ bs) ≡ ((t || false) || false) = λ i. no_blank b bs (word_no_blank b h) i || no_comment b bs (word_no_slash b h) i || h i && t || word_no_digit b h i && list_all is_ascii_digit bs || is_some (no_symbol starts_word refl b bs h i) in
     only ∙ ap (λ v. v || false) (or-false t) ∙ or-false t
 
 -- what goes on a number
 pub front_digit : (b : ℕ) (bs : List ℕ) → is_ascii_digit b ≡ true → is_piece (b ∷ bs) ≡ list_all is_ascii_digit bs
 front_digit b bs h =
     let t = list_all is_ascii_digit bs in
-    let only : is_piece (b ∷ bs) ≡ (t || false) = λ i. no_blank b bs (digit_no_blank b h) i || no_comment b bs (digit_no_slash b h) i || digit_no_word b h i && list_all in_word bs || h i && t || no_symbol b bs (digit_no_single b h) (λ c. digit_no_double b c h) i in
+    let only : is_piece (b ∷ bs) ≡ (t || false) = λ i. no_blank b bs (digit_no_blank b h) i || no_comment b bs (digit_no_slash b h) i || digit_no_word b h i && list_all in_word bs || h i && t || is_some (no_symbol is_ascii_digit refl b bs h i) in
     only ∙ or-false t
 
 -- nothing goes on a blank
 pub front_blank : (b c : ℕ) (bs : List ℕ) → is_blank_byte b ≡ true → is_piece (b ∷ c ∷ bs) ≡ false
-front_blank b c bs h = λ i. false || no_comment b (c ∷ bs) (blank_no_slash b h) i || blank_no_word b h i && list_all in_word (c ∷ bs) || blank_no_digit b h i && list_all is_ascii_digit (c ∷ bs) || long b c bs h i
-  where
-    long : (b c : ℕ) (bs : List ℕ) → is_blank_byte b ≡ true → is_some (symbol (b ∷ c ∷ bs)) ≡ false
-    long b c [] h = ap is_some (blank_no_double b c h)
-    long b c (d ∷ bs) h = refl
+front_blank b c bs h = λ i. false || no_comment b (c ∷ bs) (blank_no_slash b h) i || blank_no_word b h i && list_all in_word (c ∷ bs) || blank_no_digit b h i && list_all is_ascii_digit (c ∷ bs) || is_some (blank_no_symbol b (c ∷ bs) h i)
 
 or_three : (t : Bool) → (((t || false) || false) || false) ≡ t
 or_three true = refl

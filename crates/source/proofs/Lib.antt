@@ -1,10 +1,12 @@
 pub mod PlaceLemmas
 pub mod NumberLemmas
+pub mod WrittenLemmas
 pub mod FrontLemmas
 pub mod FirstLemmas
 pub mod SymbolLemmas
 pub mod CommentLemmas
 pub mod BlockLemmas
+pub mod KindLemmas
 pub mod LineLemmas
 pub mod NeedleLemmas
 pub mod WordLemmas

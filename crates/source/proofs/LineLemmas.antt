@@ -1,6 +1,6 @@
 -- No byte of a token ends a line.
-use Rattle.std.proofs.Common.{◌≡◌, ℕ, ◌+◌, Bool, true, false, List, [], ◌∷◌, ◌++◌, length, Some, None, sym, refl, ap, ◌∙◌, append_assoc, append-nil, arith, ⊎_elim}
-use Rattle.std.specs.Prelude.{All, is_some, ◌&&◌, ◌==◌, if◌then◌else◌}
+use Rattle.std.proofs.Common.{◌≡◌, ℕ, ◌+◌, Bool, true, false, List, [], ◌∷◌, ◌++◌, length, Some, sym, refl, ap, ◌∙◌, append_assoc, append-nil, arith, ⊎_elim}
+use Rattle.std.specs.Prelude.{All, not, ◌&&◌, if◌then◌else◌}
 use Rattle.std.specs.List.{list_all}
 use Rattle.std.specs.Char.{is_ascii_digit}
 use Rattle.std.proofs.lemmas.Bool.{both_ways, cases_Bool, eqb-true}
@@ -8,10 +8,10 @@ use Rattle.std.proofs.lemmas.List.Elements.{All-nil, All-cons, All-head, All-tai
 use Rattle.source.specs.Classes.{starts_word, in_word}
 use Rattle.source.specs.Pieces.{is_word, is_number, kind_of}
 use Rattle.source.specs.Places.{place_of, ends_line}
-use Rattle.source.specs.Symbols.{single, double, symbol}
-use Rattle.source.specs.Words.{word_kind}
+use Rattle.source.specs.Words.{symbol, all_symbols, word_kind}
 use Rattle.source.specs.declared.kind.Kind.{Kind}
-use Rattle.source.specs.declared.kind.Kind.TheVariants.{Number, EqualEqual, NotEqual, LessEqual, GreaterEqual, AndAnd, OrOr, Arrow}
+use Rattle.source.specs.declared.kind.Kind.TheVariants.{Number}
+use Rattle.source.proofs.WrittenLemmas.{bytes_written}
 use Rattle.source.proofs.PlaceLemmas.{place_next_col}
 
 -- no end of a line among these
@@ -44,29 +44,9 @@ number_in_line (b ∷ bs) is =
     let each = both (is_ascii_digit b) (list_all is_ascii_digit bs) is in
     All-cons (λ b. ends_line b ≡ false) b bs (no_end is_ascii_digit b refl each.0) (all_in_line is_ascii_digit refl bs each.1)
 
-neither : (s : Bool) → (s && false) ≡ false
-neither true = refl
-neither false = refl
-
--- the second byte of a symbol
-no_double : (a : ℕ) → double a 10 ≡ None
-no_double a = λ i.
-    if neither (a == 61) i then Some EqualEqual
-    else (if neither (a == 33) i then Some NotEqual
-    else (if neither (a == 60) i then Some LessEqual
-    else (if neither (a == 62) i then Some GreaterEqual
-    else (if neither (a == 38) i then Some AndAnd
-    else (if neither (a == 124) i then Some OrOr
-    else (if neither (a == 45) i then Some Arrow
-    else None))))))
-
 symbol_in_line : (bytes : List ℕ) (kind : Kind) → symbol bytes ≡ Some kind → InLine bytes
-symbol_in_line [] kind is = cc
-symbol_in_line (a ∷ []) kind is = All-cons (λ b. ends_line b ≡ false) a [] (no_end (λ x. is_some (single x)) a refl (ap is_some is)) (All-nil (λ b. ends_line b ≡ false))
-symbol_in_line (a ∷ b ∷ []) kind is =
-    All-cons (λ b. ends_line b ≡ false) a (b ∷ []) (no_end (λ x. is_some (double x b)) a refl (ap is_some is))
-    (All-cons (λ b. ends_line b ≡ false) b [] (no_end (λ x. is_some (double a x)) b (ap is_some (no_double a)) (ap is_some is)) (All-nil (λ b. ends_line b ≡ false)))
-symbol_in_line (a ∷ b ∷ c ∷ bs) kind is = cc
+symbol_in_line bytes kind is =
+    all_in_line (λ b. not (ends_line b)) refl bytes (bytes_written (λ b. not (ends_line b)) all_symbols bytes kind refl is)
 
 pub token_in_line : (bytes : List ℕ) (kind : Kind) → kind_of bytes ≡ Some kind → InLine bytes
 token_in_line bytes kind is =

@@ -10,6 +10,5 @@ pub mod Numbers
 pub mod Pieces
 pub mod Places
 pub mod Slices
-pub mod Symbols
 pub mod Tokens
 pub mod Words

@@ -4,8 +4,7 @@ use Rattle.std.specs.List.{list_all}
 use Rattle.std.specs.Char.{is_ascii_digit}
 use Rattle.source.specs.Classes.{is_blank_byte, starts_word, in_word}
 use Rattle.source.specs.Comments.{is_comment}
-use Rattle.source.specs.Symbols.{symbol}
-use Rattle.source.specs.Words.{word_kind}
+use Rattle.source.specs.Words.{symbol, word_kind}
 use Rattle.source.specs.declared.kind.Kind.{Kind}
 use Rattle.source.specs.declared.kind.Kind.TheVariants.{Number}
 

@@ -1,70 +1,71 @@
--- Words: which are reserved, and how they are written.
-use Rattle.std.specs.Prelude.{ℕ, List, [], ◌∷◌, find, nat_eq, unwrap_or, codes}
+-- How symbols and reserved words are written.
+use Rattle.std.specs.Prelude.{ℕ, List, [], ◌∷◌, ◌++◌, Option, None, Some, if◌then◌else◌, find, nat_eq, unwrap_or, codes, drop}
 use Rattle.std.specs.Cmp.Lexicographic.{pointwise}
+use denote.Enum.Bare.{sameb}
+use Rattle.source.specs.contracts.kind.Kind.{the_type}
 use Rattle.source.specs.declared.kind.Kind.{Kind}
 use Rattle.source.specs.declared.kind.Kind.TheVariants.{Name, Bool as BoolWord, Break, Byte, Case, Class, ChannelClosed, Claims}
 use Rattle.source.specs.declared.kind.Kind.TheVariants.{Continue, Contract, Delete, Else, Exchange, Exp, ExHeap, False, If, Imp, In, Int}
 use Rattle.source.specs.declared.kind.Kind.TheVariants.{Internal, Message, New, NewChannel, One, Out, Private, Public, Receive}
 use Rattle.source.specs.declared.kind.Kind.TheVariants.{Rep, Return, Start, State, Static, Struct, Switch, True, Void, While}
+use Rattle.source.specs.declared.kind.Kind.TheVariants.{OpenBrace, CloseBrace, OpenParen, CloseParen, OpenBracket, CloseBracket}
+use Rattle.source.specs.declared.kind.Kind.TheVariants.{Semicolon, Colon, Comma, Dot, Star, Bang, Question, Equal, EqualEqual, NotEqual}
+use Rattle.source.specs.declared.kind.Kind.TheVariants.{Less, LessEqual, Greater, GreaterEqual, Plus, Minus, AndAnd, OrOr, Arrow}
 
--- the reserved words
-abbrev pub reserved_words : List Kind
+-- the symbols, each as it is written
+abbrev pub all_symbols : List (Kind × List ℕ)
+all_symbols =
+    (OpenBrace, codes "{") ∷ (CloseBrace, codes "}") ∷ (OpenParen, codes "(") ∷ (CloseParen, codes ")")
+    ∷ (OpenBracket, codes "[") ∷ (CloseBracket, codes "]") ∷ (Semicolon, codes ";") ∷ (Colon, codes ":")
+    ∷ (Comma, codes ",") ∷ (Dot, codes ".") ∷ (Star, codes "*") ∷ (Bang, codes "!") ∷ (Question, codes "?")
+    ∷ (Equal, codes "=") ∷ (Less, codes "<") ∷ (Greater, codes ">") ∷ (Plus, codes "+") ∷ (Minus, codes "-")
+    ∷ (EqualEqual, codes "==") ∷ (NotEqual, codes "!=") ∷ (LessEqual, codes "<=") ∷ (GreaterEqual, codes ">=")
+    ∷ (AndAnd, codes "&&") ∷ (OrOr, codes "||") ∷ (Arrow, codes "->") ∷ []
+
+-- the reserved words: those of declarations and types, then those of statements and expressions
+abbrev pub reserved_words : List (Kind × List ℕ)
 reserved_words =
-    BoolWord ∷ Break ∷ Byte ∷ Case ∷ Class ∷ ChannelClosed ∷ Claims ∷ Continue ∷ Contract ∷ Delete
-    ∷ Else ∷ Exchange ∷ Exp ∷ ExHeap ∷ False ∷ If ∷ Imp ∷ In ∷ Int ∷ Internal ∷ Message
-    ∷ New ∷ NewChannel ∷ One ∷ Out ∷ Private ∷ Public ∷ Receive ∷ Rep ∷ Return ∷ Start
-    ∷ State ∷ Static ∷ Struct ∷ Switch ∷ True ∷ Void ∷ While ∷ []
+    (BoolWord, codes "bool") ∷ (Byte, codes "byte") ∷ (Class, codes "class") ∷ (Claims, codes "Claims")
+    ∷ (Contract, codes "contract") ∷ (Exp, codes "Exp") ∷ (ExHeap, codes "ExHeap") ∷ (Imp, codes "Imp")
+    ∷ (In, codes "in") ∷ (Int, codes "int") ∷ (Internal, codes "internal") ∷ (Message, codes "message")
+    ∷ (One, codes "one") ∷ (Out, codes "out") ∷ (Private, codes "private") ∷ (Public, codes "public")
+    ∷ (Rep, codes "rep") ∷ (State, codes "state") ∷ (Static, codes "static") ∷ (Struct, codes "struct")
+    ∷ (Void, codes "void") ∷ (Break, codes "break") ∷ (Case, codes "case") ∷ (ChannelClosed, codes "ChannelClosed")
+    ∷ (Continue, codes "continue") ∷ (Delete, codes "delete") ∷ (Else, codes "else")
+    ∷ (Exchange, codes "exchange") ∷ (False, codes "false") ∷ (If, codes "if") ∷ (New, codes "new")
+    ∷ (NewChannel, codes "NewChannel") ∷ (Receive, codes "receive") ∷ (Return, codes "return")
+    ∷ (Start, codes "start") ∷ (Switch, codes "switch") ∷ (True, codes "true") ∷ (While, codes "while") ∷ []
 
--- how a reserved word of statements and expressions is written
-abbrev pub statement_word : Kind → List ℕ
-statement_word Break = codes "break"
-statement_word Case = codes "case"
-statement_word ChannelClosed = codes "ChannelClosed"
-statement_word Continue = codes "continue"
-statement_word Delete = codes "delete"
-statement_word Else = codes "else"
-statement_word Exchange = codes "exchange"
-statement_word False = codes "false"
-statement_word If = codes "if"
-statement_word New = codes "new"
-statement_word NewChannel = codes "NewChannel"
-statement_word Receive = codes "receive"
-statement_word Return = codes "return"
-statement_word Start = codes "start"
-statement_word Switch = codes "switch"
-statement_word True = codes "true"
-statement_word While = codes "while"
-statement_word _ = []
+-- the kind of these that is written so
+abbrev pub written_so : List (Kind × List ℕ) → List ℕ → Option Kind
+written_so [] bytes = None
+written_so (w ∷ written) bytes = if pointwise nat_eq w.1 bytes then Some w.0 else written_so written bytes
 
--- how a reserved word is written: those of declarations and types, then those of statements and expressions
-abbrev pub word_text : Kind → List ℕ
-word_text BoolWord = codes "bool"
-word_text Byte = codes "byte"
-word_text Class = codes "class"
-word_text Claims = codes "Claims"
-word_text Contract = codes "contract"
-word_text Exp = codes "Exp"
-word_text ExHeap = codes "ExHeap"
-word_text Imp = codes "Imp"
-word_text In = codes "in"
-word_text Int = codes "int"
-word_text Internal = codes "internal"
-word_text Message = codes "message"
-word_text One = codes "one"
-word_text Out = codes "out"
-word_text Private = codes "private"
-word_text Public = codes "public"
-word_text Rep = codes "rep"
-word_text State = codes "state"
-word_text Static = codes "static"
-word_text Struct = codes "struct"
-word_text Void = codes "void"
-word_text kind = statement_word kind
-
--- the first of these reserved words that is written so, else a name
-abbrev pub kind_among : List Kind → List ℕ → Kind
-kind_among kinds bytes = unwrap_or (find (λ k. pointwise nat_eq (word_text k) bytes) kinds) Name
+-- what symbol the bytes are, as a whole
+abbrev pub symbol : List ℕ → Option Kind
+symbol bytes = written_so all_symbols bytes
 
 -- the kind of a whole word: the reserved word that is written so, else a name
 unfoldable pub word_kind : List ℕ → Kind
-word_kind bytes = kind_among reserved_words bytes
+word_kind bytes = unwrap_or (written_so reserved_words bytes) Name
+
+-- how a kind of these is written; nothing for another
+abbrev pub text_among : List (Kind × List ℕ) → Kind → List ℕ
+text_among [] kind = []
+text_among (w ∷ written) kind = if sameb the_type w.0 kind then w.1 else text_among written kind
+
+-- how a symbol or a reserved word is written; nothing for a name and a number
+abbrev pub text_of : Kind → List ℕ
+text_of kind = text_among (all_symbols ++ reserved_words) kind
+
+-- how a reserved word is written; nothing for another kind
+abbrev pub reserved_text : Kind → List ℕ
+reserved_text kind = text_among reserved_words kind
+
+-- how one of statements and expressions is
+abbrev pub statement_text : Kind → List ℕ
+statement_text kind = text_among (drop 21 reserved_words) kind
+
+-- the first of these reserved words that is written so, else a name
+abbrev pub kind_among : List Kind → List ℕ → Kind
+kind_among kinds bytes = unwrap_or (find (λ k. pointwise nat_eq (reserved_text k) bytes) kinds) Name

@@ -1,11 +1,13 @@
 //! Laws of texts: they hold whatever the lexer does.
 
-ghost use Rattle.std.specs.Prelude.{◌≡◌, ◌⊎◌, ℕ, List, []};
+ghost use Rattle.std.specs.Prelude.{◌≡◌, ◌⊎◌, ℕ, List, [], Contains};
 ghost use Rattle.source.specs.Cutting.{Cuts};
 ghost use Rattle.source.specs.Faults.{IsFault};
 ghost use Rattle.source.specs.Tokens.{AreTokens};
 ghost use Rattle.source.specs.declared.brackets.TheConstants.{MAX_DEPTH};
 ghost use Rattle.source.specs.declared.fault.TextFault.{TextFault};
+ghost use Rattle.source.specs.declared.kind.Kind.{Kind};
+ghost use Rattle.source.specs.declared.kinds.TheConstants.{ALL_KINDS};
 ghost use Rattle.source.specs.declared.lexer.TheConstants.{MAX_TEXT};
 ghost use Rattle.source.specs.declared.numbers.TheConstants.{MAX_NUMBER};
 ghost use Rattle.source.specs.declared.token.Token.{Token};
@@ -31,6 +33,11 @@ pub fn one_fault()
 pub fn each_text_is_cut()
     ensures { (text : List ℕ)
         → ((tokens : List Token) × AreTokens text tokens) ⊎ ((fault : TextFault) × IsFault text fault) }
+{}
+
+/// Each kind of token is listed.
+pub fn each_kind_is_listed()
+    ensures { (kind : Kind) → Contains ALL_KINDS kind }
 {}
 
 /// The limits in digits.

@@ -1,13 +1,13 @@
 //! Symbols.
 
-ghost use Rattle.std.specs.Prelude.{◌≡◌};
-ghost use Rattle.source.specs.Symbols.{single, double};
+ghost use Rattle.std.specs.Prelude.{◌≡◌, [], ◌∷◌};
+ghost use Rattle.source.specs.Words.{symbol};
 
 use crate::kind::Kind;
 
 /// The kind of a symbol of one byte.
 pub(crate) fn of_byte(byte: u8) -> Option<Kind>
-    ensures { result ≡ single byte }
+    ensures { result ≡ symbol (byte ∷ []) }
 {
     match byte {
         b'{' => Some(Kind::OpenBrace),
@@ -34,7 +34,7 @@ pub(crate) fn of_byte(byte: u8) -> Option<Kind>
 
 /// The kind of a symbol of two bytes.
 pub(crate) fn of_two(first: u8, second: u8) -> Option<Kind>
-    ensures { result ≡ double first second }
+    ensures { result ≡ symbol (first ∷ second ∷ []) }
 {
     match (first, second) {
         (b'=', b'=') => Some(Kind::EqualEqual),

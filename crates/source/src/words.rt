@@ -3,72 +3,17 @@
 ghost use Rattle.std.specs.Prelude.{◌≡◌, ◌<◌, ◌≤◌, ℕ, true, false, length, nat_eq, slice_index};
 ghost use Rattle.std.specs.Cmp.Lexicographic.{pointwise};
 ghost use Rattle.source.specs.Classes.{starts_word, in_word};
-ghost use Rattle.source.specs.Words.{word_kind, kind_among, word_text, statement_word};
+ghost use Rattle.source.specs.Words.{reserved_text, word_kind, kind_among};
 
 use crate::kind::Kind;
-
-/// How a reserved word is written; nothing for another kind.
-pub(crate) fn spelling_of(kind: Kind) -> &'static [u8]
-    ensures { result.now ≡ word_text kind }
-{
-    match kind {
-        Kind::Bool => b"bool",
-        Kind::Byte => b"byte",
-        Kind::Class => b"class",
-        Kind::Claims => b"Claims",
-        Kind::Contract => b"contract",
-        Kind::Exp => b"Exp",
-        Kind::ExHeap => b"ExHeap",
-        Kind::Imp => b"Imp",
-        Kind::In => b"in",
-        Kind::Int => b"int",
-        Kind::Internal => b"internal",
-        Kind::Message => b"message",
-        Kind::One => b"one",
-        Kind::Out => b"out",
-        Kind::Private => b"private",
-        Kind::Public => b"public",
-        Kind::Rep => b"rep",
-        Kind::State => b"state",
-        Kind::Static => b"static",
-        Kind::Struct => b"struct",
-        Kind::Void => b"void",
-        _ => written_in_statements(kind),
-    }
-}
-
-/// How a reserved word of statements and expressions is written; nothing for another kind.
-fn written_in_statements(kind: Kind) -> &'static [u8]
-    ensures { result.now ≡ statement_word kind }
-{
-    match kind {
-        Kind::Break => b"break",
-        Kind::Case => b"case",
-        Kind::ChannelClosed => b"ChannelClosed",
-        Kind::Continue => b"continue",
-        Kind::Delete => b"delete",
-        Kind::Else => b"else",
-        Kind::Exchange => b"exchange",
-        Kind::False => b"false",
-        Kind::If => b"if",
-        Kind::New => b"new",
-        Kind::NewChannel => b"NewChannel",
-        Kind::Receive => b"receive",
-        Kind::Return => b"return",
-        Kind::Start => b"start",
-        Kind::Switch => b"switch",
-        Kind::True => b"true",
-        Kind::While => b"while",
-        _ => b"",
-    }
-}
+use crate::kinds::reserved_word;
 
 /// Whether a kind is written so. Most words are longer or shorter, which is seen before any byte is compared. The few bytes of a word are
 /// compared one by one, which takes a quarter of the time of `==`, made for long lists.
 fn is_written(kind: Kind, word: &[u8]) -> bool
-    ensures { result ≡ pointwise nat_eq (word_text kind) word.now }
+    ensures { result ≡ pointwise nat_eq (reserved_text kind) word.now }
 {
-    let text = spelling_of(kind);
+    let text = reserved_word(kind).as_bytes();
     if text.len() != word.len() {
         return false;
     }
@@ -100,24 +45,24 @@ pub(crate) fn of_word(word: &[u8]) -> Kind
         return Kind::Name;
     }
     match word[0] {
-        b'b' => among(&[Kind::Bool, Kind::Break, Kind::Byte], word),
+        b'b' => among(&[Kind::Bool, Kind::Byte, Kind::Break], word),
         b'c' => among(
-            &[Kind::Case, Kind::Class, Kind::Continue, Kind::Contract],
+            &[Kind::Class, Kind::Contract, Kind::Case, Kind::Continue],
             word,
         ),
-        b'C' => among(&[Kind::ChannelClosed, Kind::Claims], word),
+        b'C' => among(&[Kind::Claims, Kind::ChannelClosed], word),
         b'd' => among(&[Kind::Delete], word),
         b'e' => among(&[Kind::Else, Kind::Exchange], word),
         b'E' => among(&[Kind::Exp, Kind::ExHeap], word),
         b'f' => among(&[Kind::False], word),
-        b'i' => among(&[Kind::If, Kind::In, Kind::Int, Kind::Internal], word),
+        b'i' => among(&[Kind::In, Kind::Int, Kind::Internal, Kind::If], word),
         b'I' => among(&[Kind::Imp], word),
         b'm' => among(&[Kind::Message], word),
         b'n' => among(&[Kind::New], word),
         b'N' => among(&[Kind::NewChannel], word),
         b'o' => among(&[Kind::One, Kind::Out], word),
         b'p' => among(&[Kind::Private, Kind::Public], word),
-        b'r' => among(&[Kind::Receive, Kind::Rep, Kind::Return], word),
+        b'r' => among(&[Kind::Rep, Kind::Receive, Kind::Return], word),
         b's' => of_word_in_s(word),
         b't' => among(&[Kind::True], word),
         b'v' => among(&[Kind::Void], word),
@@ -133,10 +78,10 @@ fn of_word_in_s(word: &[u8]) -> Kind
 {
     among(
         &[
-            Kind::Start,
             Kind::State,
             Kind::Static,
             Kind::Struct,
+            Kind::Start,
             Kind::Switch,
         ],
         word,

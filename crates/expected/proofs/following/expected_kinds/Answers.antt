@@ -4,8 +4,8 @@ use Rattle.std.proofs.lemmas.Grind.{common_steps}
 use Rattle.source.specs.declared.kind.Kind.{Kind}
 use Rattle.source.specs.declared.kind.Kind.TheVariants.{Name}
 use Rattle.expected.specs.Expected.{IsExpected}
-use Rattle.expected.specs.declared.kinds.TheConstants.{ALL_KINDS}
-use Rattle.expected.proofs.EveryKind.{every_kind, is_among, among, is_in}
+use Rattle.source.specs.declared.kinds.TheConstants.{ALL_KINDS}
+use Rattle.expected.proofs.AmongLemmas.{is_among, among, is_in}
 use Rattle.expected.proofs.Picking.{HasPicked, none_picked, one_picked, one_left, exactly, in_order}
 use Rattle.expected.proofs.Trials.{of_front}
 use Rattle.expected.proofs.following.expected_kinds.Goals as goal
@@ -14,7 +14,7 @@ use Rattle.expected.proofs.following.expected_kinds.Goals.{then-branch+in_ok-pus
 pub returns-clause-exact : goal.returns-clause-exact
 returns-clause-exact c =
     let P : Kind → Type 0 = IsExpected c.args.tokens.now.list.items c.args.count c.args.at in
-    λ kind. exactly P ALL_KINDS c.loop-kind.kinds.items c.loop-kind.kind-index (omega arith) c.loop-kind.invariant.1 kind (every_kind kind)
+    λ kind. exactly P ALL_KINDS c.loop-kind.kinds.items c.loop-kind.kind-index (omega arith) c.loop-kind.invariant.1 kind (c.each_kind_is_listed.ensures kind)
 
 not_among : (b : Bool) → (b ≡ true → ⊥) → b ≡ false
 not_among true h = absurd (h refl)
@@ -27,8 +27,8 @@ returns-clause-order c =
     let exact = exactly P ALL_KINDS found c.loop-kind.kind-index (omega arith) c.loop-kind.invariant.1 in (
       is_among found,
       in_order P (is_among found) ALL_KINDS found c.loop-kind.kind-index (omega arith)
-          (λ kind p. is_in found kind ((exact kind (every_kind kind)).1 p))
-          (λ kind none. not_among (is_among found kind) (λ h. none ((exact kind (every_kind kind)).0 (among found kind h))))
+          (λ kind p. is_in found kind ((exact kind (c.each_kind_is_listed.ensures kind)).1 p))
+          (λ kind none. not_among (is_among found kind) (λ h. none ((exact kind (c.each_kind_is_listed.ensures kind)).0 (among found kind h))))
           c.loop-kind.invariant.1,
     )
 

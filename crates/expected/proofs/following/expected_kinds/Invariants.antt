@@ -1,6 +1,6 @@
 use Rattle.std.proofs.Common.{◌≡◌, take}
 use Rattle.expected.specs.Expected.{IsExpected}
-use Rattle.expected.specs.declared.kinds.TheConstants.{ALL_KINDS}
+use Rattle.source.specs.declared.kinds.TheConstants.{ALL_KINDS}
 use Rattle.expected.proofs.Picking.{HasPicked}
 use Rattle.expected.proofs.following.expected_kinds.Given as goal
 

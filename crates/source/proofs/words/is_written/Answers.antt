@@ -27,14 +27,14 @@ split_end a b k past_a past_b =
 
 pub returns-then-text-word : goal.returns-then-text-word
 returns-then-text-word c =
-    sym (ap (λ t. pointwise nat_eq t c.args.word.now) (sym c.spelling_of-text.ensures) ∙ unequal nat_eq c.spelling_of-text.result.now c.args.word.now c.if-text-word.true)
+    sym (ap (λ t. pointwise nat_eq t c.args.word.now) (sym (c.as_bytes-text.ensures.value ∙ c.reserved_word.ensures)) ∙ unequal nat_eq c.as_bytes-text.result.now c.args.word.now c.if-text-word.true)
 
 pub bytes-init : goal.bytes-init
 bytes-init c = record { within = omega arith; same = refl }
 
 pub bytes-preserved : goal.bytes-preserved
 bytes-preserved c =
-    record { within = omega arith; same = sym (split_same c.spelling_of-text.result.now c.args.word.now c.bytes.at c.bytes-test.true c.if-at-word.true c.if-text-at.true) ∙ c.bytes.invariant.same }
+    record { within = omega arith; same = sym (split_same c.as_bytes-text.result.now c.args.word.now c.bytes.at c.bytes-test.true c.if-at-word.true c.if-text-at.true) ∙ c.bytes.invariant.same }
 
 -- where the bytes at one place differ, and where none is left
 
@@ -50,8 +50,8 @@ ends_whole a b k whole long within past is =
 
 pub returns : goal.returns
 returns c =
-    let text = c.spelling_of-text.result.now in
-    let is = c.bytes.invariant.same ∙ ap (λ t. pointwise nat_eq t c.args.word.now) c.spelling_of-text.ensures in
+    let text = c.as_bytes-text.result.now in
+    let is = c.bytes.invariant.same ∙ ap (λ t. pointwise nat_eq t c.args.word.now) (c.as_bytes-text.ensures.value ∙ c.reserved_word.ensures) in
     elim c.bytes-test.branch [
       | then-bytes-test+then-at-word+else-text-at w ↦ ends_apart text c.args.word.now c.bytes.at _ w.bytes-test.true w.if-at-word.true w.if-text-at.false is
       | then-bytes-test+else-at-word w ↦ absurd (omega arith)

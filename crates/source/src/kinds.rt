@@ -1,18 +1,84 @@
-//! Kinds of tokens as they are printed.
+//! The kinds of token: all of them, and how they are written.
 
 ghost use Rattle.std.specs.Prelude.{◌≡◌};
-ghost use Rattle.source.specs.Words.{word_text, statement_word};
-ghost use Rattle.expected.specs.KindWords.{word_of};
+ghost use Rattle.source.specs.Words.{reserved_text, statement_text, text_of};
 
-use source::Kind;
+use crate::kind::Kind;
 
-/// A kind as a person reads it: the symbol or the reserved word itself, else `a name` or `a number`.
-pub fn word_of(kind: Kind) -> &'static str
-    ensures { result.now ≡ word_of kind }
+/// Every kind of token, in the order of the enum.
+pub const ALL_KINDS: [Kind; 65] = [
+    Kind::Name,
+    Kind::Number,
+    Kind::Bool,
+    Kind::Break,
+    Kind::Byte,
+    Kind::Case,
+    Kind::Class,
+    Kind::ChannelClosed,
+    Kind::Claims,
+    Kind::Continue,
+    Kind::Contract,
+    Kind::Delete,
+    Kind::Else,
+    Kind::Exchange,
+    Kind::Exp,
+    Kind::ExHeap,
+    Kind::False,
+    Kind::If,
+    Kind::Imp,
+    Kind::In,
+    Kind::Int,
+    Kind::Internal,
+    Kind::Message,
+    Kind::New,
+    Kind::NewChannel,
+    Kind::One,
+    Kind::Out,
+    Kind::Private,
+    Kind::Public,
+    Kind::Receive,
+    Kind::Rep,
+    Kind::Return,
+    Kind::Start,
+    Kind::State,
+    Kind::Static,
+    Kind::Struct,
+    Kind::Switch,
+    Kind::True,
+    Kind::Void,
+    Kind::While,
+    Kind::OpenBrace,
+    Kind::CloseBrace,
+    Kind::OpenParen,
+    Kind::CloseParen,
+    Kind::OpenBracket,
+    Kind::CloseBracket,
+    Kind::Semicolon,
+    Kind::Colon,
+    Kind::Comma,
+    Kind::Dot,
+    Kind::Star,
+    Kind::Bang,
+    Kind::Question,
+    Kind::Equal,
+    Kind::EqualEqual,
+    Kind::NotEqual,
+    Kind::Less,
+    Kind::LessEqual,
+    Kind::Greater,
+    Kind::GreaterEqual,
+    Kind::Plus,
+    Kind::Minus,
+    Kind::AndAnd,
+    Kind::OrOr,
+    Kind::Arrow,
+];
+
+/// A symbol or a reserved word as it is written; nothing for a name and a number.
+pub fn text_of(kind: Kind) -> &'static str
+    ensures { result.now ≡ text_of kind }
 {
     match kind {
-        Kind::Name => "a name",
-        Kind::Number => "a number",
         Kind::OpenBrace => "{",
         Kind::CloseBrace => "}",
         Kind::OpenParen => "(",
@@ -42,9 +108,9 @@ pub fn word_of(kind: Kind) -> &'static str
     }
 }
 
-/// A reserved word; nothing for another kind.
-fn reserved_word(kind: Kind) -> &'static str
-    ensures { result.now ≡ word_text kind }
+/// A reserved word as it is written; nothing for another kind.
+pub(crate) fn reserved_word(kind: Kind) -> &'static str
+    ensures { result.now ≡ reserved_text kind }
 {
     match kind {
         Kind::Bool => "bool",
@@ -72,9 +138,9 @@ fn reserved_word(kind: Kind) -> &'static str
     }
 }
 
-/// A reserved word of statements and expressions; nothing for another kind.
+/// A reserved word of statements and expressions as it is written; nothing for another kind.
 fn reserved_in_statements(kind: Kind) -> &'static str
-    ensures { result.now ≡ statement_word kind }
+    ensures { result.now ≡ statement_text kind }
 {
     match kind {
         Kind::Break => "break",

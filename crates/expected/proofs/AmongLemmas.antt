@@ -1,26 +1,17 @@
--- Each kind is in the list of all, and a list of kinds tells which it has.
+-- A list of kinds tells which it has.
 use Rattle.std.proofs.Common.{◌≡◌, Bool, true, false, List, refl, sym, ap, rules}
 use Rattle.std.specs.Cmp.{IsEquivalence}
 use Rattle.std.specs.List.{Contains, list_any}
 use Rattle.std.proofs.lemmas.Map.Views.{Contains-from_any, list_any-from_Contains}
 use Rattle.source.specs.declared.kind.Kind.{Kind}
-use Rattle.source.specs.declared.kind.Kind.TheVariants.{Name}
 use Rattle.source.specs.contracts.kind.Kind.{the_type}
 use denote.Enum.Bare.{sameb, same_true, true_same}
-use Rattle.expected.specs.declared.kinds.TheConstants.{ALL_KINDS}
 
 abbrev pub is_among : List Kind → Kind → Bool
 is_among kinds kind = list_any (sameb the_type kind) kinds
 
 pub among : (kinds : List Kind) (kind : Kind) → is_among kinds kind ≡ true → Contains kinds kind
 among kinds kind h = Contains-from_any (same_true the_type (search rules)) kind kinds h
-
-every_among : (kind : Kind) → is_among ALL_KINDS kind ≡ true
-every_among Name = refl
-every_among _ = refl
-
-pub every_kind : (kind : Kind) → Contains ALL_KINDS kind
-every_kind kind = among ALL_KINDS kind (every_among kind)
 
 same_flags : (a b : Bool) → (a ≡ true → b ≡ true) → (b ≡ true → a ≡ true) → a ≡ b
 same_flags true b there back = sym (there refl)
