@@ -44,8 +44,8 @@ broken_findings text contracts found are = unsound text contracts found are.reso
 -- where they are sound, this is the program of the text
 abbrev pub has_program : (text : List ℕ) (items : List ItemTree) (p : ProgramModel) → HasCleanNames text items p → All (λ c. IsSound c.parts) p.contracts → HasProgram text p
 has_program text items p names sound = record {
-  items = items;
-  program = record { parsed = names.parsed; clean = names.clean; are = names.contracts; sound = sound };
+  resolved = record { items = items; parsed = names.parsed; clean = names.clean; are = names.contracts };
+  sound = sound;
   messages = names.messages;
   structs = names.structs;
   methods = names.methods;

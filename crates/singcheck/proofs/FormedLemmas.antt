@@ -29,17 +29,17 @@ pub record CleanPrograms : Type 0 where
 
 -- the items of a text whose program this is, with the text
 abbrev of_items : (text : List ℕ) (p : ProgramModel) → HasProgram text p → ProgramText
-of_items text p has = record { text = text; items = has.items }
+of_items text p has = record { text = text; items = has.resolved.items }
 
 pub formed_of : CleanPrograms → (text : List ℕ) (p : ProgramModel) → HasProgram text p → AreWellFormed p
 formed_of laws text p has =
     let q = of_items text p has in
-    let told = resolved_contracts text (contracts_of has.items) in
-    subst (λ (cs : List ContractModel). AreWellFormed (record { contracts = cs; messages = p.messages; structs = p.structs; methods = p.methods })) (sym has.program.are)
+    let told = resolved_contracts text (contracts_of has.resolved.items) in
+    subst (λ (cs : List ContractModel). AreWellFormed (record { contracts = cs; messages = p.messages; structs = p.structs; methods = p.methods })) (sym has.resolved.are)
     (subst (λ (ms : List (List HeapType)). AreWellFormed (record { contracts = told; messages = ms; structs = p.structs; methods = p.methods })) (sym has.messages)
     (subst (λ (ss : List (List HeapType)). AreWellFormed (record { contracts = told; messages = messages_told q; structs = ss; methods = p.methods })) (sym has.structs)
     (subst (λ (ms : List MethodModel). AreWellFormed (record { contracts = told; messages = messages_told q; structs = structs_told q; methods = ms })) (sym has.methods)
-    (laws.formed q has.program.clean))))
+    (laws.formed q has.resolved.clean))))
 
 pub bare_of : CleanPrograms → (text : List ℕ) (p : ProgramModel) → HasProgram text p → Each IsBare p.methods
 bare_of laws text p has = subst (Each IsBare) (sym has.methods) (laws.bare (of_items text p has))
@@ -54,8 +54,8 @@ pub sound_of : CleanPrograms → (text : List ℕ) (p : ProgramModel) → HasPro
 sound_of laws text p has =
     let are_whole = λ (c : ContractModel). IsWhole c.parts in
     let are_sound = λ (c : ContractModel). IsSound c.parts in
-    let whole = subst (All are_whole) (sym has.program.are) (laws.whole (of_items text p has) has.program.clean) in
+    let whole = subst (All are_whole) (sym has.resolved.are) (laws.whole (of_items text p has) has.resolved.clean) in
     record {
       whole = λ n c there. ∣ all_there are_whole p.contracts n c whole there ∣₁;
-      sound = λ n c there. all_there are_sound p.contracts n c has.program.sound there;
+      sound = λ n c there. all_there are_sound p.contracts n c has.sound there;
     }

@@ -58,5 +58,5 @@ bounds_of laws (c ∷ cs) whole sound none =
 
 pub has_bounds : Bounded → (text : List ℕ) (p : ProgramModel) → HasProgram text p → ((bound : QueueBounds) → AreBounds p bound → ⊥) → ⊥
 has_bounds laws text p has none =
-    let whole = subst (All (λ c. IsWhole c.parts)) (sym has.program.are) (laws.whole (record { text = text; items = has.items }) has.program.clean) in
-    bounds_of laws p.contracts whole has.program.sound (λ bound of. none bound (record { are = of.are; past = of.past }))
+    let whole = subst (All (λ c. IsWhole c.parts)) (sym has.resolved.are) (laws.whole (record { text = text; items = has.resolved.items }) has.resolved.clean) in
+    bounds_of laws p.contracts whole has.sound (λ bound of. none bound (record { are = of.are; past = of.past }))

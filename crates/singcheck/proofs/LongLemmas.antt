@@ -53,10 +53,10 @@ answers_long text other bytes Found long told = record { found = told.found; are
 
 checked_long : (text other : List ℕ) (found : List FindingModel) → AreLong text other → AreCheckFindings text found → AreCheckFindings other found
 checked_long text other found long (Before is) = Before (findings_long text other found long is)
-checked_long text other found long (OfMethods is) = no_program text long.one is.has.program.parsed.tokens is.has.program.parsed.lexed
+checked_long text other found long (OfMethods is) = no_program text long.one is.has.resolved.parsed.tokens is.has.resolved.parsed.lexed
 
 checks_long : (text other bytes : List ℕ) (status : Status) → AreLong text other → Checks text bytes status → Checks other bytes status
-checks_long text other bytes Empty long told = no_program text long.one told.has.program.parsed.tokens told.has.program.parsed.lexed
+checks_long text other bytes Empty long told = no_program text long.one told.has.resolved.parsed.tokens told.has.resolved.parsed.lexed
 checks_long text other bytes Found long told = record { found = told.found; are = checked_long text other told.found long told.are; told = told.told }
 
 noted_long : (named : Option Place) (text other : List ℕ) → AreLong text other → (e : ExplainedModel) → IsExplainedFinding named text e → IsExplainedFinding named other e
@@ -67,7 +67,7 @@ noted_long named text other long e (ByMistake is) = no_program text long.one is.
 noted_long named text other long e (ByContract contracts resolved shown) = no_program text long.one resolved.parsed.tokens resolved.parsed.lexed
 
 explains_long : (named : Option Place) (text other bytes : List ℕ) (status : Status) → AreLong text other → Explains named text bytes status → Explains named other bytes status
-explains_long named text other bytes Empty long told = no_program text long.one told.has.program.parsed.tokens told.has.program.parsed.lexed
+explains_long named text other bytes Empty long told = no_program text long.one told.has.resolved.parsed.tokens told.has.resolved.parsed.lexed
 explains_long named text other bytes Found long told = elim told [
   | inl before ↦ inl (record {
     found = before.found;
@@ -78,7 +78,7 @@ explains_long named text other bytes Found long told = elim told [
     ordered = before.ordered;
     is = before.is;
   })
-  | inr reasons ↦ no_program text long.one reasons.has.program.parsed.tokens reasons.has.program.parsed.lexed
+  | inr reasons ↦ no_program text long.one reasons.has.resolved.parsed.tokens reasons.has.resolved.parsed.lexed
 ]
 
 -- what holds of the bytes that are read holds of the text, where it holds of all texts too long if of one

@@ -41,7 +41,7 @@ replays_long : (entry lines text other bytes : List ℕ) (status : Status) → A
     → Replays entry lines other bytes status
 replays_long entry lines text other bytes status long (OfFindings told is) = OfFindings (answers_long text other bytes Found long told) is
 replays_long entry lines text other bytes status long (OfRun ran) =
-    no_program text long.one ran.entered.has.program.parsed.tokens ran.entered.has.program.parsed.lexed
+    no_program text long.one ran.entered.has.resolved.parsed.tokens ran.entered.has.resolved.parsed.lexed
 
 replays_of_front : (entry lines : List ℕ) → IsOfFront (Replays entry lines) MAX_READ
 replays_of_front entry lines = record {
@@ -69,7 +69,7 @@ bounded_long : (entry lines text other bytes : List ℕ) (status : Status) → A
     → ReplaysWithinBounds entry lines text bytes status → ReplaysWithinBounds entry lines other bytes status
 bounded_long entry lines text other bytes status long (Reported told is) = Reported (answers_long text other bytes Found long told) is
 bounded_long entry lines text other bytes status long (Kept kept) =
-    no_program text long.one kept.ran.entered.has.program.parsed.tokens kept.ran.entered.has.program.parsed.lexed
+    no_program text long.one kept.ran.entered.has.resolved.parsed.tokens kept.ran.entered.has.resolved.parsed.lexed
 
 bounded_of_front : (entry lines : List ℕ) → IsOfFront (ReplaysWithinBounds entry lines) MAX_READ
 bounded_of_front entry lines = record {
@@ -90,7 +90,7 @@ safely_front : (entry lines text bytes : List ℕ) (status : Status)
     → (HasEmptyReport (take MAX_READ text) → RunsSafely entry lines (take MAX_READ text) bytes status) → HasEmptyReport text
     → RunsSafely entry lines text bytes status
 safely_front entry lines text bytes status = of_front (λ t. HasEmptyReport t → RunsSafely entry lines t bytes status) MAX_TEXT MAX_READ refl
-    (λ a b x y front empty. no_program b y empty.1.has.program.parsed.tokens empty.1.has.program.parsed.lexed) text
+    (λ a b x y front empty. no_program b y empty.1.has.resolved.parsed.tokens empty.1.has.resolved.parsed.lexed) text
 
 pub replay_safe : (entry : List ℕ) (a q w v : Option (List ℕ)) (text bytes : List ℕ) (status : Status)
     → IfSome a (λ xs. text ≡ take MAX_READ xs) → IfSome q (λ lines. HasEmptyReport text → RunsSafely entry lines text bytes status)
@@ -108,12 +108,12 @@ pub entry_lacks : (entry : List ℕ) (a : Option (List ℕ)) (text : List ℕ) �
     → IfSome a (λ xs. LacksEntry xs entry)
 entry_lacks entry None text is lacks = tt
 entry_lacks entry (Some x) text is lacks = of_front (λ t. LacksEntry t entry) MAX_TEXT MAX_READ refl
-    (λ a b y z front. no_program a y front.has.program.parsed.tokens front.has.program.parsed.lexed) x
+    (λ a b y z front. no_program a y front.has.resolved.parsed.tokens front.has.resolved.parsed.lexed) x
     (subst (λ t. LacksEntry t entry) is lacks)
 
 line_front : (entry lines text : List ℕ) (n : ℕ) → LacksSchedule (take MAX_READ text) entry lines n → LacksSchedule text entry lines n
 line_front entry lines text n = of_front (λ t. LacksSchedule t entry lines n) MAX_TEXT MAX_READ refl
-    (λ a b y z front. no_program a y front.entered.has.program.parsed.tokens front.entered.has.program.parsed.lexed) text
+    (λ a b y z front. no_program a y front.entered.has.resolved.parsed.tokens front.entered.has.resolved.parsed.lexed) text
 
 pub line_lacks : (entry : List ℕ) (n : ℕ) (a q : Option (List ℕ)) (text : List ℕ) → IfSome a (λ xs. text ≡ take MAX_READ xs)
     → IfSome q (λ lines. LacksSchedule text entry lines n) → IfSome a (λ xs. IfSome q (λ lines. LacksSchedule xs entry lines n))
@@ -124,7 +124,7 @@ line_lacks entry n (Some x) (Some l) text is lacks = line_front entry l x n (sub
 -- an entry of the text is one of the bytes that are read
 entry_back : {A : Type 0} (entry text : List ℕ) → (HasSomeEntry (take MAX_READ text) entry → A) → HasSomeEntry text entry → A
 entry_back {A} entry text = of_front (λ t. HasSomeEntry t entry → A) MAX_TEXT MAX_READ refl
-    (λ a b y z front has. no_program b z has.2.has.program.parsed.tokens has.2.has.program.parsed.lexed) text
+    (λ a b y z front has. no_program b z has.2.has.resolved.parsed.tokens has.2.has.resolved.parsed.lexed) text
 
 pub where_entry : {A : Type 0} (entry : List ℕ) (a : Option (List ℕ)) (text : List ℕ) → IfSome a (λ xs. text ≡ take MAX_READ xs)
     → (HasSomeEntry text entry → A) → IfSome a (λ xs. HasSomeEntry xs entry → A)

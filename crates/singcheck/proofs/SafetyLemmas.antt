@@ -39,7 +39,7 @@ safe_text text p one nothing safe = λ q has. subst RunsAreSafe (one q has) (rec
 -- what is known of the bytes that are read is known of the text
 pub safe_front : (status : Status) (text : List ℕ) → (status ≡ Empty → IsSafeText (take MAX_READ text)) → status ≡ Empty → IsSafeText text
 safe_front status text told = of_front (λ t. status ≡ Empty → IsSafeText t) MAX_TEXT MAX_READ refl
-    (λ a b x y front e p has. no_program b y has.program.parsed.tokens has.program.parsed.lexed) text told
+    (λ a b x y front e p has. no_program b y has.resolved.parsed.tokens has.resolved.parsed.lexed) text told
 
 pub safe_read : (a : Option (List ℕ)) (text : List ℕ) (status : Status) → IfSome a (λ xs. text ≡ take MAX_READ xs) → (status ≡ Empty → IsSafeText text) → IfSome a (λ xs. status ≡ Empty → IsSafeText xs)
 safe_read None text status is told = tt

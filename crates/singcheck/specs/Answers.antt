@@ -3,13 +3,12 @@
 use Rattle.std.specs.Prelude.{◌≡◌, ◌≢◌, ℕ, List, [], ◌∷◌, ◌++◌, length, All, Contains, Option, Some, None, slice_get, codes}
 use Rattle.std.specs.List.{AllZip, concat}
 use Rattle.source.specs.Faults.{IsFault}
-use Rattle.source.specs.Findings.{FindingModel}
+use Rattle.source.specs.Findings.{FindingModel, fault_findings}
 use Rattle.source.specs.Marks.{body_of}
-use Rattle.source.specs.Places.{first_place, place_of}
+use Rattle.source.specs.Places.{place_of}
 use Rattle.source.specs.Tokens.{AreTokens}
 use Rattle.source.specs.declared.fault.TextFault.{TextFault}
-use Rattle.source.specs.declared.fault.TextFault.TheVariants as faults
-use Rattle.source.specs.declared.finding.Code.TheVariants.{S01, S02, S03, S04, S05, S06}
+use Rattle.source.specs.declared.finding.Code.TheVariants.{S05}
 use Rattle.source.specs.declared.token.Token.{Token}
 use Rattle.tree.specs.Spelled.{Spells}
 use Rattle.syntax.specs.Parsing.{IsFirstWrong}
@@ -25,16 +24,7 @@ use Rattle.contracts.specs.Conditions.{AreExactly, IsSound}
 use Rattle.devices.specs.declared.fault.Status.{Status}
 use Rattle.devices.specs.declared.fault.Status.TheVariants.{Empty, Found}
 use Rattle.singcheck.specs.Lines.{bounds_line, ok_line}
-use Rattle.singcheck.specs.Reports.{IsReport}
-
--- the finding that a fault of a text is; want of memory is none
-abbrev pub fault_findings : TextFault → List FindingModel
-fault_findings (faults.Stray place) = record { place = place; code = S01; text = codes "stray byte" } ∷ []
-fault_findings (faults.OpenComment place) = record { place = place; code = S02; text = codes "comment not closed" } ∷ []
-fault_findings faults.TooLong = record { place = first_place; code = S03; text = codes "text too long" } ∷ []
-fault_findings (faults.TooDeep place) = record { place = place; code = S04; text = codes "brackets too deep" } ∷ []
-fault_findings (faults.TooLarge place) = record { place = place; code = S06; text = codes "number too large" } ∷ []
-fault_findings faults.Memory = []
+use Rattle.singcheck.specs.Reports.{IsReportOf}
 
 -- the text has a fault: its finding
 pub record IsFaulty (text : List ℕ) (found : List FindingModel) : Type 0 where
@@ -101,12 +91,6 @@ pub record IsBoundsLine (c : ContractModel) (line : List ℕ) : Type 0 where
   pub imp : ∥ IsBound c.parts.edges c.parts.first (sign_to Imp) to_imp ∥₁
   pub is : line ≡ bounds_line c.name to_exp to_imp
 
--- these are the findings of the text, and the bytes their report
-pub record IsReported (text bytes : List ℕ) : Type 0 where
-  pub found : List FindingModel
-  pub are : AreFindings text found
-  pub told : IsReport found bytes
-
 -- the text has no findings, and the bytes are a line for each of its contracts in order, and then their number
 pub record IsBoundsReport (text bytes : List ℕ) : Type 0 where
   pub contracts : List ContractModel
@@ -119,4 +103,4 @@ pub record IsBoundsReport (text bytes : List ℕ) : Type 0 where
 -- what is written for a text, and the status of the run
 abbrev pub Answers : List ℕ → List ℕ → Status → Type 0
 Answers text bytes Empty = IsBoundsReport text bytes
-Answers text bytes Found = IsReported text bytes
+Answers text bytes Found = IsReportOf (AreFindings text) bytes

@@ -2,10 +2,6 @@
 -- names and its contracts.
 use Rattle.std.specs.Prelude.{◌≡◌, ◌≢◌, ◌<◌, ℕ, List, [], length, All}
 use Rattle.source.specs.Findings.{FindingModel}
-use Rattle.tree.specs.Trees.{ItemTree, contracts_of}
-use Rattle.names.specs.Findings.{program_mistakes}
-use Rattle.program.specs.Parts.{ContractModel}
-use Rattle.declarations.specs.Resolution.{resolved_contracts}
 use Rattle.contracts.specs.Conditions.{AreExactly, IsSound}
 use Rattle.program.specs.Programs.{ProgramModel}
 use Rattle.resolving.specs.Brought.{messages_told}
@@ -14,24 +10,17 @@ use Rattle.resolving.specs.Methods.{methods_told}
 use Rattle.analyse.specs.Verdicts.{IsFoundIn}
 use Rattle.devices.specs.declared.fault.Status.{Status}
 use Rattle.devices.specs.declared.fault.Status.TheVariants.{Empty, Found}
-use Rattle.singcheck.specs.Answers.{AreFindings, IsProgram}
+use Rattle.singcheck.specs.Answers.{AreFindings, IsResolved}
 use Rattle.singcheck.specs.Lines.{clear_line}
-use Rattle.singcheck.specs.Reports.{IsReport}
+use Rattle.singcheck.specs.Reports.{IsReportOf}
 
--- the text is a program of these items and contracts, and nothing is wrong with them
-pub record IsSoundProgram (text : List ℕ) (items : List ItemTree) (contracts : List ContractModel) : Type 0 where
-  pub parsed : IsProgram text items
-  pub clean : program_mistakes (record { text = text; items = items }) ≡ []
-  pub are : contracts ≡ resolved_contracts text (contracts_of items)
-  pub sound : All (λ c. IsSound c.parts) contracts
-
--- and this is what it comes to, with a number for each name
+-- nothing is wrong with the text but in its methods, and this is what it comes to, with a number for each name
 pub record HasProgram (text : List ℕ) (p : ProgramModel) : Type 0 where
-  pub items : List ItemTree
-  pub program : IsSoundProgram text items p.contracts
-  pub messages : p.messages ≡ messages_told (record { text = text; items = items })
-  pub structs : p.structs ≡ structs_told (record { text = text; items = items })
-  pub methods : p.methods ≡ methods_told (record { text = text; items = items })
+  pub resolved : IsResolved text p.contracts
+  pub sound : All (λ c. IsSound c.parts) p.contracts
+  pub messages : p.messages ≡ messages_told (record { text = text; items = resolved.items })
+  pub structs : p.structs ≡ structs_told (record { text = text; items = resolved.items })
+  pub methods : p.methods ≡ methods_told (record { text = text; items = resolved.items })
 
 -- this is found in one of the methods
 abbrev pub IsWrong : ProgramModel → FindingModel → Type 0
@@ -49,12 +38,6 @@ pub data AreCheckFindings (text : List ℕ) (found : List FindingModel) : Type 0
   Before : AreFindings text found → AreCheckFindings text found
   OfMethods : IsMisowned text found → AreCheckFindings text found
 
--- these are the findings of the text, and the bytes their report
-pub record IsCheckReport (text bytes : List ℕ) : Type 0 where
-  pub found : List FindingModel
-  pub are : AreCheckFindings text found
-  pub told : IsReport found bytes
-
 -- the text has no findings, and the bytes say how many contracts and methods it has
 pub record IsClear (text bytes : List ℕ) : Type 0 where
   pub program : ProgramModel
@@ -65,4 +48,4 @@ pub record IsClear (text bytes : List ℕ) : Type 0 where
 -- what `check` answers for a text, and the status
 abbrev pub Checks : List ℕ → List ℕ → Status → Type 0
 Checks text bytes Empty = IsClear text bytes
-Checks text bytes Found = IsCheckReport text bytes
+Checks text bytes Found = IsReportOf (AreCheckFindings text) bytes

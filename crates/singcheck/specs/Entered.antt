@@ -27,7 +27,7 @@ AreCleanSafe p =
 -- this is what the text comes to, and the entry is its method
 pub record IsBegun (text entry : List ℕ) (b : Begun) : Type 0 where
   pub entered : HasEntry text entry (model_of b.program) b.method.0
-  pub structs : map string_bytes b.structs.items ≡ struct_names text entered.has.items
+  pub structs : map string_bytes b.structs.items ≡ struct_names text entered.has.resolved.items
 
 -- or the text has no such entry
 abbrev pub ComesIn : List ℕ → List ℕ → Option Begun → Type 0

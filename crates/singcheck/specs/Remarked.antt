@@ -2,6 +2,7 @@
 use Rattle.std.specs.Prelude.{◌≡◌, ℕ, Bool, false, List, [], ◌∷◌, Option, None, Contains, if◌then◌else◌}
 use Rattle.std.specs.Option.{option_map_or}
 use Rattle.source.specs.Faults.{IsFault}
+use Rattle.source.specs.Findings.{fault_findings}
 use Rattle.source.specs.declared.fault.TextFault.{TextFault}
 use Rattle.source.specs.declared.place.Place.{Place}
 use Rattle.tree.specs.Trees.{ItemTree}
@@ -14,7 +15,7 @@ use Rattle.remarks.specs.FaultRemarks.{fault_remark}
 use Rattle.remarks.specs.Remarks.{RemarkModel, remark_of}
 use Rattle.traces.specs.Explained.{ExplainedModel, is_asked}
 use Rattle.traces.specs.Lines.{LineModel, line}
-use Rattle.singcheck.specs.Answers.{IsProgram, fault_findings}
+use Rattle.singcheck.specs.Answers.{IsProgram}
 
 -- the line of a remark, if there is one, and if lines are asked for of what is found there
 abbrev pub said_lines : Option RemarkModel → List LineModel

@@ -17,7 +17,8 @@ use Rattle.replays.specs.Schedules.{IsFirstMalformed, IsSchedule}
 use Rattle.replays.specs.WorldLines.{replay_lines}
 use Rattle.devices.specs.declared.fault.Status.{Status}
 use Rattle.devices.specs.declared.fault.Status.TheVariants.{Empty, Found}
-use Rattle.singcheck.specs.Answers.{IsReported}
+use Rattle.singcheck.specs.Answers.{AreFindings}
+use Rattle.singcheck.specs.Reports.{IsReportOf}
 use Rattle.singcheck.specs.Checks.{HasProgram}
 
 -- `Class.Method`
@@ -58,7 +59,7 @@ pub record IsEntryAt (text entry : List ℕ) (items : List ItemTree) (p : Progra
 -- nothing is wrong with the text but in its methods, and a run may begin with this one, whose name the entry is
 pub record HasEntry (text entry : List ℕ) (p : ProgramModel) (n : ℕ) : Type 0 where
   pub has : HasProgram text p
-  pub at : IsEntryAt text entry has.items p n
+  pub at : IsEntryAt text entry has.resolved.items p n
 
 -- nothing is wrong with the text but in its methods, and a run may begin with one whose name the entry is
 abbrev pub HasSomeEntry : (text entry : List ℕ) → Type 0
@@ -68,7 +69,7 @@ HasSomeEntry text entry = (p : ProgramModel) × (n : ℕ) × HasEntry text entry
 pub record LacksEntry (text entry : List ℕ) : Type 0 where
   pub program : ProgramModel
   pub has : HasProgram text program
-  pub none : (n : ℕ) → ¬ IsEntryAt text entry has.items program n
+  pub none : (n : ℕ) → ¬ IsEntryAt text entry has.resolved.items program n
 
 -- a run may begin, and this line of the schedule is the first malformed one
 pub record LacksSchedule (text entry schedule : List ℕ) (line : ℕ) : Type 0 where
@@ -92,13 +93,13 @@ pub record IsRan (entry schedule text bytes : List ℕ) (status : Status) : Type
   pub replayed : ReplayModel
   pub led : (bound : QueueBounds) → AreBounds program bound → IsReplay program bound n events replayed
   pub are : bytes
-      ≡ replay_lines (record { program = program; structs = struct_names text entered.has.items }) events replayed.steps replayed.halt
-      replayed.world
+      ≡ replay_lines (record { program = program; structs = struct_names text entered.has.resolved.items })
+      events replayed.steps replayed.halt replayed.world
   pub is : status ≡ stop_status replayed.halt
 
 -- what `replay` answers: the findings of the text before its methods, or what the events of the schedule come to
 pub data Replays (entry schedule text bytes : List ℕ) (status : Status) : Type 0 where
-  OfFindings : IsReported text bytes → status ≡ Found → Replays entry schedule text bytes status
+  OfFindings : IsReportOf (AreFindings text) bytes → status ≡ Found → Replays entry schedule text bytes status
   OfRun : IsRan entry schedule text bytes status → Replays entry schedule text bytes status
 
 -- what a run of `replay` comes to where no device fails and no growth of memory is refused: its answer, no entry, or a malformed line

@@ -18,3 +18,9 @@ pub record IsReport (findings : List FindingModel) (bytes : List ℕ) : Type 0 w
   pub same : AreExactly (Contains findings) listed
   pub ordered : IsStrictlySortedBy report_cmp listed
   pub is : bytes ≡ report_bytes listed
+
+-- the bytes are the report of findings, which are these
+pub record IsReportOf (these : List FindingModel → Type 0) (bytes : List ℕ) : Type 0 where
+  pub found : List FindingModel
+  pub are : these found
+  pub told : IsReport found bytes

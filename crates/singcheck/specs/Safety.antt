@@ -13,7 +13,8 @@ use Rattle.sound.specs.Queues.{IsBounded}
 use Rattle.sound.specs.Safe.{IsSafe}
 use Rattle.devices.specs.declared.fault.Status.{Status}
 use Rattle.devices.specs.declared.fault.Status.TheVariants.{Empty, Found}
-use Rattle.singcheck.specs.Answers.{IsReported}
+use Rattle.singcheck.specs.Answers.{AreFindings}
+use Rattle.singcheck.specs.Reports.{IsReportOf}
 use Rattle.singcheck.specs.Checks.{Checks, HasProgram}
 use Rattle.singcheck.specs.Replays.{IsRan}
 
@@ -45,5 +46,5 @@ pub record KeepsBounds (entry schedule text bytes : List ℕ) (status : Status) 
 
 -- what `replay` answers, whatever `check` finds: the findings of the text before its methods, or a replay that keeps the bounds
 pub data ReplaysWithinBounds (entry schedule text bytes : List ℕ) (status : Status) : Type 0 where
-  Reported : IsReported text bytes → status ≡ Found → ReplaysWithinBounds entry schedule text bytes status
+  Reported : IsReportOf (AreFindings text) bytes → status ≡ Found → ReplaysWithinBounds entry schedule text bytes status
   Kept : KeepsBounds entry schedule text bytes status → ReplaysWithinBounds entry schedule text bytes status

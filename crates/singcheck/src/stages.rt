@@ -1,12 +1,12 @@
 //! The stages before the methods: the text, its names and its contracts.
 
 ghost use Rattle.std.specs.Prelude.{◌≡◌, ◌≢◌, ◌<◌, ◌^◌, ◌∷◌, [], ℕ, List, All, length, map, slice_get, IfOk, OnOk};
-ghost use Rattle.source.specs.Findings.{finding_model};
+ghost use Rattle.source.specs.Findings.{finding_model, fault_findings};
 ghost use Rattle.source.specs.Marks.{body_of};
 ghost use Rattle.source.specs.Places.{place_of};
 ghost use Rattle.source.specs.Tokens.{AreTokens};
 ghost use Rattle.program.specs.Parts.{IsWhole, contract_model};
-ghost use Rattle.singcheck.specs.Answers.{IsResolved, fault_findings, wrong_token};
+ghost use Rattle.singcheck.specs.Answers.{IsResolved, wrong_token};
 ghost use Rattle.singcheck.specs.Stages.{IsParsed, IsProgramOf, IsStaged};
 
 use crate::soundness::judge_contracts;

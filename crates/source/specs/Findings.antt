@@ -1,5 +1,5 @@
 -- Findings, and the order in which a report has them.
-use Rattle.std.specs.Prelude.{◌≡◌, ℕ, List, Option, IsNone, IsSomeAnd, codes}
+use Rattle.std.specs.Prelude.{◌≡◌, ℕ, List, [], ◌∷◌, codes}
 use Rattle.std.specs.Ordering.{nat_cmp, ordering_then}
 use Rattle.std.specs.declared.cmp.Ordering.{Ordering}
 use Rattle.std.specs.Cmp.Lexicographic.{slice_cmp}
@@ -30,13 +30,13 @@ pub record IsFinding (at : Place) (kind : Code) (says : List ℕ) (f : Finding) 
   pub text : string_bytes f.text ≡ says
 
 -- the finding that a fault of a text is; want of memory is none
-abbrev pub Reports : TextFault → Option Finding → Type 0
-Reports (Stray place) r = IsSomeAnd r (IsFinding place S01 (codes "stray byte"))
-Reports (OpenComment place) r = IsSomeAnd r (IsFinding place S02 (codes "comment not closed"))
-Reports TooLong r = IsSomeAnd r (IsFinding first_place S03 (codes "text too long"))
-Reports (TooDeep place) r = IsSomeAnd r (IsFinding place S04 (codes "brackets too deep"))
-Reports (TooLarge place) r = IsSomeAnd r (IsFinding place S06 (codes "number too large"))
-Reports Memory r = IsNone r
+abbrev pub fault_findings : TextFault → List FindingModel
+fault_findings (Stray place) = record { place = place; code = S01; text = codes "stray byte" } ∷ []
+fault_findings (OpenComment place) = record { place = place; code = S02; text = codes "comment not closed" } ∷ []
+fault_findings TooLong = record { place = first_place; code = S03; text = codes "text too long" } ∷ []
+fault_findings (TooDeep place) = record { place = place; code = S04; text = codes "brackets too deep" } ∷ []
+fault_findings (TooLarge place) = record { place = place; code = S06; text = codes "number too large" } ∷ []
+fault_findings Memory = []
 
 -- how a code is printed
 abbrev pub code_name : Code → List ℕ

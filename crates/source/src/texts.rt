@@ -3,9 +3,10 @@
 //! Each takes the place of the finding, and the name that its text says where it says one. A name that is no UTF-8
 //! is printed with U+FFFD for what is none. The only fault is that a growth of memory was refused.
 
-ghost use Rattle.std.specs.Prelude.{◌≡◌, ◌++◌, IfOk, OnOk, codes, string_bytes};
+ghost use Rattle.std.specs.Prelude.{◌≡◌, ◌++◌, ◌∷◌, [], IfOk, OnOk, codes, string_bytes};
+ghost use Rattle.std.specs.Option.{option_map_or};
 ghost use Rattle.std.specs.Str.Lossy.{utf8_lossy};
-ghost use Rattle.source.specs.Findings.{IsFinding, Reports};
+ghost use Rattle.source.specs.Findings.{IsFinding, fault_findings, finding_model};
 ghost use Rattle.source.specs.Places.{first_place};
 
 mod ownership;
@@ -238,7 +239,7 @@ pub fn one_direction_round(alloc: Global, place: Place, state: &[u8]) -> Result<
 
 /// The finding that a fault of a text is, and none where memory was refused, which is no fault of the text.
 pub fn finding_of(alloc: Global, fault: TextFault) -> Result<Option<Finding>, Memory>
-    ensures { IfOk result (Reports fault) }
+    ensures { IfOk result (λ found. option_map_or (λ f. finding_model f ∷ []) found [] ≡ fault_findings fault) }
 {
     let finding = match fault {
         TextFault::Stray(place) => stray_byte(alloc, place)?,

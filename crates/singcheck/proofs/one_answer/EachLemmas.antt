@@ -4,7 +4,7 @@ use Rattle.std.specs.Prelude.{All, Contains, length, slice_get}
 use Rattle.std.specs.List.{AllZip, concat}
 use Rattle.std.proofs.lemmas.List.Elements.{All-head, All-tail}
 use Rattle.source.specs.Faults.{IsFault}
-use Rattle.source.specs.Findings.{FindingModel}
+use Rattle.source.specs.Findings.{FindingModel, fault_findings}
 use Rattle.source.specs.Tokens.{AreTokens}
 use Rattle.source.specs.declared.fault.TextFault.{TextFault}
 use Rattle.source.specs.declared.token.Token.{Token}
@@ -30,8 +30,8 @@ use Rattle.resolving.specs.Methods.{methods_told}
 use Rattle.analyse.specs.Verdicts.{IsMethodVerdict}
 use Rattle.devices.specs.declared.fault.Status.{Status}
 use Rattle.devices.specs.declared.fault.Status.TheVariants.{Empty, Found}
-use Rattle.singcheck.specs.Answers.{Answers, AreFindings, IsBoundsLine, IsBroken, IsProgram, IsResolved, OfText, OfSyntax, OfNames, OfContracts, fault_findings, wrong_token}
-use Rattle.singcheck.specs.Checks.{Before, Checks, HasProgram, IsSoundProgram, IsWrong, OfMethods}
+use Rattle.singcheck.specs.Answers.{Answers, AreFindings, IsBoundsLine, IsBroken, IsProgram, IsResolved, OfText, OfSyntax, OfNames, OfContracts, wrong_token}
+use Rattle.singcheck.specs.Checks.{Before, Checks, HasProgram, IsWrong, OfMethods}
 use Rattle.singcheck.specs.Lines.{bounds_line, clear_line, ok_line}
 use Rattle.singcheck.proofs.one_answer.ExactLemmas.{all_sound, broken_some, empty_or_not, nothing_so, wrong_some}
 use Rattle.singcheck.proofs.one_answer.InsertLemmas.{report_there}
@@ -82,12 +82,11 @@ module _ (laws : Answered) (text : List ℕ) (clean : (found : List FindingModel
       (λ some. clean found (OfContracts (record { contracts = contracts; resolved = resolved; some = some; are = are })))
       (empty_or_not found))
 
-  pub sound_some : ((items : List ItemTree) (contracts : List ContractModel) → IsSoundProgram text items contracts → ⊥) → ⊥
+  pub sound_some : ((contracts : List ContractModel) → IsResolved text contracts → All (λ c. IsSound c.parts) contracts → ⊥) → ⊥
   sound_some none = program_some (λ items parsed.
       let contracts = resolved_contracts text (contracts_of items) in
-      let names = names_clean items parsed in
-      contracts_sound contracts (record { items = items; parsed = parsed; clean = names; are = refl })
-      (λ sound. none items contracts (record { parsed = parsed; clean = names; are = refl; sound = sound })))
+      let resolved : IsResolved text contracts = record { items = items; parsed = parsed; clean = names_clean items parsed; are = refl } in
+      contracts_sound contracts resolved (none contracts resolved))
 
 -- each contract has its line
 line_some : Answered → (c : ContractModel) → IsWhole c.parts → IsSound c.parts → ((line : List ℕ) → IsBoundsLine c line → ⊥) → ⊥
@@ -107,12 +106,12 @@ lines_some laws (c ∷ cs) whole sound none =
 pub bounds_some : Answered → (text : List ℕ) → ((bytes : List ℕ) (status : Status) → Answers text bytes status → ⊥) → ⊥
 bounds_some laws text none = sound_some laws text
     (λ found are. let report = report_there found in none report.0 Found (record { found = found; are = are; told = report.1 }))
-    (λ items contracts p.
-    let whole = subst (All (λ c. IsWhole c.parts)) (sym p.are) (laws.whole (record { text = text; items = items }) p.clean) in
-    let resolved : IsResolved text contracts = record { items = items; parsed = p.parsed; clean = p.clean; are = p.are } in
-    lines_some laws contracts whole p.sound (λ lines each.
+    (λ contracts resolved sound.
+    let whole = subst (All (λ c. IsWhole c.parts)) (sym resolved.are)
+    (laws.whole (record { text = text; items = resolved.items }) resolved.clean) in
+    lines_some laws contracts whole sound (λ lines each.
     none (concat lines ++ ok_line (length contracts)) Empty
-    (record { contracts = contracts; resolved = resolved; sound = p.sound; lines = lines; each = each; are = refl })))
+    (record { contracts = contracts; resolved = resolved; sound = sound; lines = lines; each = each; are = refl })))
 
 -- a program is clear, or something is wrong in its methods
 methods_some : Answered → (text : List ℕ) (p : ProgramModel) → HasProgram text p → ((bytes : List ℕ) (status : Status) → Checks text bytes status → ⊥) → ⊥
@@ -129,7 +128,7 @@ methods_some laws text p has none = wrong_some laws.verdicts p (λ found are. �
 pub check_some : Answered → (text : List ℕ) → ((bytes : List ℕ) (status : Status) → Checks text bytes status → ⊥) → ⊥
 check_some laws text none = sound_some laws text
     (λ found are. let report = report_there found in none report.0 Found (record { found = found; are = Before are; told = report.1 }))
-    (λ items contracts program.
-    let named : ProgramText = record { text = text; items = items } in
+    (λ contracts resolved sound.
+    let named : ProgramText = record { text = text; items = resolved.items } in
     methods_some laws text (record { contracts = contracts; messages = messages_told named; structs = structs_told named; methods = methods_told named })
-    (record { items = items; program = program; messages = refl; structs = refl; methods = refl }) none)
+    (record { resolved = resolved; sound = sound; messages = refl; structs = refl; methods = refl }) none)

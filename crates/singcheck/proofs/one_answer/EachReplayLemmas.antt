@@ -47,7 +47,7 @@ pub ran_some : Replaying → (entry lines text : List ℕ) (p : ProgramModel) (n
     → ((bytes : List ℕ) (status : Status) → ¬ IsRan entry lines text bytes status) → ⊥
 ran_some laws entry lines text p n events entered told none = laws.bounds text p entered.has (λ bound are.
     laws.replays p bound n events (λ r is.
-    let names = struct_names text entered.has.items in
+    let names = struct_names text entered.has.resolved.items in
     none (replay_lines (record { program = p; structs = names }) events r.steps r.halt r.world) (stop_status r.halt) (record {
       program = p;
       n = n;
@@ -82,7 +82,7 @@ replay_some stages laws entry lines text none = sound_some stages text
     (λ found are.
     let report = report_there found in
     none (answered report.0 Found (OfFindings (record { found = found; are = are; told = report.1 }) refl)))
-    (λ items contracts program.
-    let named : ProgramText = record { text = text; items = items } in
+    (λ contracts resolved sound.
+    let named : ProgramText = record { text = text; items = resolved.items } in
     entered_some laws entry lines text (record { contracts = contracts; messages = messages_told named; structs = structs_told named; methods = methods_told named })
-    (record { items = items; program = program; messages = refl; structs = refl; methods = refl }) none)
+    (record { resolved = resolved; sound = sound; messages = refl; structs = refl; methods = refl }) none)

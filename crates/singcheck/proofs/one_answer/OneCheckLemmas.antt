@@ -16,11 +16,11 @@ use Rattle.singcheck.specs.Lines.{clear_line}
 use Rattle.singcheck.proofs.one_answer.OnlyLemmas.{Laws, found_or_sound, one_findings, one_program, some_in}
 use Rattle.singcheck.proofs.one_answer.SameLemmas.{AreAlike, alike_exactly, one_report}
 
-pub one_items : Laws → (text : List ℕ) (p q : ProgramModel) (one : HasProgram text p) (other : HasProgram text q) → one.items ≡ other.items
-one_items laws text p q one other = one_program laws text one.items other.items one.program.parsed other.program.parsed
+pub one_items : Laws → (text : List ℕ) (p q : ProgramModel) (one : HasProgram text p) (other : HasProgram text q) → one.resolved.items ≡ other.resolved.items
+one_items laws text p q one other = one_program laws text one.resolved.items other.resolved.items one.resolved.parsed other.resolved.parsed
 
 one_contracts : Laws → (text : List ℕ) (p q : ProgramModel) → HasProgram text p → HasProgram text q → p.contracts ≡ q.contracts
-one_contracts laws text p q one other = one.program.are ∙ ap (λ l. resolved_contracts text (contracts_of l)) (one_items laws text p q one other) ∙ sym other.program.are
+one_contracts laws text p q one other = one.resolved.are ∙ ap (λ l. resolved_contracts text (contracts_of l)) (one_items laws text p q one other) ∙ sym other.resolved.are
 
 one_messages : Laws → (text : List ℕ) (p q : ProgramModel) → HasProgram text p → HasProgram text q → p.messages ≡ q.messages
 one_messages laws text p q one other = one.messages ∙ ap (λ items. messages_told (record { text = text; items = items })) (one_items laws text p q one other) ∙ sym other.messages
@@ -41,7 +41,7 @@ one_seen laws text p q one other =
 
 -- what an earlier stage found is not found in a program with which nothing is wrong so far
 pub before_or_methods : Laws → (text : List ℕ) (found : List FindingModel) (p : ProgramModel) → AreFindings text found → HasProgram text p → ⊥
-before_or_methods laws text found p are has = found_or_sound laws text found p.contracts are (record { items = has.items; parsed = has.program.parsed; clean = has.program.clean; are = has.program.are }) has.program.sound
+before_or_methods laws text found p are has = found_or_sound laws text found p.contracts are has.resolved has.sound
 
 one_found : Laws → (text : List ℕ) (a b : List FindingModel) → AreCheckFindings text a → AreCheckFindings text b → AreAlike a b
 one_found laws text a b (Before x) (Before y) = one_findings laws text a b x y

@@ -49,11 +49,11 @@ module _ (known : ReplayLaws) (entry lines text a b : List ℕ) (s t : Status) (
   one_program : x.program ≡ y.program
   one_program = one_seen known.laws text x.program y.program x.entered.has y.entered.has
 
-  same_items : x.entered.has.items ≡ y.entered.has.items
+  same_items : x.entered.has.resolved.items ≡ y.entered.has.resolved.items
   same_items = one_items known.laws text x.program y.program x.entered.has y.entered.has
 
   one_method : x.n ≡ y.n
-  one_method = first_once (method_names text y.entered.has.items) entry x.n y.n
+  one_method = first_once (method_names text y.entered.has.resolved.items) entry x.n y.n
       (subst (λ items. IsFirstAt (method_names text items) entry x.n) same_items x.entered.at.named) y.entered.at.named
 
   one_events : x.events ≡ y.events
@@ -76,10 +76,10 @@ module _ (known : ReplayLaws) (entry lines text a b : List ℕ) (s t : Status) (
   same_bytes : x.replayed ≡ y.replayed → a ≡ b
   same_bytes same =
       x.are
-      ∙ ap (λ p. printed (struct_names text x.entered.has.items) p x.events x.replayed) one_program
+      ∙ ap (λ p. printed (struct_names text x.entered.has.resolved.items) p x.events x.replayed) one_program
       ∙ ap (λ items. printed (struct_names text items) y.program x.events x.replayed) same_items
-      ∙ ap (λ events. printed (struct_names text y.entered.has.items) y.program events x.replayed) one_events
-      ∙ ap (printed (struct_names text y.entered.has.items) y.program y.events) same
+      ∙ ap (λ events. printed (struct_names text y.entered.has.resolved.items) y.program events x.replayed) one_events
+      ∙ ap (printed (struct_names text y.entered.has.resolved.items) y.program y.events) same
       ∙ sym y.are
 
   ran_bytes : a ≡ b

@@ -8,7 +8,7 @@ use Rattle.std.proofs.lemmas.Bool.{cases_lt}
 use Rattle.std.proofs.lemmas.List.{append_assoc, append_cancel_right, take-take}
 use Rattle.std.proofs.lemmas.List.Elements.{All-contains}
 use Rattle.source.specs.Faults.{IsFault}
-use Rattle.source.specs.Findings.{FindingModel}
+use Rattle.source.specs.Findings.{FindingModel, fault_findings}
 use Rattle.source.specs.Tokens.{AreTokens}
 use Rattle.source.specs.declared.fault.TextFault.{TextFault}
 use Rattle.source.specs.declared.token.Token.{Token}
@@ -26,7 +26,7 @@ use Rattle.program.specs.declared.contract.Edge.{Edge}
 use Rattle.program.specs.declared.number.StateId.{StateId}
 use Rattle.contracts.specs.Bounds.{IsBound}
 use Rattle.contracts.specs.Conditions.{AreExactly, IsSound}
-use Rattle.singcheck.specs.Answers.{IsBoundsReport, AreFindings, IsBoundsLine, IsBroken, IsFaulty, IsMisnamed, IsNoProgram, IsProgram, IsResolved, OfText, OfSyntax, OfNames, OfContracts, fault_findings, wrong_token}
+use Rattle.singcheck.specs.Answers.{IsBoundsReport, AreFindings, IsBoundsLine, IsBroken, IsFaulty, IsMisnamed, IsNoProgram, IsProgram, IsResolved, OfText, OfSyntax, OfNames, OfContracts, wrong_token}
 use Rattle.singcheck.specs.Lines.{bounds_line, ok_line}
 use Rattle.singcheck.proofs.one_answer.SameLemmas.{AreAlike, alike_exactly, alike_same, nothing_in}
 use Rattle.machine.proofs.BoundLemmas.{least}
