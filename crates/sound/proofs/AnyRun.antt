@@ -228,18 +228,7 @@ fit_made : (p : ProgramModel) (m : MethodModel) (scope : ScopeAt) (point : ℕ) 
 fit_made p m scope point (New v arguments next) fit =
     ap (λ (o : Option VariableModel). is_end (option_map_or (λ x. x.ty) o no_type)) fit.there ∙ fit.block
 fit_made p m scope point (Act (NewChannel c) next) fit = (fit.contract, fit.contract_there)
-fit_made p m scope point (Act (Use v) next) fit = tt
-fit_made p m scope point (Act (Move v u) next) fit = tt
-fit_made p m scope point (Act (Delete v) next) fit = tt
-fit_made p m scope point (Act (Exchange e) next) fit = tt
-fit_made p m scope point (Send place e message payloads next) fit = tt
-fit_made p m scope point (Switch place cases) fit = tt
-fit_made p m scope point (Branch place branches) fit = tt
-fit_made p m scope point (Forget g next) fit = tt
-fit_made p m scope point (Call place method arguments target next) fit = tt
-fit_made p m scope point (Start place method arguments next) fit = tt
-fit_made p m scope point (Return place value last) fit = tt
-fit_made p m scope point (Stop place) fit = tt
+fit_made p m scope point _ fit = tt
 
 made_well : (p : ProgramModel) → AreGraphsFit p → AreMadeWell p
 made_well p graphs = record {

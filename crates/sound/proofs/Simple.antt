@@ -92,12 +92,6 @@ module _ (p : ProgramModel) (m : MethodModel) (well : IsWellFormed p m) where
 
   action_fit : (action : Action) (exit again here : Option VarId) (x a from next : ℕ) → IsAction (around exit again here) action
       → here_fits (one (graph.Act action)) here here (Out exit again x a) from next
-  action_fit (does.Use u) exit again here x a from next wf =
-      one_fits p m (graph.Act (does.Use u)) (in_scope m here) (in_scope m here) (Out exit again x a) from next
-      (λ scope is w out. keeps_here scope from next here is w)
-  action_fit (does.Delete u) exit again here x a from next wf =
-      one_fits p m (graph.Act (does.Delete u)) (in_scope m here) (in_scope m here) (Out exit again x a) from next
-      (λ scope is w out. keeps_here scope from next here is w)
   action_fit (does.Exchange e) exit again here x a from next wf =
       let s = around exit again here in
       let v = some_there (slice_get m.variables e.holder.variable.0)
@@ -153,6 +147,9 @@ module _ (p : ProgramModel) (m : MethodModel) (well : IsWellFormed p m) where
         second_scope = w c.second.variable.0 second_in;
         keeps = keeps_here scope from next here is w;
       })
+  action_fit action exit again here x a from next wf =
+      one_fits p m (graph.Act action) (in_scope m here) (in_scope m here) (Out exit again x a) from next
+      (λ scope is w out. keeps_here scope from next here is w)
 
   pub effect_fit : (does : Effect) (exit again here : Option VarId) (x a from next : ℕ) → IsEffect (around exit again here) does
       → Grown m exit here → Grown m again here → here_fits (lay_effect does x a) here here (Out exit again x a) from next

@@ -15,7 +15,7 @@ use Rattle.program.specs.declared.statement.Channel.{Channel}
 use Rattle.program.specs.declared.statement.Exchange as stated
 use Rattle.program.specs.declared.statement.Mention.{Mention}
 use Rattle.flow.specs.Cases.{EntranceModel, case_for, first_mentions}
-use Rattle.program.specs.declared.statement.Action.TheVariants.{Use, Move, Delete, Exchange, NewChannel}
+use Rattle.program.specs.declared.statement.Action.TheVariants.{Move, Exchange, NewChannel}
 use Rattle.flow.specs.Graphs.{Instruction, Act, New, Send, Switch, Branch, Forget, Call, Start}
 use Rattle.flow.specs.Graphs.{Return, Stop}
 use Rattle.flow.specs.Lowering.{graph_of}
@@ -134,11 +134,10 @@ module _ (p : ProgramModel) (m : MethodModel) (scope : ScopeAt) where
 
   -- an instruction at a point
   abbrev pub IsFit : ℕ → Instruction → Type 0
-  IsFit point (Act (Use v) next) = KeepsScope scope point next []
   IsFit point (Act (Exchange e) next) = IsExchangeFit point e next
   IsFit point (Act (NewChannel c) next) = IsChannelFit point c next
   IsFit point (Act (Move v w) next) = IsMoveFit point v.variable.0 w.variable.0 next
-  IsFit point (Act (Delete v) next) = KeepsScope scope point next []
+  IsFit point (Act action next) = KeepsScope scope point next []
   IsFit point (New v arguments next) = IsNewFit point v.variable.0 arguments next
   IsFit point (Send place e message payloads next) = IsSendFit point e.variable.0 message.0 payloads next
   IsFit point (Switch place cases) = IsSwitch point cases

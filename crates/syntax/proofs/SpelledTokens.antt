@@ -141,12 +141,8 @@ plain_tokens (form.Declare d) = declare_tokens d
 plain_tokens (form.Assign a) = assign_tokens a
 plain_tokens (form.Call c) = simp (list_all-append, call_tokens c)
 plain_tokens (form.Start span c) = simp (list_all-append, call_tokens c)
-plain_tokens (form.Delete span) = refl
-plain_tokens (form.Exchange e) = refl
-plain_tokens (form.NewChannel n) = refl
-plain_tokens (form.Break span) = refl
-plain_tokens (form.Continue span) = refl
 plain_tokens (form.Return span result) = simp (list_all-append, optional_tokens expression level_tokens result)
+plain_tokens _ = refl
 
 mutual
   statement_tokens : SpellsTokens statement

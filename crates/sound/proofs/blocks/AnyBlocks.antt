@@ -157,7 +157,7 @@ module _ (p : ProgramModel) (bound : QueueBounds) (w : World) (self : ℕ) (f : 
             (cases_Bool (y == x)),
       )
 
-  -- ---- Delete
+  -- ---- blocks that are freed
   pub delete_fits : (a : ℕ) → owns w.blocks self a ≡ true → RunFits p (change_each (freed_block (goes_with w.blocks a)) w.blocks)
   delete_fits a owned = record {
     fits = record {
@@ -171,7 +171,7 @@ module _ (p : ProgramModel) (bound : QueueBounds) (w : World) (self : ℕ) (f : 
         (cases_Bool (goes_with w.blocks a j));
   }
 
-  -- ---- Exchange
+  -- ---- a block and the one that a field holds change places
   pub exchange_fits : (at field given held : ℕ) → owns w.blocks self at ≡ true → owns w.blocks self given ≡ true → given ≢ at
       → slice_get (block_at w.blocks at).fields field ≡ Some held
       → RunFits p (change_each (exchanged_block self at field given held) w.blocks)
