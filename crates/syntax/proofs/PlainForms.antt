@@ -13,21 +13,21 @@ use Rattle.tree.specs.Expressions.{ExpressionTree, TargetTree, Variable, Field, 
 use Rattle.tree.specs.Values.{ValueTree, CallTree}
 use Rattle.tree.specs.StatementTrees.{PlainTree, Declare, Assign, Call, Start, Delete, Exchange, NewChannel, Break, Continue, Return}
 use Rattle.tree.specs.StatementGrammar.{exchange, plain}
-use Rattle.syntax.specs.StatementParts.{declared, jump, delete, start, return_parts}
+use Rattle.syntax.specs.StatementParts.{declared, jump, start, return_parts}
 use Rattle.tree.specs.declared.types as type_nodes
 use Rattle.program.specs.declared.types as kind_nodes
 use Rattle.program.specs.declared.types.Scalar.TheVariants as scalar
 use Rattle.tree.specs.declared.types.Type.TheVariants as type
 use Rattle.tree.specs.declared.types.Heap.TheVariants as heap
 use Rattle.syntax.specs.declared.fronts as parts
-use Rattle.syntax.proofs.pieces.Pieces.{Piece, ReadsOneWay, Follows, Meets, both, both_piece}
+use Rattle.syntax.proofs.pieces.Pieces.{Piece, ReadsOneWay, Follows, Meets, both, both_piece, next, via_piece}
 use Rattle.syntax.proofs.pieces.Beginnings.{Begins}
 use Rattle.syntax.proofs.pieces.Choices.{Form, FormOf, Same, Other, form_way}
-use Rattle.syntax.proofs.pieces.CursorLemmas.{named_piece}
+use Rattle.syntax.proofs.pieces.CursorLemmas.{fixed_piece, named_piece}
 use Rattle.syntax.proofs.pieces.KindLemmas.{apart_kinds}
 use Rattle.syntax.proofs.definitions.TypeRules.{scalar_type_piece}
 use Rattle.syntax.proofs.definitions.TypeForms.{scalar_form}
-use Rattle.syntax.proofs.PlainRules.{declared_piece, jump_piece, delete_piece, exchange_piece, start_piece, return_piece}
+use Rattle.syntax.proofs.PlainRules.{declared_piece, jump_piece, exchange_piece, start_piece, return_piece}
 use Rattle.syntax.proofs.PlainLeads.{assign_begins, begins_by, other}
 use Rattle.syntax.proofs.NameRests.{Passed, Written, Ended, Made, Member, Called, Indexed, Assigned, Pointed, Dotted, Bare}
 use Rattle.syntax.proofs.NamedForms.{named_way}
@@ -46,7 +46,21 @@ continue_form = record { first = record { each = λ x. record { head = Placed ki
     each (Continue span) = Same span refl
     each z = other kind.Continue z refl
 
-pub delete_form : Form plain delete Delete (is_kind kind.Delete)
+-- "delete" ID ";"
+
+abbrev pub deletes : Span → List Symbol
+deletes span = plain (Delete span)
+
+abbrev pub delete_to : Span → Unit {0} × (Span × Unit {0})
+delete_to span = (tt, (span, tt))
+
+abbrev pub delete_from : Unit {0} × (Span × Unit {0}) → Span
+delete_from p = p.1.0
+
+delete_piece : Piece deletes never (λ _. never)
+delete_piece = via_piece delete_to delete_from (λ _. refl) (next (fixed_piece kind.Delete) (next named_piece (fixed_piece kind.Semicolon)))
+
+pub delete_form : Form plain deletes Delete (is_kind kind.Delete)
 delete_form = record { first = record { each = λ x. record { head = Fixed kind.Delete; tail = _; is = refl; first = refl } }; same = λ x. refl; each = each }
   where
     each : (z : PlainTree) → FormOf plain Delete (is_kind kind.Delete) z

@@ -11,7 +11,7 @@ use Rattle.syntax.specs.ExpressionReads.{opens_expression, expression_on, expres
 use Rattle.tree.specs.Values.{ValueTree, CallTree, value_spelling, arguments}
 use Rattle.syntax.specs.ValueReads.{value_on, value_at}
 use Rattle.tree.specs.StatementGrammar.{init, exchange}
-use Rattle.syntax.specs.StatementParts.{init_on, result_on, declared, assigned, called, channel_ends, jump, delete, start, return_parts}
+use Rattle.syntax.specs.StatementParts.{init_on, result_on, declared, assigned, called, channel_ends, jump, start, return_parts}
 use Rattle.tree.specs.declared.statement as made
 use Rattle.syntax.specs.declared.statement_ends.ChannelEnds.{ChannelEnds}
 use Rattle.syntax.proofs.pieces.Pieces.{Piece, Follows, Meets, both, both_piece, next, via_piece, or_right}
@@ -107,17 +107,6 @@ jump_from p = p.0
 
 pub jump_piece : (opening : Kind) → Piece (jump opening) never (λ _. never)
 jump_piece opening = via_piece jump_to jump_from (λ _. refl) (next (placed_piece opening) (fixed_piece kind.Semicolon))
-
--- delete = "delete" ID ";" .
-
-abbrev pub delete_to : Span → Unit {0} × (Span × Unit {0})
-delete_to span = (tt, (span, tt))
-
-abbrev pub delete_from : Unit {0} × (Span × Unit {0}) → Span
-delete_from p = p.1.0
-
-pub delete_piece : Piece delete never (λ _. never)
-delete_piece = via_piece delete_to delete_from (λ _. refl) (next (fixed_piece kind.Delete) (next named_piece (fixed_piece kind.Semicolon)))
 
 -- call = ID [ dot_name ] arguments .
 

@@ -8,14 +8,14 @@ use Rattle.source.specs.declared.token.Span.{Span}
 use Rattle.tree.specs.Symbols.{Symbol, is_kind, kind_is, by_kind}
 use Rattle.tree.specs.Spelling.{word, token_at, name, sequence, optional, comma_list, parens}
 use Rattle.syntax.specs.Reading.{never, optional_at, listed_open_on, listed_open_at}
-use Rattle.tree.specs.Expressions.{ExpressionTree, expression}
+use Rattle.tree.specs.Expressions.{ExpressionTree}
 use Rattle.syntax.specs.ExpressionReads.{opens_expression, expression_on}
 use Rattle.tree.specs.ExpressionTrees.{expression_tree}
-use Rattle.tree.specs.Values.{ValueTree, CallTree, value_spelling, arguments, call}
+use Rattle.tree.specs.Values.{ValueTree, CallTree, value_spelling, arguments}
 use Rattle.syntax.specs.ValueReads.{value_on}
 use Rattle.tree.specs.declared.expression.Expression.{Expression}
-use Rattle.tree.specs.StatementTrees.{IfTree, SwitchTree}
-use Rattle.tree.specs.StatementGrammar.{init, awaited, bind, test, others, case}
+use Rattle.tree.specs.StatementTrees.{IfTree, SwitchTree, Start, Return}
+use Rattle.tree.specs.StatementGrammar.{init, awaited, bind, test, others, case, plain}
 use Rattle.syntax.specs.StatementFirsts.{others_at}
 use Rattle.tree.specs.declared.statement.Awaited.{Awaited}
 use Rattle.tree.specs.declared.statement.Bind.{Bind}
@@ -73,17 +73,13 @@ channel_ends c = sequence (token_at kind.NewChannel c.word ∷ token_at kind.Ope
 abbrev pub jump : Kind → Span → List Symbol
 jump opening span = sequence (token_at opening span ∷ word kind.Semicolon ∷ [])
 
--- delete = "delete" ID ";" .
-abbrev pub delete : Span → List Symbol
-delete span = sequence (word kind.Delete ∷ name span ∷ word kind.Semicolon ∷ [])
-
 -- start = "start" call ";" .
 abbrev pub start : Span × CallTree → List Symbol
-start p = sequence (token_at kind.Start p.0 ∷ call p.1 ∷ word kind.Semicolon ∷ [])
+start p = plain (Start p.0 p.1)
 
 -- return = "return" [ expression ] ";" .
 abbrev pub return_parts : Span × Option ExpressionTree → List Symbol
-return_parts p = sequence (token_at kind.Return p.0 ∷ optional expression p.1 ∷ word kind.Semicolon ∷ [])
+return_parts p = plain (Return p.0 p.1)
 
 -- by what an initial value, or none, could go on
 abbrev pub init_on : Symbol → Bool

@@ -12,7 +12,7 @@ use crate::cursor::{Cursor, Stuck};
 use crate::expressions::read_index;
 use crate::leads::{Lead, PlainLead};
 use crate::statement_ends::{
-    assigned, called, channel_ends, declared, delete, exchange, jump, return_statement, start,
+    assigned, called, channel_ends, declared, exchange, jump, return_statement, start,
 };
 use crate::types::{endpoint_end, is_side, pointer_tail, scalar_type};
 use source::{Kind, Span};
@@ -42,7 +42,12 @@ pub fn plain(alloc: Global, cursor: &mut Cursor<'_>, lead: PlainLead) -> Result<
             let call = Box::new(alloc, call)?;
             Ok(Plain::Start { word, call })
         }
-        PlainLead::Delete => Ok(Plain::Delete(delete(cursor)?)),
+        PlainLead::Delete => {
+            cursor.expect(Kind::Delete)?;
+            let name = cursor.name()?;
+            cursor.expect(Kind::Semicolon)?;
+            Ok(Plain::Delete(name))
+        }
         PlainLead::Exchange => Ok(Plain::Exchange(Box::new(alloc, exchange(cursor)?)?)),
         PlainLead::Break => Ok(Plain::Break(jump(cursor, Kind::Break)?)),
         PlainLead::Continue => Ok(Plain::Continue(jump(cursor, Kind::Continue)?)),

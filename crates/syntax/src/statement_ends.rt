@@ -4,15 +4,15 @@ ghost use Rattle.std.specs.Prelude.{◌≡◌, true};
 ghost use Rattle.std.specs.Option.{option_map};
 ghost use Rattle.tree.specs.Symbols.{is_placed, kind_is, is_kind, by_kind};
 ghost use Rattle.tree.specs.Spelling.{optional};
-ghost use Rattle.syntax.specs.Reading.{Reads, ReadsEnded, ReadsOption, optional_at, never};
+ghost use Rattle.syntax.specs.Reading.{Reads, ReadsEnded, ReadsOption, optional_at};
 ghost use Rattle.tree.specs.Expressions.{expression, dot_name};
-ghost use Rattle.syntax.specs.ExpressionReads.{opens_expression, expression_on, expression_at};
+ghost use Rattle.syntax.specs.ExpressionReads.{opens_expression, expression_at};
 ghost use Rattle.tree.specs.ExpressionTrees.{expression_tree};
 ghost use Rattle.tree.specs.Values.{value_tree, call_tree, call};
 ghost use Rattle.syntax.specs.ValueReads.{value_on, value_at};
 ghost use Rattle.tree.specs.StatementGrammar.{init, exchange};
 ghost use Rattle.syntax.specs.StatementParts.{init_on, result_on, declared, assigned, called, called_tree};
-ghost use Rattle.syntax.specs.StatementParts.{channel_ends, jump, delete, start, return_parts};
+ghost use Rattle.syntax.specs.StatementParts.{channel_ends, jump, start, return_parts};
 
 use crate::cursor::{Cursor, Stuck};
 use crate::expressions::{dot_name, is_expression, read_expression};
@@ -108,16 +108,6 @@ pub fn jump(cursor: &mut Cursor<'_>, kind: Kind) -> Result<Span, Stuck>
     let word = cursor.expect_span(kind)?;
     cursor.expect(Kind::Semicolon)?;
     Ok(word)
-}
-
-/// delete = "delete" ID ";" .
-pub fn delete(cursor: &mut Cursor<'_>) -> Result<Span, Stuck>
-    ensures { ReadsEnded (λ x. x) delete cursor.old cursor.new result }
-{
-    cursor.expect(Kind::Delete)?;
-    let name = cursor.name()?;
-    cursor.expect(Kind::Semicolon)?;
-    Ok(name)
 }
 
 /// exchange = "exchange" "(" ID "." ID "," ID ")" ";" .

@@ -1,7 +1,9 @@
-use Rattle.std.proofs.Common.{Some, ap, ◌∙◌}
+use Rattle.std.proofs.Common.{Some, ap, refl, ◌∙◌}
 use Rattle.syntax.proofs.pieces.Exits.{exits}
-use Rattle.syntax.proofs.pieces.Pieces.{fails_here, fails_first, fails_second}
+use Rattle.syntax.proofs.pieces.Pieces.{fails_after, fails_here, fails_first, fails_second, next, via_fails}
 use Rattle.syntax.proofs.pieces.Choices.{form_fails}
+use Rattle.syntax.proofs.pieces.CursorLemmas.{fixed_piece, named_piece}
+use Rattle.source.specs.declared.kind.Kind.TheVariants as kind
 use Rattle.tree.specs.StatementTrees.{plain_tree}
 use Rattle.tree.specs.StatementGrammar.{plain}
 use Rattle.syntax.specs.Reading.{never}
@@ -12,7 +14,7 @@ use Rattle.syntax.proofs.PlainRules.{declared_piece}
 use Rattle.syntax.proofs.NameRests.{name_rest_piece}
 use Rattle.syntax.proofs.NamedForms.{named_form}
 use Rattle.syntax.proofs.PlainLeads.{plain_leads}
-use Rattle.syntax.proofs.PlainForms.{break_form, continue_form, delete_form, exchange_form, return_form, start_form, scalar_declared_form, declared_follows}
+use Rattle.syntax.proofs.PlainForms.{break_form, continue_form, delete_form, delete_from, delete_to, exchange_form, return_form, start_form, scalar_declared_form, declared_follows}
 use Rattle.syntax.proofs.plain.plain.Goals as goal
 
 pub returns-in_err-name-in-Name : goal.returns-in_err-name-in-Name
@@ -31,9 +33,17 @@ pub returns-in_err-word-in-Start : goal.returns-in_err-word-in-Start
 returns-in_err-word-in-Start c = exits plain_tree plain never (λ _. never) _ _ _ _ _ c.from_residual-in_err-word-in-Start.ensures.1 c.in_err-word-in-Start.ensures
     (λ h. form_fails start_form (plain_leads plain_lead.Start _ (c.requires ∙ ap (λ s. Some (lead.Plain s)) c.in-Start.is)) h)
 
-pub returns-in_err-delete-in-Delete : goal.returns-in_err-delete-in-Delete
-returns-in_err-delete-in-Delete c = exits plain_tree plain never (λ _. never) _ _ _ _ _ c.from_residual-in_err-delete-in-Delete.ensures.1 c.in_err-delete-in-Delete.ensures
-    (λ h. form_fails delete_form (plain_leads plain_lead.Delete _ (c.requires ∙ ap (λ s. Some (lead.Plain s)) c.in-Delete.is)) h)
+pub returns-in_err-expect-in-Delete : goal.returns-in_err-expect-in-Delete
+returns-in_err-expect-in-Delete c = exits plain_tree plain never (λ _. never) _ _ _ _ _ c.from_residual-in_err-expect-in-Delete.ensures.1 c.in_err-expect-in-Delete.ensures
+    (λ h. form_fails delete_form (plain_leads plain_lead.Delete _ (c.requires ∙ ap (λ s. Some (lead.Plain s)) c.in-Delete.is)) (via_fails delete_to delete_from (λ _. refl) (fails_here h (next named_piece (fixed_piece kind.Semicolon)))))
+
+pub returns-in_err-name-in-Delete : goal.returns-in_err-name-in-Delete
+returns-in_err-name-in-Delete c = exits plain_tree plain never (λ _. never) _ _ _ _ _ c.from_residual-in_err-name-in-Delete.ensures.1 c.in_err-name-in-Delete.ensures
+    (λ h. form_fails delete_form (plain_leads plain_lead.Delete _ (c.requires ∙ ap (λ s. Some (lead.Plain s)) c.in-Delete.is)) (via_fails delete_to delete_from (λ _. refl) (fails_after tt (fixed_piece kind.Delete) c.in_ok-expect-in-Delete.ensures (fails_here h (fixed_piece kind.Semicolon)))))
+
+pub returns-in_err-expect-in-Delete-2 : goal.returns-in_err-expect-in-Delete-2
+returns-in_err-expect-in-Delete-2 c = exits plain_tree plain never (λ _. never) _ _ _ _ _ c.from_residual-in_err-expect-in-Delete-2.ensures.1 c.in_err-expect-in-Delete-2.ensures
+    (λ h. form_fails delete_form (plain_leads plain_lead.Delete _ (c.requires ∙ ap (λ s. Some (lead.Plain s)) c.in-Delete.is)) (via_fails delete_to delete_from (λ _. refl) (fails_after tt (fixed_piece kind.Delete) c.in_ok-expect-in-Delete.ensures (fails_after c.in_ok-name-in-Delete.name named_piece c.in_ok-name-in-Delete.ensures h))))
 
 pub returns-in_err-exchange-in-Exchange : goal.returns-in_err-exchange-in-Exchange
 returns-in_err-exchange-in-Exchange c = exits plain_tree plain never (λ _. never) _ _ _ _ _ c.from_residual-in_err-exchange-in-Exchange.ensures.1 c.in_err-exchange-in-Exchange.ensures
