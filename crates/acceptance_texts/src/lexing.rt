@@ -3,6 +3,7 @@
 mod findings;
 mod slow;
 
+use source::laws::each_kind_is_listed;
 use source::{ALL_KINDS, Kind, MAX_TEXT, Place, TextFault, lex, text_of};
 use std::alloc::Global;
 use std::test::Fail;
@@ -133,6 +134,7 @@ fn reserved_words(rt: HostRuntime) -> Result<(), Fail> {
 
 #[test]
 fn kinds_as_they_are_written(rt: HostRuntime) -> Result<(), Fail> {
+    each_kind_is_listed();
     assert_eq!(rt; text_of(Kind::Name), "");
     assert_eq!(rt; text_of(Kind::Number), "");
     assert_eq!(rt; text_of(Kind::ChannelClosed), "ChannelClosed");

@@ -1,5 +1,6 @@
 //! The parser against a slow reading of the grammar.
 
+mod beginnings;
 mod expressions;
 mod recogniser;
 

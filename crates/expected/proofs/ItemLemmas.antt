@@ -4,11 +4,10 @@ use Rattle.std.proofs.Math.Seq.{drop-cons}
 use Rattle.std.proofs.Math.Nat.{eq-or-lt_of_le}
 use Rattle.std.proofs.lemmas.List.{length-drop}
 use Rattle.std.specs.Prelude.{codes}
-use Rattle.std.specs.List.{list_all}
 use Rattle.source.specs.declared.kind.Kind.{Kind}
 use Rattle.expected.specs.declared.groups.Group.{Group}
 use Rattle.expected.specs.KindWords.{word_of}
-use Rattle.expected.specs.Grouping.{has, without, word_of_group, kinds_of_group, items_of}
+use Rattle.expected.specs.Grouping.{has_all, without, word_of_group, items_of}
 use Rattle.expected.specs.Expectations.{rest_of_items}
 
 drop_one : {X : Type 0} (xs : List X) (i : ℕ) (d : X) → i < length xs → drop i xs ≡ get_or xs i d ∷ drop (i + 1) xs
@@ -18,24 +17,24 @@ pub items_single : (kinds : List Kind) → items_of [] kinds ≡ map word_of kin
 unfolding items_of
 items_single kinds = refl
 
-items_next : (g : Group) (gs : List Group) (kinds : List Kind) (b : Bool) → list_all (has kinds) (kinds_of_group g) ≡ b
-    → items_of (g ∷ gs) kinds ≡ cond b (word_of_group g ∷ items_of gs (without (kinds_of_group g) kinds)) (items_of gs kinds)
+items_next : (g : Group) (gs : List Group) (kinds : List Kind) (b : Bool) → has_all kinds g ≡ b
+    → items_of (g ∷ gs) kinds ≡ cond b (word_of_group g ∷ items_of gs (without g kinds)) (items_of gs kinds)
 unfolding items_of
-items_next g gs kinds b is = ap (λ t. cond t (word_of_group g ∷ items_of gs (without (kinds_of_group g) kinds)) (items_of gs kinds)) is
+items_next g gs kinds b is = ap (λ t. cond t (word_of_group g ∷ items_of gs (without g kinds)) (items_of gs kinds)) is
 
 -- a group that is named
 pub items_taken : (gs : List Group) (i : ℕ) (d : Group) (kinds : List Kind) (words : List (List ℕ)) → i < length gs
-    → list_all (has kinds) (kinds_of_group (get_or gs i d)) ≡ true
-    → (words ++ word_of_group (get_or gs i d) ∷ []) ++ items_of (drop (i + 1) gs) (without (kinds_of_group (get_or gs i d)) kinds)
+    → has_all kinds (get_or gs i d) ≡ true
+    → (words ++ word_of_group (get_or gs i d) ∷ []) ++ items_of (drop (i + 1) gs) (without (get_or gs i d) kinds)
     ≡ words ++ items_of (drop i gs) kinds
 items_taken gs i d kinds words within all =
     let g = get_or gs i d in
-    append_assoc words (word_of_group g ∷ []) (items_of (drop (i + 1) gs) (without (kinds_of_group g) kinds))
+    append_assoc words (word_of_group g ∷ []) (items_of (drop (i + 1) gs) (without g kinds))
     ∙ ap (λ ws. words ++ ws) (sym (ap (λ hs. items_of hs kinds) (drop_one gs i d within) ∙ items_next g (drop (i + 1) gs) kinds true all))
 
 -- and one that is not
 pub items_passed : (gs : List Group) (i : ℕ) (d : Group) (kinds : List Kind) (words : List (List ℕ)) → i < length gs
-    → list_all (has kinds) (kinds_of_group (get_or gs i d)) ≡ false
+    → has_all kinds (get_or gs i d) ≡ false
     → words ++ items_of (drop (i + 1) gs) kinds ≡ words ++ items_of (drop i gs) kinds
 items_passed gs i d kinds words within all =
     let g = get_or gs i d in

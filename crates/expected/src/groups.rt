@@ -1,9 +1,10 @@
 //! Groups of kinds that a message names by one word.
 
 ghost use Rattle.std.specs.Prelude.{◌≡◌};
-ghost use Rattle.expected.specs.Grouping.{word_of_group, kinds_of_group};
+ghost use Rattle.expected.specs.Grouping.{has, is_of, word_of_group};
 
 use source::Kind;
+use syntax::{begins_expression, begins_statement, begins_value};
 
 /// Kinds of tokens that stand for one thing: those that begin it, or those that are it.
 #[derive(Clone, Copy, Debug, PartialEq, Eq)]
@@ -40,44 +41,6 @@ pub(crate) fn word_of_group(group: Group) -> &'static str
     }
 }
 
-static STATEMENTS: [Kind; 14] = [
-    Kind::Name,
-    Kind::Bool,
-    Kind::Break,
-    Kind::Byte,
-    Kind::Continue,
-    Kind::Delete,
-    Kind::Exchange,
-    Kind::If,
-    Kind::Int,
-    Kind::Return,
-    Kind::Start,
-    Kind::Switch,
-    Kind::While,
-    Kind::OpenBrace,
-];
-
-static VALUES: [Kind; 8] = [
-    Kind::Name,
-    Kind::Number,
-    Kind::False,
-    Kind::True,
-    Kind::New,
-    Kind::OpenParen,
-    Kind::Bang,
-    Kind::Minus,
-];
-
-static EXPRESSIONS: [Kind; 7] = [
-    Kind::Name,
-    Kind::Number,
-    Kind::False,
-    Kind::True,
-    Kind::OpenParen,
-    Kind::Bang,
-    Kind::Minus,
-];
-
 static OPERATORS: [Kind; 11] = [
     Kind::Star,
     Kind::EqualEqual,
@@ -92,16 +55,23 @@ static OPERATORS: [Kind; 11] = [
     Kind::OrOr,
 ];
 
-/// The kinds of a group.
-pub(crate) fn kinds_of_group(group: Group) -> &'static [Kind]
-    ensures { result.now ≡ kinds_of_group group }
+/// Whether a kind is one of these.
+pub(crate) fn has(kinds: &[Kind], kind: Kind) -> bool
+    ensures { result ≡ has kinds.now kind }
+{
+    kinds.iter().any(|other| *other == kind)
+}
+
+/// Whether a kind is of a group.
+pub(crate) fn is_of(kind: Kind, group: Group) -> bool
+    ensures { result ≡ is_of kind group }
 {
     match group {
-        Group::Statement => &STATEMENTS,
-        Group::Value => &VALUES,
-        Group::Expression => &EXPRESSIONS,
-        Group::Operator => &OPERATORS,
-        Group::Scalar => &[Kind::Bool, Kind::Byte, Kind::Int],
-        Group::Access => &[Kind::Internal, Kind::Private, Kind::Public],
+        Group::Statement => begins_statement(kind),
+        Group::Value => begins_value(kind),
+        Group::Expression => begins_expression(kind),
+        Group::Operator => has(&OPERATORS, kind),
+        Group::Scalar => has(&[Kind::Bool, Kind::Byte, Kind::Int], kind),
+        Group::Access => has(&[Kind::Internal, Kind::Private, Kind::Public], kind),
     }
 }

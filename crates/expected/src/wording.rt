@@ -1,15 +1,14 @@
 //! What a person reads of the kinds of tokens that are expected.
 
-ghost use Rattle.std.specs.Prelude.{◌≡◌, ◌++◌, map, filter, not, IfOk, OnOk};
-ghost use Rattle.std.specs.List.{list_all};
+ghost use Rattle.std.specs.Prelude.{◌≡◌, ◌++◌, map, IfOk, OnOk};
 ghost use Rattle.std.specs.String.{string_bytes};
-ghost use Rattle.expected.specs.Grouping.{has, without, items_of};
+ghost use Rattle.expected.specs.Grouping.{has_all, without, items_of};
 ghost use Rattle.expected.specs.KindWords.{word_of};
 ghost use Rattle.expected.specs.Expectations.{rest_of_items, item_list, listed_items, expectation_of};
 ghost use Rattle.expected.specs.declared.groups.TheConstants.{GROUPS};
 
-use crate::groups::{GROUPS, kinds_of_group, word_of_group};
-use source::{Kind, Memory, text_of};
+use crate::groups::{GROUPS, Group, has, is_of, word_of_group};
+use source::{ALL_KINDS, Kind, Memory, text_of};
 use std::alloc::Global;
 
 /// How many items a text lists. If there are more, it says how many.
@@ -26,27 +25,23 @@ pub fn word_of(kind: Kind) -> &'static str
     }
 }
 
-/// Whether a kind is one of these.
-fn has(kinds: &[Kind], kind: Kind) -> bool
-    ensures { result ≡ has kinds.now kind }
+/// Whether all kinds of a group are among these.
+#[tactic(auto, unfolding(crate::specs::Grouping::has_all))]
+fn has_all(kinds: &[Kind], group: Group) -> bool
+    ensures { result ≡ has_all kinds.now group }
 {
-    kinds.iter().any(|other| *other == kind)
+    ALL_KINDS
+        .iter()
+        .all(|kind| !is_of(*kind, group) || has(kinds, *kind))
 }
 
-/// Whether all of `members` are among these kinds.
-fn has_all(kinds: &[Kind], members: &[Kind]) -> bool
-    ensures { result ≡ list_all (has kinds.now) members.now }
-{
-    members.iter().all(|kind| has(kinds, *kind))
-}
-
-/// These kinds, without those of `members`.
-fn without(alloc: Global, members: &[Kind], kinds: &[Kind]) -> Result<Vec<Kind>, Memory>
-    ensures { IfOk result (λ left. left.items ≡ without members.now kinds.now) }
+/// These kinds, without those of a group.
+fn without(alloc: Global, group: Group, kinds: &[Kind]) -> Result<Vec<Kind>, Memory>
+    ensures { IfOk result (λ left. left.items ≡ without group kinds.now) }
 {
     let mut left = Vec::new(alloc);
     for kind in kinds {
-        if !has(members, *kind) {
+        if !is_of(*kind, group) {
             left.push(*kind)?;
         }
     }
@@ -72,10 +67,9 @@ fn items_for(alloc: Global, kinds: &[Kind]) -> Result<Vec<&'static str>, Memory>
     let mut left = Vec::with_capacity(alloc, kinds.len())?;
     left.extend_from_slice(kinds)?;
     for group in &GROUPS {
-        let members = kinds_of_group(*group);
-        if has_all(&left, members) {
+        if has_all(&left, *group) {
             words.push(word_of_group(*group))?;
-            left = without(alloc, members, &left)?;
+            left = without(alloc, *group, &left)?;
         }
     }
     add_words(&mut words, &left)?;

@@ -8,6 +8,7 @@ mod contracts;
 mod cursor;
 mod expressions;
 mod fault;
+mod firsts;
 mod fitted;
 mod fronts;
 mod items;
@@ -25,6 +26,7 @@ mod types;
 mod values;
 
 pub use fault::SyntaxFault;
+pub use firsts::{begins_expression, begins_statement, begins_value};
 pub use laws::{one_tree_a_spelling, tokens_are_parsed};
 pub use parsing::parse;
 pub use tree::Tree;

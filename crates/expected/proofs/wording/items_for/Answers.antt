@@ -1,10 +1,9 @@
 use Rattle.std.proofs.Common.{◌≡◌, ◌++◌, ◌+◌, ℕ, List, [], ◌∷◌, drop, map, get_or, sym, ap, ◌∙◌, arith, Bor}
-use Rattle.std.specs.List.{list_all}
 use Rattle.std.proofs.lemmas.List.{map-append}
 use Rattle.std.proofs.Math.ListN.{drop_of_length-le}
 use Rattle.expected.specs.declared.groups.Group.TheVariants.{Statement}
 use Rattle.expected.specs.declared.groups.TheConstants.{GROUPS}
-use Rattle.expected.specs.Grouping.{has, items_of, kinds_of_group, without, word_of_group}
+use Rattle.expected.specs.Grouping.{has_all, items_of, without, word_of_group}
 use Rattle.expected.specs.KindWords.{word_of}
 use Rattle.expected.proofs.ItemLemmas.{items_single, items_taken, items_passed}
 use Rattle.expected.proofs.wording.items_for.Goals as goal
@@ -24,17 +23,14 @@ loop-group-preserved c =
     let g = get_or GROUPS i Statement in
     let left = c.loop-group.left.items in
     let old = c.loop-group.words.items in
-    let members = c.kinds_of_group-members in
-    let tested : c.has_all.result ≡ list_all (has left) (kinds_of_group g) =
-    c.has_all.ensures ∙ ap (λ ks. list_all (has ks) members.result.now) c.deref.ensures.value ∙ ap (list_all (has left)) members.ensures in
+    let tested : c.has_all.result ≡ has_all left g = c.has_all.ensures ∙ ap (λ ks. has_all ks g) c.deref.ensures.value in
     elim c.if-has_all.branch [
       | then-has_all+in_ok-push+in_ok-left-2 w ↦
           let mapped : map word_now c.if-has_all.words.items ≡ map word_now old ++ word_of_group g ∷ [] =
           ap (λ v. map word_now v.items) w.words-is ∙ ap (map word_now) w.in_ok-push.ensures.items
           ∙ map-append word_now old (w.word_of_group.result ∷ []) ∙ ap (λ t. map word_now old ++ t ∷ []) w.word_of_group.ensures in
-          let kept : c.if-has_all.left.items ≡ without (kinds_of_group g) left =
-          ap (λ v. v.items) w.left-is ∙ w.in_ok-left-2.ensures ∙ ap (without members.result.now) w.deref-then-has_all.ensures.value
-          ∙ ap (λ ms. without ms left) members.ensures in
+          let kept : c.if-has_all.left.items ≡ without g left =
+          ap (λ v. v.items) w.left-is ∙ w.in_ok-left-2.ensures ∙ ap (without g) w.deref-then-has_all.ensures.value in
           ap (λ words. words ++ items_of (drop (i + 1) GROUPS) c.if-has_all.left.items) mapped
           ∙ ap (λ ks. (map word_now old ++ word_of_group g ∷ []) ++ items_of (drop (i + 1) GROUPS) ks) kept
           ∙ items_taken GROUPS i Statement left (map word_now old) c.loop-group-test.true (sym tested ∙ w.if-has_all.true) ∙ c.loop-group.invariant
