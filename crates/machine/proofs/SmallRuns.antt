@@ -76,6 +76,9 @@ opens statements = record {
 abbrev sends : ℕ → StatementModel
 sends n = Send record { reads = []; place = at; endpoint = mention 1; message = record { 0 = 0 }; payloads = mention n ∷ [] }
 
+abbrev pub frees : Mention → StatementModel
+frees v = Simple [] (effects.Act (does.Delete v))
+
 -- it makes a struct of what is given
 abbrev makes : List Mention → StatementModel
 makes arguments = New record { reads = []; target = mention 2; arguments = arguments }
@@ -123,14 +126,14 @@ read_then = refl
 
 -- an end is sent along the other one, to itself, and the other one is freed: the process has nothing where it ends
 abbrev sends_an_end : ProgramModel
-sends_an_end = opens (sends 0 ∷ Simple [] (effects.Act (does.Delete (mention 1))) ∷ [])
+sends_an_end = opens (sends 0 ∷ frees (mention 1) ∷ [])
 
 pub end_sent : owners (blocks_of (three sends_an_end)) ≡ Queue 0 ∷ Freed ∷ []
 end_sent = refl
 
 -- the importing end is freed, a struct is sent all the same, and goes to the channel
 abbrev sends_to_nobody : ProgramModel
-sends_to_nobody = opens (Simple [] (effects.Act (does.Delete (mention 0))) ∷ makes [] ∷ sends 2 ∷ [])
+sends_to_nobody = opens (frees (mention 0) ∷ makes [] ∷ sends 2 ∷ [])
 
 pub lost_then : owners (blocks_of (four sends_to_nobody)) ≡ Freed ∷ Process 0 ∷ Channel ∷ []
 lost_then = refl
@@ -162,7 +165,7 @@ deletes = record {
   contracts = once ∷ [];
   messages = (Struct record { 0 = 0 } ∷ []) ∷ [];
   structs = [];
-  methods = method (row (Simple [] (effects.Act (does.Delete (mention 2))) ∷ [])) ∷ [];
+  methods = method (row (frees (mention 2) ∷ [])) ∷ [];
 }
 
 -- A struct holds a struct, which holds one more, and an end. In the queue of that is a struct, which holds one itself.

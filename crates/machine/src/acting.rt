@@ -1,6 +1,8 @@
-//! Actions.
+//! Actions: which function does one, and how a block is freed.
 
 ghost use Rattle.std.specs.Prelude.{◌≡◌, ℕ, OnErr};
+ghost use Rattle.program.specs.Programs.{ProgramModel};
+ghost use Rattle.program.specs.declared.statement.Action.TheVariants as does;
 ghost use Rattle.flow.specs.Graphs.{Act};
 ghost use Rattle.rules.specs.Programs.{model_of};
 ghost use Rattle.machine.specs.Answers.{TellsFrame};
@@ -8,13 +10,15 @@ ghost use Rattle.machine.specs.Outcomes.{QueueBounds};
 ghost use Rattle.machine.specs.Views.{frame_model, heap_model};
 
 use crate::exchanging::exchange;
-use crate::halts::Refusal;
+use crate::halts::{Fault, Refusal};
 use crate::heaps::BlockHeap;
 use crate::instructing::Turn;
-use crate::owning::{delete, new_channel};
+use crate::owning::new_channel;
 use crate::quiet::{move_, use_};
+use crate::reading::own;
 use crate::worlds::Frame;
-use program::Action;
+use program::{Action, Mention};
+use std::alloc::Global;
 
 /// Something is done with what variables and fields have.
 pub(crate) fn act(
@@ -41,4 +45,28 @@ pub(crate) fn act(
         Action::Exchange(exchanged) => exchange(frame, heap, process, exchanged, next),
         Action::NewChannel(channel) => new_channel(turn, frame, heap, channel, next),
     }
+}
+
+/// Frees what a variable has.
+fn delete(
+    alloc: Global,
+    frame: &mut Frame,
+    heap: &mut BlockHeap,
+    process: usize,
+    at: Mention,
+    next: usize,
+) -> Result<(), Refusal>
+    ensures tells { (p : ProgramModel) (bound : QueueBounds)
+        → TellsFrame p bound process (Act (does.Delete at) next) 0 result
+        (frame_model frame.old, heap_model heap.old) (frame_model frame.new, heap_model heap.new) }
+    ensures same { OnErr result (frame_model frame.new ≡ frame_model frame.old) }
+    ensures same_blocks { OnErr result (heap_model heap.new ≡ heap_model heap.old) }
+{
+    let Some(a) = own(heap.blocks(), process, frame.has(at)) else {
+        return Err(Refusal::Fault(Fault::F2));
+    };
+    heap.free(alloc, a);
+    frame.put(at, None);
+    frame.point = next;
+    Ok(())
 }

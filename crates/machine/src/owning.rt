@@ -1,7 +1,6 @@
-//! Instructions that make and free blocks.
+//! Instructions that make blocks.
 
 ghost use Rattle.std.specs.Prelude.{◌≡◌, ◌+◌, ◌++◌, ◌∷◌, [], IfErr, OnErr, OnOk, length};
-ghost use Rattle.program.specs.Programs.{ProgramModel};
 ghost use Rattle.program.specs.declared.statement.Action.TheVariants as does;
 ghost use Rattle.flow.specs.Graphs.{Act, New};
 ghost use Rattle.program.specs.declared.types.Side.TheVariants.{Imp, Exp};
@@ -16,7 +15,6 @@ use crate::heaps::BlockHeap;
 use crate::instructing::Turn;
 use crate::mentions::type_at;
 use crate::payloads::{are_unsent, lets_payloads_go, payload_addresses};
-use crate::reading::own;
 use crate::worlds::{Block, Frame, Owner};
 use program::{Channel, HeapType, Mention, Side, StateId};
 use std::alloc::Global;
@@ -76,30 +74,6 @@ fn new_alone(
     let made = new_block(turn.alloc, turn.process, ty, 0, StateId(0));
     heap.add_alone(turn.process, made)?;
     frame.put(at, Some(address));
-    frame.point = next;
-    Ok(())
-}
-
-/// Frees a block.
-pub(crate) fn delete(
-    alloc: Global,
-    frame: &mut Frame,
-    heap: &mut BlockHeap,
-    process: usize,
-    at: Mention,
-    next: usize,
-) -> Result<(), Refusal>
-    ensures tells { (p : ProgramModel) (bound : QueueBounds)
-        → TellsFrame p bound process (Act (does.Delete at) next) 0 result
-        (frame_model frame.old, heap_model heap.old) (frame_model frame.new, heap_model heap.new) }
-    ensures same { OnErr result (frame_model frame.new ≡ frame_model frame.old) }
-    ensures same_blocks { OnErr result (heap_model heap.new ≡ heap_model heap.old) }
-{
-    let Some(a) = own(heap.blocks(), process, frame.has(at)) else {
-        return Err(Refusal::Fault(Fault::F2));
-    };
-    heap.free(alloc, a);
-    frame.put(at, None);
     frame.point = next;
     Ok(())
 }

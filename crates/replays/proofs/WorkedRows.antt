@@ -26,6 +26,7 @@ use Rattle.program.specs.declared.statement.Awaited.{Awaited}
 use Rattle.program.specs.declared.statement.Awaited.TheVariants as awaits
 use Rattle.program.specs.declared.statement.Mention.{Mention}
 use Rattle.program.specs.declared.statement.Ways.TheVariants.{Body}
+use Rattle.machine.proofs.SmallRuns.{frees}
 use Rattle.machine.specs.Machine.{event_outcome}
 use Rattle.machine.specs.Outcomes.{QueueBounds, Outcome, Moved, Faulty, Waits, NoProcess, NoChoice}
 use Rattle.machine.specs.Places.{process_place}
@@ -96,7 +97,7 @@ abbrev makes : (line col : ℕ) → List Mention → StatementModel
 makes line col arguments = New record { reads = []; target = mention 2 line col; arguments = arguments }
 
 abbrev deletes : ℕ → StatementModel
-deletes v = acts (does.Delete (mention v 1 1))
+deletes v = frees (mention v 1 1)
 
 -- a case that does these, and then leaves its switch
 abbrev comes : ℕ → Awaited → List StatementModel → CaseModel

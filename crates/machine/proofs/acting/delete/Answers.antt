@@ -2,7 +2,7 @@ use Rattle.std.proofs.Common.{◌≡◌, sym, ap, ◌∙◌, true}
 use Rattle.machine.specs.BlockViews.{blocks_model}
 use Rattle.machine.specs.World.{block_at, is_own, owns}
 use Rattle.machine.proofs.HeapLemmas.{of_some}
-use Rattle.machine.proofs.owning.delete.Goals as goal
+use Rattle.machine.proofs.acting.delete.Goals as goal
 
 pub free-requires : goal.free-requires
 free-requires c =
