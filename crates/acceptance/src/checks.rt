@@ -1,6 +1,10 @@
 //! Whole checks on worked texts, and on devices and memory that fail.
 
 use crate::failing_devices::{Card, Page, Text};
+use crate::texts::{
+    CLAIMED_TWICE, FREED_IN_A_LOOP, FREED_ON_BOTH_WAYS, FREED_ON_ONE_WAY, FREED_TWICE, HANDED_ON,
+    KEPT_AT_A_BREAK, NOTHING_GIVEN,
+};
 use singcheck::laws::one_check;
 use singcheck::{Counted, Input, Open, RunFault, Status, run_check};
 use std::sync::Wait;
@@ -9,43 +13,9 @@ use std::thread::Threads;
 
 const NEVER: u64 = 0;
 
-const FREED_TWICE: &str =
-    "rep struct D { int n; } class K { static void F() { D* in ExHeap p = new[ExHeap] D(); delete p; delete p; } }";
-
 const FREED_TWICE_ANSWER: &str = "1:104 A01 p not owned\nfindings: 1\n";
 
-const HANDED_ON: &str =
-    "rep struct D { int n; } class K { static void F([Claims] D* in ExHeap p) { D* in ExHeap q = p; q.n = 1; delete q; } \
-        static void G() { } }";
-
 const HANDED_ON_ANSWER: &str = "ok: 0 contracts, 2 methods\n";
-
-/// Freed on one way of an `if`.
-const FREED_ON_ONE_WAY: &str =
-    "rep struct D { int n; }\nclass K {\nstatic void F(bool b) {\nD* in ExHeap p = new[ExHeap] D();\nif (b) { delete p; }\n}\n}";
-
-/// Freed on both.
-const FREED_ON_BOTH_WAYS: &str =
-    "rep struct D { int n; }\nclass K {\nstatic void F(bool b) {\nD* in ExHeap p = new[ExHeap] D();\n\
-        if (b) { delete p; } else { delete p; }\n}\n}";
-
-/// Kept where a loop is left.
-const KEPT_AT_A_BREAK: &str =
-    "rep struct D { int n; }\nclass K {\nstatic void F(bool b) {\nwhile (b) {\nD* in ExHeap p = new[ExHeap] D();\nif (b) { break; }\n\
-        delete p;\n}\n}\n}";
-
-/// Freed each time a loop turns.
-const FREED_IN_A_LOOP: &str =
-    "rep struct D { int n; }\nclass K {\nstatic void F(bool b) {\nD* in ExHeap p = new[ExHeap] D();\nwhile (b) { delete p; }\n}\n}";
-
-/// A claimed block is given twice in one call.
-const CLAIMED_TWICE: &str =
-    "rep struct D { int n; }\nclass K {\nstatic void F([Claims] D* in ExHeap a, [Claims] D* in ExHeap b) { delete a; delete b; }\n\
-        static void G([Claims] D* in ExHeap x) {\nF(x, x);\n}\n}";
-
-/// A method ends without giving what it owes, and its caller frees what it got.
-const NOTHING_GIVEN: &str =
-    "rep struct D { int n; }\nclass K {\nstatic D* in ExHeap H() { }\nstatic void F() {\nD* in ExHeap p = H();\ndelete p;\n}\n}";
 
 /// What a check of this text answers, and what it writes.
 fn answer_to<R: Threads + Wait + AllocGlobal + Sync>(

@@ -1,46 +1,13 @@
 //! Which methods enter a gate, in which order, and what is seen from there while others work.
 
+use crate::texts::{ASKED, FOUR};
 use shelf::Shelf;
 use shelf::laws::threads_share_a_shelf;
 use singcheck::{Gate, MOST_SLOTS, MOST_WORKERS, Status, check, check_onto};
 use std::sync::atomic::{AtomicU64, Ordering};
 use std::test::Fail;
 
-/// Two processes: one asks over a channel, and the other answers until the channel is closed.
-const ASKED: &str =
-    "contract Ping { in message Req(); out message Rep(); state Start: Req? -> Pend; state Pend: Rep! -> Start; }
-class K {
-static void Main() {
-Ping.Imp i; Ping.Exp e;
-Ping.NewChannel(out i, out e);
-start K.Serve(e);
-i.SendReq();
-switch receive {
-case i.Rep(): break;
-case i.ChannelClosed(): break;
-}
-delete i;
-}
-static void Serve([Claims] Ping.Exp:Start e) {
-while (true) {
-switch receive {
-case e.Req(): e.SendRep(); break;
-case e.ChannelClosed(): delete e; return;
-}
-}
-}
-}";
-
 const ASKED_ANSWER: &str = "ok: 1 contracts, 2 methods\n";
-
-/// Four methods, each of which frees its block twice.
-const FOUR: &str = "rep struct D { int n; }
-class K {
-static void A([Claims] D* in ExHeap p) { delete p; delete p; }
-static void B([Claims] D* in ExHeap p) { delete p; delete p; }
-static void C([Claims] D* in ExHeap p) { delete p; delete p; }
-static void D([Claims] D* in ExHeap p) { delete p; delete p; }
-}";
 
 const FOUR_ANSWER: &str =
     "3:59 A01 p not owned\n4:59 A01 p not owned\n5:59 A01 p not owned\n6:59 A01 p not owned\nfindings: 4\n";

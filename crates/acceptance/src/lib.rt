@@ -25,3 +25,5 @@ mod sharing;
 mod shelves;
 #[cfg(test)]
 mod shown;
+#[cfg(test)]
+mod texts;

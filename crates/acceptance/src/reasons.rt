@@ -1,21 +1,14 @@
 //! Runs of `why` on worked texts, and on devices and memory that fail.
 
 use crate::failing_devices::{Card, Page, Text};
+use crate::texts::FREED_ON_ONE_WAY;
 use singcheck::{Counted, Input, Place, RunFault, Status, run_why};
 use std::test::Fail;
 
-const LEFT: &str = "rep struct D { int n; }
-class K {
-static void F(bool b) {
-D* in ExHeap p = new[ExHeap] D();
-if (b) { delete p; }
-}
-}";
-
-const LEFT_ANSWER: &str =
+const FREED_ANSWER: &str =
     "6:1 A08 p still owned\n  4:14 p new\n  5:1 condition false\nfindings: 1\n";
 
-const LEFT_ELSEWHERE: &str = "6:1 A08 p still owned\nfindings: 1\n";
+const FREED_ELSEWHERE: &str = "6:1 A08 p still owned\nfindings: 1\n";
 
 const CLEAN: &str = "class K { static void F() { } }";
 
@@ -52,9 +45,9 @@ fn reasons_as_worked_out(rt: HostRuntime) {
     let there = Some(Place { line: 6, col: 1 });
     let elsewhere = Some(Place { line: 6, col: 2 });
     let rows = [
-        (LEFT, None, Status::Found, LEFT_ANSWER),
-        (LEFT, there, Status::Found, LEFT_ANSWER),
-        (LEFT, elsewhere, Status::Found, LEFT_ELSEWHERE),
+        (FREED_ON_ONE_WAY, None, Status::Found, FREED_ANSWER),
+        (FREED_ON_ONE_WAY, there, Status::Found, FREED_ANSWER),
+        (FREED_ON_ONE_WAY, elsewhere, Status::Found, FREED_ELSEWHERE),
         (CLEAN, None, Status::Empty, CLEAN_ANSWER),
         (BACKWARDS, None, Status::Found, BACKWARDS_ANSWER),
         (ROUND, None, Status::Found, ROUND_ANSWER),
@@ -80,7 +73,7 @@ fn reasons_as_worked_out(rt: HostRuntime) {
 
 #[test]
 fn writes_nothing_where_a_read_of_why_fails(rt: HostRuntime) -> Result<(), Fail> {
-    let mut reader = Text::new(rt.alloc(), LEFT, 10, 3)?;
+    let mut reader = Text::new(rt.alloc(), FREED_ON_ONE_WAY, 10, 3)?;
     let mut writer = Page::new(rt.alloc(), 100, NEVER);
     let answered = run_why(rt.alloc(), &mut reader, &mut writer, None);
     assert!(rt; answered == Err(RunFault::Read(Input::Text)));
@@ -90,10 +83,10 @@ fn writes_nothing_where_a_read_of_why_fails(rt: HostRuntime) -> Result<(), Fail>
 
 #[test]
 fn writes_a_beginning_where_a_write_of_why_fails(rt: HostRuntime) -> Result<(), Fail> {
-    let mut reader = Text::new(rt.alloc(), LEFT, 100, NEVER)?;
+    let mut reader = Text::new(rt.alloc(), FREED_ON_ONE_WAY, 100, NEVER)?;
     let mut writer = Page::new(rt.alloc(), 7, 3);
     let answered = run_why(rt.alloc(), &mut reader, &mut writer, None);
     assert!(rt; answered == Err(RunFault::Write));
-    assert!(rt; LEFT_ANSWER.as_bytes().starts_with(&writer.bytes));
+    assert!(rt; FREED_ANSWER.as_bytes().starts_with(&writer.bytes));
     Ok(())
 }

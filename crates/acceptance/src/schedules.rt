@@ -1,6 +1,7 @@
 //! Replays on worked texts, and on devices and memory that fail.
 
 use crate::failing_devices::{Card, Page, Text};
+use crate::texts::{EXCHANGES, READS_WHAT_IT_SENT, SENDS_AN_END};
 use singcheck::laws::{each_program_has_bounds, findings_or_program};
 use singcheck::{Counted, Input, RunFault, Status, run_replay};
 use std::alloc::Global;
@@ -8,51 +9,12 @@ use std::test::Fail;
 
 const NEVER: u64 = 0;
 
-/// An end is sent along the other one, to itself.
-const SENDS_AN_END: &str = "contract W { out message M(W.Imp:S x); state S: M! -> E; state E: ; }
-class K {
-static void Main() {
-W.Imp i; W.Exp e;
-W.NewChannel(out i, out e);
-e.SendM(i);
-delete e;
-}
-}";
-
 const SENDS_AN_END_ANSWER: &str =
     "steps 4\nstop: end of schedule\nprocess 0 ended\nblock 0 W.Imp S owner queue 0 queue [M(0)]\nblock 1 W.Exp freed\n";
-
-/// What is sent is read after the send.
-const READS_WHAT_IT_SENT: &str = "rep struct D { int n; }
-contract Put { out message X(D* in ExHeap d); state S: X! -> E; state E: ; }
-class K {
-static void Main() {
-Put.Imp i; Put.Exp e;
-Put.NewChannel(out i, out e);
-D* in ExHeap p = new[ExHeap] D();
-e.SendX(p);
-int k = p.n;
-delete i; delete e;
-}
-}";
 
 const READS_WHAT_IT_SENT_ANSWER: &str =
     "steps 3\nstop: fault F1 at 9:9 in process 0\nprocess 0 at 9:9, frames 1\nblock 0 Put.Imp S owner process 0 queue [X(2)]
 block 1 Put.Exp E owner process 0 queue []\nblock 2 D owner queue 0\n";
-
-/// What a field holds changes places with another block, which goes with the block of the field.
-const EXCHANGES: &str = "rep struct D { int n; }
-rep struct B { int n; D* in ExHeap d; }
-class K {
-static void Main() {
-D* in ExHeap p = new[ExHeap] D();
-B* in ExHeap b = new[ExHeap] B(p);
-p = new[ExHeap] D();
-exchange(b.d, p);
-delete p;
-delete b;
-}
-}";
 
 const EXCHANGES_ANSWER: &str = "steps 4\nstop: end of schedule\nprocess 0 at 9:8, frames 1
 block 0 D owner process 0\nblock 1 B owner process 0 holds [2]\nblock 2 D owner block 1\n";

@@ -8,6 +8,7 @@ ghost use Rattle.program.specs.Statements.{statement_model};
 ghost use Rattle.rules.specs.Programs.{model_of};
 ghost use Rattle.acceptance_methods.specs.Exchanges as told;
 
+use crate::steps::{acts, frees};
 use crate::verdicts::verdict_of;
 use analyse::Worker;
 use intern::Rows;
@@ -92,16 +93,6 @@ fn new_with_first(alloc: Global, target: usize) -> Result<Statement, Memory>
     }))
 }
 
-/// An action without reads.
-fn acts(alloc: Global, action: Action) -> Statement
-    ensures { statement_model result ≡ told.acts action }
-{
-    Statement::Simple(Simple {
-        reads: Vec::new(alloc),
-        effect: Effect::Act(action),
-    })
-}
-
 /// The loop.
 fn turns(alloc: Global) -> Result<Statement, Memory>
     ensures { IfOk result (λ made. statement_model made ≡ told.turns) }
@@ -115,7 +106,7 @@ fn turns(alloc: Global) -> Result<Statement, Memory>
     let mut statements = Vec::new(alloc);
     statements.push(new(alloc, 0))?;
     statements.push(acts(alloc, Action::Exchange(exchange)))?;
-    statements.push(acts(alloc, Action::Delete(mention(0))))?;
+    statements.push(frees(alloc, mention(0)))?;
     let body = Block {
         statements,
         forget: None,
@@ -137,7 +128,7 @@ fn method(alloc: Global) -> Result<Method, Memory>
     statements.push(new(alloc, 0))?;
     statements.push(new_with_first(alloc, 1)?)?;
     statements.push(turns(alloc)?)?;
-    statements.push(acts(alloc, Action::Delete(mention(1))))?;
+    statements.push(frees(alloc, mention(1)))?;
     Ok(Method {
         name: AT,
         takes: false,

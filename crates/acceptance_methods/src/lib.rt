@@ -14,6 +14,8 @@ mod leaves;
 #[cfg(test)]
 mod steps;
 #[cfg(test)]
+mod texts;
+#[cfg(test)]
 mod transfers;
 #[cfg(test)]
 mod verdicts;

@@ -1,27 +1,21 @@
 //! The graph and the steps of a method.
 
-ghost use Rattle.std.specs.Prelude.{◌≡◌, IfOk, length};
-ghost use Rattle.rules.specs.Programs.{model_of};
+ghost use Rattle.std.specs.Prelude.{◌≡◌};
+ghost use Rattle.program.specs.Statements.{statement_model};
+ghost use Rattle.program.specs.declared.statement.Action.TheVariants as does;
+ghost use Rattle.acceptance_methods.specs.Exchanges as told;
 
+use crate::texts::{FREED_AND_READ, only};
 use analyse::{give_up_all, tasks};
 use flow::{Instr, lower};
-use names::{MOST_CONTRACTS, resolve};
 use program::{
-    Action, Effect, HeapType, MOST_STATES, MOST_VARIABLES, Mention, Method, MethodId, Methods,
-    Role, Simple, Statement, StructId, VarId, Variable,
+    Action, Effect, HeapType, MOST_STATES, MOST_VARIABLES, Mention, Method, MethodId, Role, Simple,
+    Statement, StructId, VarId, Variable,
 };
-use rules::{Leaf, Program, Row, StepOutcome, entry_pair, step};
-use source::{Memory, Place, lex};
+use rules::{Leaf, Row, StepOutcome, entry_pair, step};
+use source::{Memory, Place};
 use std::alloc::Global;
 use std::test::Fail;
-use syntax::parse;
-use wellformed::well_formed_methods;
-
-/// A method that claims `p`, moves it to `q`, frees `q` and reads `q`.
-pub(crate) const FREED_AND_READ: &str = "class K { static void F([Claims] int[] in ExHeap p) {
-int[] in ExHeap q; int n;
-q = p; delete q; n = q[0];
-} }";
 
 fn mention(variable: usize, col: u32) -> Mention {
     Mention {
@@ -44,7 +38,7 @@ fn variable(
     })
 }
 
-/// The same, put together by hand.
+/// The method of `FREED_AND_READ`, put together by hand.
 fn freed_and_read(alloc: Global) -> Result<Method, Memory> {
     let mut variables = Vec::new(alloc);
     variables.push(variable(alloc, "p", Role::Claimed, None)?)?;
@@ -56,8 +50,8 @@ fn freed_and_read(alloc: Global) -> Result<Method, Memory> {
         target: mention(1, 10),
         source: mention(0, 12),
     };
-    statements.push(plain(alloc, moved))?;
-    statements.push(plain(alloc, Action::Delete(mention(1, 20))))?;
+    statements.push(acts(alloc, moved))?;
+    statements.push(frees(alloc, mention(1, 20)))?;
     let effect = Effect::Nothing;
     statements.push(Statement::Simple(Simple { reads, effect }))?;
     Ok(Method {
@@ -72,32 +66,21 @@ fn freed_and_read(alloc: Global) -> Result<Method, Memory> {
     })
 }
 
-fn plain(alloc: Global, action: Action) -> Statement {
-    let reads = Vec::new(alloc);
-    let effect = Effect::Act(action);
-    Statement::Simple(Simple { reads, effect })
+/// An action without reads.
+pub(crate) fn acts(alloc: Global, action: Action) -> Statement
+    ensures { statement_model result ≡ told.acts action }
+{
+    Statement::Simple(Simple {
+        reads: Vec::new(alloc),
+        effect: Effect::Act(action),
+    })
 }
 
-/// The program of a text without contracts that has one method.
-pub(crate) fn only(alloc: Global, text: &str) -> Result<Program, Fail>
-    ensures { IfOk result (λ p. length (model_of p).methods ≡ 1) }
+/// What a variable has is freed.
+pub(crate) fn frees(alloc: Global, at: Mention) -> Statement
+    ensures { statement_model result ≡ told.acts (does.Delete at) }
 {
-    let tokens = lex(alloc, text.as_bytes())?;
-    let tree = parse(alloc, &tokens)?;
-    let contracts = resolve(alloc, &tree, text.as_bytes())?;
-    if contracts.contracts.len() > MOST_CONTRACTS {
-        return Err(Fail::from("too many contracts"));
-    }
-    let methods = well_formed_methods(alloc, &tree, text.as_bytes(), contracts)?;
-    if !methods.contracts().contracts.is_empty() {
-        return Err(Fail::from("contracts"));
-    }
-    let sounds = Vec::new(alloc);
-    let program = Program::new(alloc, methods, sounds)?;
-    if program.methods().len() != 1 {
-        return Err(Fail::from("not one method"));
-    }
-    Ok(program)
+    acts(alloc, Action::Delete(at))
 }
 
 /// What it does with variables, and where it goes on behind that, if it does something with them.

@@ -1,6 +1,6 @@
 //! Transfers, a step in place, and the numbers of leaves.
 
-use crate::steps::{FREED_AND_READ, only};
+use crate::texts::{FREED_AND_READ, only};
 use intern::{code_of, leaf_at};
 use program::{MethodId, VarId};
 use rules::{

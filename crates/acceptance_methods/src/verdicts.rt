@@ -5,7 +5,7 @@ ghost use Rattle.rules.specs.Programs.{model_of};
 ghost use Rattle.tasks.specs.Tasks.{task_program};
 ghost use Rattle.analyse.specs.Workers.{IsWorkerOf};
 
-use crate::steps::{FREED_AND_READ, only};
+use crate::texts::{FREED_AND_READ, FREED_ON_ONE_WAY, only};
 use analyse::{Task, Verdict, Worker, analyse, give_up_all, tasks};
 use intern::Rows;
 use program::MethodId;
@@ -13,16 +13,6 @@ use rules::Program;
 use source::{Code, Finding, Place};
 use std::alloc::Global;
 use std::test::Fail;
-
-/// Each block is freed on one way of an `if`. So eight rows come to the end, and each block may be the first that is left there.
-const FREED_ON_ONE_WAY: &str = "rep struct D { int n; }
-class K {
-static void F(bool b) {
-D* in ExHeap p = new[ExHeap] D(); if (b) { delete p; }
-D* in ExHeap q = new[ExHeap] D(); if (b) { delete q; }
-D* in ExHeap r = new[ExHeap] D(); if (b) { delete r; }
-}
-}";
 
 /// The verdict of a task. Where a growth is refused, the task comes back, and the same worker analyses it once more.
 fn verdict_of_task(

@@ -3,7 +3,7 @@ use Rattle.std.proofs.lemmas.Bool.{eqb-true}
 use Rattle.contracts.specs.Sounds.{sound_parts}
 use Rattle.program.specs.Parts.{ContractModel, contract_model}
 use Rattle.std.proofs.lemmas.List.{nil_from_length}
-use Rattle.acceptance_methods.proofs.steps.only.Goals as goal
+use Rattle.acceptance_methods.proofs.texts.only.Goals as goal
 
 pub new-requires : goal.new-requires
 new-requires c =

@@ -3,7 +3,7 @@ use Rattle.contracts.specs.Parts.{contract_parts}
 use Rattle.contracts.specs.Sounds.{IsJudged}
 use Rattle.program.specs.Parts.{ContractModel}
 use Rattle.acceptance_methods.proofs.ContractLemmas.{one_sound, whole_at}
-use Rattle.acceptance_methods.proofs.channels.with_contract.Goals as goal
+use Rattle.acceptance_methods.proofs.texts.with_one_contract.Goals as goal
 
 pub judge-requires : goal.judge-requires
 judge-requires c = record { whole = whole_at c.in_ok-resolved.resolved.contracts.items 0 _ c.in_ok-resolved.ensures.resolved.whole c.contract_at-contract.ensures }
