@@ -1,5 +1,5 @@
 -- From stage to stage of a check.
-use Rattle.std.proofs.Common.{◌≡◌, ℕ, List, [], ◌∷◌, map, refl, sym, subst}
+use Rattle.std.proofs.Common.{◌≡◌, ℕ, List, [], ◌∷◌, map, refl, sym, ap, subst}
 use Rattle.std.specs.Prelude.{◌≢◌, All, length, Contains, Result, Ok, Err, IfOk}
 use Rattle.source.specs.Findings.{FindingModel, finding_model}
 use Rattle.source.specs.declared.finding.Finding.{Finding}
@@ -35,7 +35,7 @@ reported_ok text found are (Err fault) told is = tt
 
 -- what is wrong with the contracts of a text
 pub unsound_named : (text : List ℕ) (items : List ItemTree) (p : ProgramModel) (found : List FindingModel) → HasCleanNames text items p → AreBroken p.contracts found → AreFindings text found
-unsound_named text items p found names broken = unsound text p.contracts found (record { items = items; parsed = names.parsed; clean = names.clean; are = names.contracts }) broken
+unsound_named text items p found names broken = unsound text p.contracts found (record { items = items; parsed = names.parsed; clean = names.clean; are = ap (λ (q : ProgramModel). q.contracts) names.is }) broken
 
 -- what is wrong with the contracts of a text
 pub broken_findings : (text : List ℕ) (contracts : List ContractModel) (found : List FindingModel) → AreBrokenOf text contracts found → AreFindings text found
@@ -44,11 +44,9 @@ broken_findings text contracts found are = unsound text contracts found are.reso
 -- where they are sound, this is the program of the text
 abbrev pub has_program : (text : List ℕ) (items : List ItemTree) (p : ProgramModel) → HasCleanNames text items p → All (λ c. IsSound c.parts) p.contracts → HasProgram text p
 has_program text items p names sound = record {
-  resolved = record { items = items; parsed = names.parsed; clean = names.clean; are = names.contracts };
+  resolved = record { items = items; parsed = names.parsed; clean = names.clean; are = ap (λ (q : ProgramModel). q.contracts) names.is };
   sound = sound;
-  messages = names.messages;
-  structs = names.structs;
-  methods = names.methods;
+  is = names.is;
 }
 
 -- what is found in its methods
@@ -83,7 +81,7 @@ clear_ok p found none are (Err fault) bytes is = tt
 -- what a text comes to, from what its names and its contracts come to
 pub built_of : (text : List ℕ) (items : List ItemTree) (p : ProgramModel) → AreNamed text items p → (b : Built) → IsBuilt p b → IsBuiltIn text b
 built_of text items p named (built.Broken methods findings) is = subst (λ l. AreBrokenOf text l (map finding_model findings.items)) (sym is.0) (record {
-  resolved = record { items = items; parsed = named.names.parsed; clean = named.names.clean; are = named.names.contracts };
+  resolved = record { items = items; parsed = named.names.parsed; clean = named.names.clean; are = ap (λ (q : ProgramModel). q.contracts) named.names.is };
   whole = named.whole;
   room = named.room;
   broken = is.1;

@@ -1,9 +1,9 @@
 -- Names that are compared piece by piece, and the first that is one.
-use Rattle.std.proofs.Common.{◌≡◌, ◌≢◌, ◌<◌, ◌≤◌, ◌+◌, ℕ, suc, true, false, Option, Some, None, refl, List, [], ◌∷◌, ◌++◌, length, map, take, drop, get_or, ap, ap₂, sym, ◌∙◌, subst, arith, append_assoc, append-nil, length-append, take-append-drop, drop-cons}
+use Rattle.std.proofs.Common.{◌≡◌, ◌≢◌, ◌<◌, ◌≤◌, ◌+◌, ℕ, zero, suc, true, false, Option, Some, None, refl, List, [], ◌∷◌, ◌++◌, length, map, take, drop, get_or, ap, ap₂, sym, ◌∙◌, subst, arith, append_assoc, append-nil, length-append, take-append-drop, drop-cons}
 use Rattle.std.proofs.Math.Seq.{take-append_seam, drop-append_seam}
 use Rattle.std.proofs.lemmas.Grind.{flat_map-append}
 use Rattle.std.proofs.lemmas.List.{length-map, map-append, take_more}
-use Rattle.std.specs.Prelude.{nat_eq, IfNone, IfSome}
+use Rattle.std.specs.Prelude.{nat_eq, slice_get, IfNone, IfSome}
 use Rattle.std.specs.Cmp.Lexicographic.{pointwise, same_text, other_text}
 use Rattle.std.specs.List.{enumerate_from, flat_map}
 use Rattle.program.specs.Lists.{Each}
@@ -30,16 +30,45 @@ round view xs i x lt is = ap (map view) (sym (take-append-drop i xs) ∙ ap (λ 
     ∙ map-append view (take i xs) (get_or xs i x ∷ drop (suc i) xs)
     ∙ ap (λ y. map view (take i xs) ++ view y ∷ map view (drop (suc i) xs)) (sym is)
 
+-- the names round the first that is this one
+record Round (names : List (List ℕ)) (name : List ℕ) (n : ℕ) : Type 0 where
+  before : List (List ℕ)
+  behind : List (List ℕ)
+  are : names ≡ before ++ name ∷ behind
+  counted : n ≡ length before
+  others : Each (λ y. y ≢ name) before
+
+there_is : (before behind : List (List ℕ)) (name : List ℕ) → slice_get (before ++ name ∷ behind) (length before) ≡ Some name
+there_is [] behind name = refl
+there_is (y ∷ before) behind name = there_is before behind name
+
+first_of : (names : List (List ℕ)) (name : List ℕ) (n : ℕ) → Round names name n → IsFirstAt names name n
+first_of names name n r = (
+  ap₂ (λ l k. slice_get l k) r.are r.counted ∙ there_is r.before r.behind name,
+  subst (Each (λ (y : List ℕ). y ≢ name)) (sym (ap₂ (λ k l. take k l) r.counted r.are ∙ take-append_seam r.before (name ∷ r.behind))) r.others,
+)
+
+parts_at : (names : List (List ℕ)) (n : ℕ) (name : List ℕ) → slice_get names n ≡ Some name
+    → (names ≡ take n names ++ name ∷ drop (suc n) names) × (n ≡ length (take n names))
+parts_at [] n name is = absurd (cc)
+parts_at (y ∷ names) zero name is = let same : y ≡ name = cc in (ap (λ x. x ∷ names) same, refl)
+parts_at (y ∷ names) (suc n) name is = let p = parts_at names n name is in (ap (λ l. y ∷ l) p.0, ap suc p.1)
+
+round_of : (names : List (List ℕ)) (name : List ℕ) (n : ℕ) → IsFirstAt names name n → Round names name n
+round_of names name n f =
+    let p = parts_at names n name f.0 in
+    record { before = take n names; behind = drop (suc n) names; are = p.0; counted = p.1; others = f.1 }
+
 -- the first of a name, where those before have others
 pub first_here : {A : Type 0} (view : A → List ℕ) (xs : List A) (name : List ℕ) (i : ℕ) (x : A) → i < length xs → x ≡ get_or xs i x → view x ≡ name → length (map view (take i xs)) ≡ i → Each (λ y. y ≢ name) (map view (take i xs))
     → IsFirstAt (map view xs) name i
-first_here view xs name i x lt is same size others = record {
+first_here view xs name i x lt is same size others = first_of (map view xs) name i (record {
   before = map view (take i xs);
   behind = map view (drop (suc i) xs);
   are = round view xs i x lt is ∙ ap (λ n. map view (take i xs) ++ n ∷ map view (drop (suc i) xs)) same;
   counted = sym size;
   others = others;
-}
+})
 
 -- one name more
 pub others_more : {A : Type 0} (view : A → List ℕ) (xs : List A) (name : List ℕ) (i : ℕ) (x : A) → i < length xs → x ≡ get_or xs i x → view x ≢ name → Each (λ y. y ≢ name) (map view (take i xs)) → Each (λ y. y ≢ name) (map view (take (i + 1) xs))
@@ -60,17 +89,21 @@ rows_round row xs i x lt is = ap (flat_map row) (sym (take-append-drop i xs) ∙
 
 -- the first of a name in one of the lists
 pub first_in : (names before inner rest : List (List ℕ)) (name : List ℕ) (n : ℕ) → names ≡ before ++ (inner ++ rest) → Each (λ y. y ≢ name) before → IsFirstAt inner name n → IsFirstAt names name (length before + n)
-first_in names before inner rest name n are others f = record {
-  before = before ++ f.before;
-  behind = f.behind ++ rest;
-  are = are ∙ ap (λ l. before ++ (l ++ rest)) f.are ∙ ap (λ l. before ++ l) (append_assoc f.before (name ∷ f.behind) rest) ∙ sym (append_assoc before f.before (name ∷ (f.behind ++ rest)));
-  counted = ap (λ k. length before + k) f.counted ∙ sym (length-append before f.before);
-  others = each_append (λ (y : List ℕ). y ≢ name) before f.before others f.others;
-}
+first_in names before inner rest name n are others f =
+    let r = round_of inner name n f in
+    first_of names name (length before + n) (record {
+      before = before ++ r.before;
+      behind = r.behind ++ rest;
+      are = are ∙ ap (λ l. before ++ (l ++ rest)) r.are ∙ ap (λ l. before ++ l) (append_assoc r.before (name ∷ r.behind) rest) ∙ sym (append_assoc before r.before (name ∷ (r.behind ++ rest)));
+      counted = ap (λ k. length before + k) r.counted ∙ sym (length-append before r.before);
+      others = each_append (λ (y : List ℕ). y ≢ name) before r.before others r.others;
+    })
 
 -- it stands within the lists
 pub first_within : (names : List (List ℕ)) (name : List ℕ) (n : ℕ) → IsFirstAt names name n → n < length names
-first_within names name n f = omega (arith, f.counted, ap (λ l. length l) f.are, length-append f.before (name ∷ f.behind))
+first_within names name n f =
+    let r = round_of names name n f in
+    omega (arith, r.counted, ap (λ l. length l) r.are, length-append r.before (name ∷ r.behind))
 
 -- no more names stand before it than there are
 pub fits_first : {A : Type 0} (row : A → List (List ℕ)) (xs : List A) (i : ℕ) (x : A) (name : List ℕ) (n before : ℕ) → i < length xs → x ≡ get_or xs i x → before ≡ length (flat_map row (take i xs)) → IsFirstAt (row x) name n
@@ -86,7 +119,7 @@ fits_row row xs i x before lt is counted =
 
 -- a name that all others are not does not stand among them
 pub none_first : (names : List (List ℕ)) (name : List ℕ) (n : ℕ) → Each (λ y. y ≢ name) names → IsFirstAt names name n → ⊥
-none_first names name n others f = at f.before f.behind (subst (Each (λ (y : List ℕ). y ≢ name)) f.are others)
+none_first names name n others f = let r = round_of names name n f in at r.before r.behind (subst (Each (λ (y : List ℕ). y ≢ name)) r.are others)
   where
     at : (before behind : List (List ℕ)) → Each (λ y. y ≢ name) (before ++ name ∷ behind) → ⊥
     at [] behind h = h.0 refl
@@ -100,7 +133,10 @@ same_before (m ∷ a) (n ∷ b) x y name e h k = let tails : a ++ name ∷ x ≡
 
 -- a name stands first at one place
 pub first_once : (names : List (List ℕ)) (name : List ℕ) (m n : ℕ) → IsFirstAt names name m → IsFirstAt names name n → m ≡ n
-first_once names name m n f g = f.counted ∙ same_before f.before g.before f.behind g.behind name (sym f.are ∙ g.are) f.others g.others ∙ sym g.counted
+first_once names name m n f g =
+    let r = round_of names name m f in
+    let s = round_of names name n g in
+    r.counted ∙ same_before r.before s.before r.behind s.behind name (sym r.are ∙ s.are) r.others s.others ∙ sym s.counted
 
 -- where the entry is looked for
 pub record IsLooked (names : List (List ℕ)) (name : List ℕ) (place : Option ℕ) : Type 0 where

@@ -7,14 +7,10 @@ use Rattle.names.specs.Findings.{program_mistakes}
 use Rattle.declarations.specs.Program.{ProgramText}
 use Rattle.declarations.specs.Resolution.{resolved_contracts}
 use Rattle.program.specs.Lists.{Each}
-use Rattle.program.specs.Methods.{MethodModel}
 use Rattle.program.specs.Parts.{ContractModel, IsWhole}
 use Rattle.program.specs.Programs.{ProgramModel}
 use Rattle.program.specs.WellFormed.{AreWellFormed}
-use Rattle.program.specs.declared.types.HeapType.{HeapType}
 use Rattle.contracts.specs.Conditions.{IsSound}
-use Rattle.resolving.specs.Brought.{messages_told}
-use Rattle.resolving.specs.Fields.{structs_told}
 use Rattle.resolving.specs.Methods.{methods_told}
 use Rattle.sound.specs.Premises.{AreSound}
 use Rattle.wellformed.specs.Bare.{IsBare}
@@ -32,17 +28,10 @@ abbrev of_items : (text : List ℕ) (p : ProgramModel) → HasProgram text p →
 of_items text p has = record { text = text; items = has.resolved.items }
 
 pub formed_of : CleanPrograms → (text : List ℕ) (p : ProgramModel) → HasProgram text p → AreWellFormed p
-formed_of laws text p has =
-    let q = of_items text p has in
-    let told = resolved_contracts text (contracts_of has.resolved.items) in
-    subst (λ (cs : List ContractModel). AreWellFormed (record { contracts = cs; messages = p.messages; structs = p.structs; methods = p.methods })) (sym has.resolved.are)
-    (subst (λ (ms : List (List HeapType)). AreWellFormed (record { contracts = told; messages = ms; structs = p.structs; methods = p.methods })) (sym has.messages)
-    (subst (λ (ss : List (List HeapType)). AreWellFormed (record { contracts = told; messages = messages_told q; structs = ss; methods = p.methods })) (sym has.structs)
-    (subst (λ (ms : List MethodModel). AreWellFormed (record { contracts = told; messages = messages_told q; structs = structs_told q; methods = ms })) (sym has.methods)
-    (laws.formed q has.resolved.clean))))
+formed_of laws text p has = subst AreWellFormed (sym has.is) (laws.formed (of_items text p has) has.resolved.clean)
 
 pub bare_of : CleanPrograms → (text : List ℕ) (p : ProgramModel) → HasProgram text p → Each IsBare p.methods
-bare_of laws text p has = subst (Each IsBare) (sym has.methods) (laws.bare (of_items text p has))
+bare_of laws text p has = subst (λ (q : ProgramModel). Each IsBare q.methods) (sym has.is) (laws.bare (of_items text p has))
 
 -- what holds of all elements holds of the one at a place
 all_there : {A : Type 0} (P : A → Type 0) (xs : List A) (n : ℕ) (x : A) → All P xs → slice_get xs n ≡ Some x → P x

@@ -6,13 +6,16 @@ use Rattle.source.specs.declared.fault.Memory.{Memory}
 use Rattle.source.specs.declared.finding.Finding.{Finding}
 use Rattle.source.specs.declared.lexer.TheConstants.{MAX_TEXT}
 use Rattle.contracts.specs.Conditions.{AreExactly}
+use Rattle.tree.specs.Trees.{ItemTree}
 use Rattle.program.specs.Programs.{ProgramModel}
+use Rattle.wellformed.specs.Told.{program_told}
 use Rattle.analyse.specs.Verdicts.{IsFoundIn, IsMethodVerdict, place_of_method, too_many_pairs}
 use Rattle.sound.specs.Premises.{NothingIsFound}
 use Rattle.devices.specs.declared.fault.Status.{Status}
 use Rattle.devices.specs.declared.fault.Status.TheVariants.{Empty, Found}
 use Rattle.devices.specs.declared.reading.TheConstants.{MAX_READ}
-use Rattle.singcheck.specs.Checks.{HasProgram, IsWrong}
+use Rattle.singcheck.specs.Answers.{IsProgram}
+use Rattle.singcheck.specs.Checks.{IsWrong}
 use Rattle.singcheck.specs.Entered.{AreCleanSafe}
 use Rattle.singcheck.specs.Safety.{IsSafeText, RunsAreSafe}
 use Rattle.singcheck.specs.declared.report.Report.{Report}
@@ -31,15 +34,17 @@ pub nothing_found : (p : ProgramModel) (found : List Finding) → found ≡ [] �
 nothing_found p found none are = λ n lt. empty_verdict p n (λ f w. none_of f (subst (λ l. Contains (map finding_model l) f) none (are.all f (n, lt, w))))
 
 -- the text of a program in which nothing is wrong is safe
-pub safe_text : (text : List ℕ) (p : ProgramModel) → ((q : ProgramModel) → HasProgram text q → p ≡ q) → NothingIsFound p → AreCleanSafe p → IsSafeText text
-safe_text text p one nothing safe = λ q has. subst RunsAreSafe (one q has) (record {
+pub safe_text : (text : List ℕ) (p : ProgramModel)
+    → ((items : List ItemTree) → IsProgram text items → p ≡ program_told (record { text = text; items = items }))
+    → NothingIsFound p → AreCleanSafe p → IsSafeText text
+safe_text text p told nothing safe = λ items parsed. subst RunsAreSafe (told items parsed) (record {
   each = λ bound bounds n w entry run. safe bound bounds nothing n w entry run;
 })
 
 -- what is known of the bytes that are read is known of the text
 pub safe_front : (status : Status) (text : List ℕ) → (status ≡ Empty → IsSafeText (take MAX_READ text)) → status ≡ Empty → IsSafeText text
 safe_front status text told = of_front (λ t. status ≡ Empty → IsSafeText t) MAX_TEXT MAX_READ refl
-    (λ a b x y front e p has. no_program b y has.resolved.parsed.tokens has.resolved.parsed.lexed) text told
+    (λ a b x y front e items parsed. no_program b y parsed.tokens parsed.lexed) text told
 
 pub safe_read : (a : Option (List ℕ)) (text : List ℕ) (status : Status) → IfSome a (λ xs. text ≡ take MAX_READ xs) → (status ≡ Empty → IsSafeText text) → IfSome a (λ xs. status ≡ Empty → IsSafeText xs)
 safe_read None text status is told = tt

@@ -4,9 +4,7 @@ use Rattle.std.specs.Prelude.{◌≡◌, ◌≢◌, ◌<◌, ℕ, List, [], leng
 use Rattle.source.specs.Findings.{FindingModel}
 use Rattle.contracts.specs.Conditions.{AreExactly, IsSound}
 use Rattle.program.specs.Programs.{ProgramModel}
-use Rattle.resolving.specs.Brought.{messages_told}
-use Rattle.resolving.specs.Fields.{structs_told}
-use Rattle.resolving.specs.Methods.{methods_told}
+use Rattle.wellformed.specs.Told.{program_told}
 use Rattle.analyse.specs.Verdicts.{IsFoundIn}
 use Rattle.devices.specs.declared.fault.Status.{Status}
 use Rattle.devices.specs.declared.fault.Status.TheVariants.{Empty, Found}
@@ -18,9 +16,7 @@ use Rattle.singcheck.specs.Reports.{IsReportOf}
 pub record HasProgram (text : List ℕ) (p : ProgramModel) : Type 0 where
   pub resolved : IsResolved text p.contracts
   pub sound : All (λ c. IsSound c.parts) p.contracts
-  pub messages : p.messages ≡ messages_told (record { text = text; items = resolved.items })
-  pub structs : p.structs ≡ structs_told (record { text = text; items = resolved.items })
-  pub methods : p.methods ≡ methods_told (record { text = text; items = resolved.items })
+  pub is : p ≡ program_told (record { text = text; items = resolved.items })
 
 -- this is found in one of the methods
 abbrev pub IsWrong : ProgramModel → FindingModel → Type 0

@@ -1,17 +1,14 @@
 -- For proofs within the crate: what a text comes to before its contracts are judged, and then.
 use Rattle.std.specs.Prelude.{◌≡◌, ◌<◌, ◌≤◌, ◌^◌, ℕ, List, [], length, map, All}
 use Rattle.source.specs.Findings.{FindingModel, finding_model}
-use Rattle.tree.specs.Trees.{ItemTree, contracts_of, program_tree}
+use Rattle.tree.specs.Trees.{ItemTree, program_tree}
 use Rattle.tree.specs.declared.item.Tree.{Tree}
 use Rattle.names.specs.Findings.{program_mistakes}
-use Rattle.declarations.specs.Resolution.{resolved_contracts}
 use Rattle.program.specs.Parts.{ContractModel, IsWhole}
 use Rattle.program.specs.Programs.{ProgramModel, contracts_model, program_model}
 use Rattle.program.specs.declared.limits.TheConstants.{MOST_METHODS}
 use Rattle.contracts.specs.Conditions.{IsSound}
-use Rattle.resolving.specs.Brought.{messages_told}
-use Rattle.resolving.specs.Fields.{structs_told}
-use Rattle.resolving.specs.Methods.{methods_told}
+use Rattle.wellformed.specs.Told.{program_told}
 use Rattle.rules.specs.Programs.{model_of}
 use Rattle.rules.specs.declared.lowered.Program.{Program}
 use Rattle.singcheck.specs.Answers.{IsProgram, IsResolved}
@@ -27,10 +24,7 @@ use Rattle.singcheck.specs.declared.stage.Stage.{Stage}
 pub record HasCleanNames (text : List ℕ) (items : List ItemTree) (p : ProgramModel) : Type 0 where
   pub parsed : IsProgram text items
   pub clean : program_mistakes (record { text = text; items = items }) ≡ []
-  pub contracts : p.contracts ≡ resolved_contracts text (contracts_of items)
-  pub messages : p.messages ≡ messages_told (record { text = text; items = items })
-  pub structs : p.structs ≡ structs_told (record { text = text; items = items })
-  pub methods : p.methods ≡ methods_told (record { text = text; items = items })
+  pub is : p ≡ program_told (record { text = text; items = items })
 
 -- and this is known of it
 pub record AreNamed (text : List ℕ) (items : List ItemTree) (p : ProgramModel) : Type 0 where

@@ -1,6 +1,7 @@
 -- What `replay` answers for a text, an entry and a schedule.
-use Rattle.std.specs.Prelude.{◌≡◌, ◌≢◌, ℕ, List, [], ◌∷◌, ◌++◌, length, map, Option, None, Some, IsSomeAnd, slice_get, true, codes}
+use Rattle.std.specs.Prelude.{◌≡◌, ◌≢◌, ℕ, List, [], ◌∷◌, ◌++◌, map, take, Option, Some, IsSomeAnd, slice_get, true, codes}
 use Rattle.std.specs.List.{flat_map}
+use Rattle.std.specs.Option.{option_map_or}
 use Rattle.source.specs.declared.token.Span.{Span}
 use Rattle.tree.specs.Trees.{DefinitionTree, Struct, Class, ItemTree, MethodTree}
 use Rattle.declarations.specs.Resolution.{printed_name}
@@ -44,12 +45,8 @@ abbrev pub struct_names : List ℕ → List ItemTree → List (List ℕ)
 struct_names text items = flat_map (λ i. struct_in text i.definition) items
 
 -- so many of these stand before the first that is this one
-pub record IsFirstAt (names : List (List ℕ)) (name : List ℕ) (n : ℕ) : Type 0 where
-  pub before : List (List ℕ)
-  pub behind : List (List ℕ)
-  pub are : names ≡ before ++ name ∷ behind
-  pub counted : n ≡ length before
-  pub others : Each (λ x. x ≢ name) before
+abbrev pub IsFirstAt : List (List ℕ) → List ℕ → ℕ → Type 0
+IsFirstAt names name n = (slice_get names n ≡ Some name) × Each (λ x. x ≢ name) (take n names)
 
 -- the entry is the name of this method, with which a run may begin
 pub record IsEntryAt (text entry : List ℕ) (items : List ItemTree) (p : ProgramModel) (n : ℕ) : Type 0 where
@@ -80,8 +77,7 @@ pub record LacksSchedule (text entry schedule : List ℕ) (line : ℕ) : Type 0 
 
 -- the status of a run: whether an event was no step
 abbrev pub stop_status : Option Halt → Status
-stop_status None = Empty
-stop_status (Some why) = Found
+stop_status halt = option_map_or (λ why. Found) halt Empty
 
 -- the events of the schedule lead from the entry to what is printed
 pub record IsRan (entry schedule text bytes : List ℕ) (status : Status) : Type 0 where

@@ -1,7 +1,9 @@
 -- What an empty report of a text promises of its program, and what holds of a replay whatever is found in the methods.
 use Rattle.std.specs.Prelude.{◌≡◌, ◌≢◌, ℕ, List, Some, take}
 use Rattle.source.specs.declared.place.Place.{Place}
+use Rattle.tree.specs.Trees.{ItemTree}
 use Rattle.program.specs.Programs.{ProgramModel}
+use Rattle.wellformed.specs.Told.{program_told}
 use Rattle.machine.specs.Outcomes.{QueueBounds}
 use Rattle.machine.specs.Runs.{AreBounds, RunsTo, Run, start_of}
 use Rattle.machine.specs.World.{World}
@@ -13,9 +15,9 @@ use Rattle.sound.specs.Queues.{IsBounded}
 use Rattle.sound.specs.Safe.{IsSafe}
 use Rattle.devices.specs.declared.fault.Status.{Status}
 use Rattle.devices.specs.declared.fault.Status.TheVariants.{Empty, Found}
-use Rattle.singcheck.specs.Answers.{AreFindings}
+use Rattle.singcheck.specs.Answers.{AreFindings, IsProgram}
 use Rattle.singcheck.specs.Reports.{IsReportOf}
-use Rattle.singcheck.specs.Checks.{Checks, HasProgram}
+use Rattle.singcheck.specs.Checks.{Checks}
 use Rattle.singcheck.specs.Replays.{IsRan}
 
 -- Every run of a program is safe, with whatever method it begins, and in whatever order its processes take turns. The queues have the
@@ -23,9 +25,9 @@ use Rattle.singcheck.specs.Replays.{IsRan}
 pub record RunsAreSafe (p : ProgramModel) : Type 0 where
   pub each : (bound : QueueBounds) → AreBounds p bound → (n : ℕ) (w : World) → IsEntry p n → Run p bound n w → IsSafe p bound w
 
--- what the text comes to is safe in every run
+-- what the text comes to, if it is a program, is safe in every run
 abbrev pub IsSafeText : List ℕ → Type 0
-IsSafeText text = (p : ProgramModel) → HasProgram text p → RunsAreSafe p
+IsSafeText text = (items : List ItemTree) → IsProgram text items → RunsAreSafe (program_told (record { text = text; items = items }))
 
 -- a check finds nothing in the text
 abbrev pub HasEmptyReport : List ℕ → Type 0

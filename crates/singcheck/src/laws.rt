@@ -8,12 +8,14 @@ ghost use Rattle.replays.specs.Schedules.{IsSchedule};
 ghost use Rattle.source.specs.Findings.{FindingModel};
 ghost use Rattle.devices.specs.declared.fault.Status.{Status};
 ghost use Rattle.devices.specs.declared.reading.TheConstants.{MAX_READ};
-ghost use Rattle.singcheck.specs.Answers.{Answers, AreFindings};
+ghost use Rattle.singcheck.specs.Answers.{Answers, AreFindings, IsProgram};
 ghost use Rattle.program.specs.Lists.{Each};
 ghost use Rattle.program.specs.Programs.{ProgramModel};
 ghost use Rattle.program.specs.WellFormed.{AreWellFormed};
 ghost use Rattle.sound.specs.Premises.{AreSound};
+ghost use Rattle.tree.specs.Trees.{ItemTree};
 ghost use Rattle.wellformed.specs.Bare.{IsBare};
+ghost use Rattle.wellformed.specs.Told.{program_told};
 ghost use Rattle.singcheck.specs.Checks.{Checks, HasProgram};
 ghost use Rattle.singcheck.specs.Replays.{ComesTo, HasEntry, IsRan, LacksEntry, LacksSchedule, Replays};
 ghost use Rattle.singcheck.specs.declared.limits.TheConstants.{MOST_SLOTS, MOST_WORKERS};
@@ -71,9 +73,11 @@ pub fn one_replay()
     machine::laws::one_replay();
 }
 
-/// A text comes to one program, or to none.
+/// A text comes to one program, or to none (`one`), and that is what its items come to (`told`).
 pub fn one_program()
-    ensures { (text : List ℕ) (p q : ProgramModel) → HasProgram text p → HasProgram text q → p ≡ q }
+    ensures one { (text : List ℕ) (p q : ProgramModel) → HasProgram text p → HasProgram text q → p ≡ q }
+    ensures told { (text : List ℕ) (items : List ItemTree) (p : ProgramModel) → HasProgram text p → IsProgram text items
+        → p ≡ program_told (record { text = text; items = items }) }
 {
     one_cutting();
     one_fault();

@@ -24,9 +24,7 @@ use Rattle.declarations.specs.Resolution.{resolved_contracts}
 use Rattle.contracts.specs.Bounds.{IsBound, sign_to}
 use Rattle.contracts.specs.Conditions as conditions
 use Rattle.contracts.specs.Conditions.{AreExactly, IsSound}
-use Rattle.resolving.specs.Brought.{messages_told}
-use Rattle.resolving.specs.Fields.{structs_told}
-use Rattle.resolving.specs.Methods.{methods_told}
+use Rattle.wellformed.specs.Told.{program_told}
 use Rattle.analyse.specs.Verdicts.{IsMethodVerdict}
 use Rattle.devices.specs.declared.fault.Status.{Status}
 use Rattle.devices.specs.declared.fault.Status.TheVariants.{Empty, Found}
@@ -113,6 +111,15 @@ bounds_some laws text none = sound_some laws text
     none (concat lines ++ ok_line (length contracts)) Empty
     (record { contracts = contracts; resolved = resolved; sound = sound; lines = lines; each = each; are = refl })))
 
+-- what a text comes to whose contracts are sound
+pub program_there : (text : List ℕ) (contracts : List ContractModel) (resolved : IsResolved text contracts) → All (λ c. IsSound c.parts) contracts
+    → HasProgram text (program_told (record { text = text; items = resolved.items }))
+program_there text contracts resolved sound = record {
+  resolved = record { items = resolved.items; parsed = resolved.parsed; clean = resolved.clean; are = refl };
+  sound = subst (All (λ c. IsSound c.parts)) resolved.are sound;
+  is = refl;
+}
+
 -- a program is clear, or something is wrong in its methods
 methods_some : Answered → (text : List ℕ) (p : ProgramModel) → HasProgram text p → ((bytes : List ℕ) (status : Status) → Checks text bytes status → ⊥) → ⊥
 methods_some laws text p has none = wrong_some laws.verdicts p (λ found are. ⊎_elim
@@ -129,6 +136,4 @@ pub check_some : Answered → (text : List ℕ) → ((bytes : List ℕ) (status 
 check_some laws text none = sound_some laws text
     (λ found are. let report = report_there found in none report.0 Found (record { found = found; are = Before are; told = report.1 }))
     (λ contracts resolved sound.
-    let named : ProgramText = record { text = text; items = resolved.items } in
-    methods_some laws text (record { contracts = contracts; messages = messages_told named; structs = structs_told named; methods = methods_told named })
-    (record { resolved = resolved; sound = sound; messages = refl; structs = refl; methods = refl }) none)
+    methods_some laws text (program_told (record { text = text; items = resolved.items })) (program_there text contracts resolved sound) none)

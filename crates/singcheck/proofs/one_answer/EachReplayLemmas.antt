@@ -5,10 +5,7 @@ use Rattle.std.specs.Option.{option_map}
 use Rattle.program.specs.Parts.{ContractModel}
 use Rattle.program.specs.Programs.{ProgramModel}
 use Rattle.program.specs.declared.types.Side.{Side}
-use Rattle.declarations.specs.Program.{ProgramText}
-use Rattle.resolving.specs.Brought.{messages_told}
-use Rattle.resolving.specs.Fields.{structs_told}
-use Rattle.resolving.specs.Methods.{methods_told}
+use Rattle.wellformed.specs.Told.{program_told}
 use Rattle.machine.specs.Outcomes.{QueueBounds}
 use Rattle.machine.specs.Replays.{IsReplay, ReplayModel}
 use Rattle.machine.specs.Runs.{AreBounds}
@@ -21,7 +18,7 @@ use Rattle.devices.specs.declared.fault.Status.TheVariants.{Found}
 use Rattle.singcheck.specs.Checks.{HasProgram}
 use Rattle.singcheck.specs.Replays.{Answered as answered, ComesTo, HasEntry, IsRan, NoEntry, NoSchedule, OfFindings, OfRun, stop_status}
 use Rattle.singcheck.specs.Replays.{struct_names}
-use Rattle.singcheck.proofs.one_answer.EachLemmas.{Answered, sound_some}
+use Rattle.singcheck.proofs.one_answer.EachLemmas.{Answered, program_there, sound_some}
 use Rattle.singcheck.proofs.one_answer.InsertLemmas.{report_there}
 
 -- what the crates below say: a program has bounds, a schedule is read, and events have a replay
@@ -83,6 +80,4 @@ replay_some stages laws entry lines text none = sound_some stages text
     let report = report_there found in
     none (answered report.0 Found (OfFindings (record { found = found; are = are; told = report.1 }) refl)))
     (λ contracts resolved sound.
-    let named : ProgramText = record { text = text; items = resolved.items } in
-    entered_some laws entry lines text (record { contracts = contracts; messages = messages_told named; structs = structs_told named; methods = methods_told named })
-    (record { resolved = resolved; sound = sound; messages = refl; structs = refl; methods = refl }) none)
+    entered_some laws entry lines text (program_told (record { text = text; items = resolved.items })) (program_there text contracts resolved sound) none)

@@ -1,16 +1,13 @@
 -- A text has one answer of a check.
 use Rattle.std.proofs.Common.{◌≡◌, ℕ, List, length, refl, sym, ap, ◌∙◌, subst}
 use Rattle.source.specs.Findings.{FindingModel}
-use Rattle.tree.specs.Trees.{contracts_of}
-use Rattle.declarations.specs.Resolution.{resolved_contracts}
+use Rattle.tree.specs.Trees.{ItemTree}
 use Rattle.contracts.specs.Conditions.{AreExactly}
 use Rattle.program.specs.Programs.{ProgramModel}
-use Rattle.resolving.specs.Brought.{messages_told}
-use Rattle.resolving.specs.Fields.{structs_told}
-use Rattle.resolving.specs.Methods.{methods_told}
+use Rattle.wellformed.specs.Told.{program_told}
 use Rattle.devices.specs.declared.fault.Status.{Status}
 use Rattle.devices.specs.declared.fault.Status.TheVariants.{Empty, Found}
-use Rattle.singcheck.specs.Answers.{AreFindings}
+use Rattle.singcheck.specs.Answers.{AreFindings, IsProgram}
 use Rattle.singcheck.specs.Checks.{AreCheckFindings, Before, OfMethods, Checks, HasProgram, IsClear, IsWrong}
 use Rattle.singcheck.specs.Lines.{clear_line}
 use Rattle.singcheck.proofs.one_answer.OnlyLemmas.{Laws, found_or_sound, one_findings, one_program, some_in}
@@ -19,25 +16,14 @@ use Rattle.singcheck.proofs.one_answer.SameLemmas.{AreAlike, alike_exactly, one_
 pub one_items : Laws → (text : List ℕ) (p q : ProgramModel) (one : HasProgram text p) (other : HasProgram text q) → one.resolved.items ≡ other.resolved.items
 one_items laws text p q one other = one_program laws text one.resolved.items other.resolved.items one.resolved.parsed other.resolved.parsed
 
-one_contracts : Laws → (text : List ℕ) (p q : ProgramModel) → HasProgram text p → HasProgram text q → p.contracts ≡ q.contracts
-one_contracts laws text p q one other = one.resolved.are ∙ ap (λ l. resolved_contracts text (contracts_of l)) (one_items laws text p q one other) ∙ sym other.resolved.are
-
-one_messages : Laws → (text : List ℕ) (p q : ProgramModel) → HasProgram text p → HasProgram text q → p.messages ≡ q.messages
-one_messages laws text p q one other = one.messages ∙ ap (λ items. messages_told (record { text = text; items = items })) (one_items laws text p q one other) ∙ sym other.messages
-
-one_structs : Laws → (text : List ℕ) (p q : ProgramModel) → HasProgram text p → HasProgram text q → p.structs ≡ q.structs
-one_structs laws text p q one other = one.structs ∙ ap (λ items. structs_told (record { text = text; items = items })) (one_items laws text p q one other) ∙ sym other.structs
-
-one_methods : Laws → (text : List ℕ) (p q : ProgramModel) → HasProgram text p → HasProgram text q → p.methods ≡ q.methods
-one_methods laws text p q one other = one.methods ∙ ap (λ items. methods_told (record { text = text; items = items })) (one_items laws text p q one other) ∙ sym other.methods
+-- what the items of the text come to is that program
+pub told_of : Laws → (text : List ℕ) (items : List ItemTree) (p : ProgramModel) → HasProgram text p → IsProgram text items
+    → p ≡ program_told (record { text = text; items = items })
+told_of laws text items p has parsed =
+    has.is ∙ ap (λ l. program_told (record { text = text; items = l })) (one_program laws text has.resolved.items items has.resolved.parsed parsed)
 
 pub one_seen : Laws → (text : List ℕ) (p q : ProgramModel) → HasProgram text p → HasProgram text q → p ≡ q
-one_seen laws text p q one other =
-    let contracts = one_contracts laws text p q one other in
-    let messages = one_messages laws text p q one other in
-    let structs = one_structs laws text p q one other in
-    let methods = one_methods laws text p q one other in
-    λ i. record { contracts = contracts i; messages = messages i; structs = structs i; methods = methods i }
+one_seen laws text p q one other = told_of laws text other.resolved.items p one other.resolved.parsed ∙ sym other.is
 
 -- what an earlier stage found is not found in a program with which nothing is wrong so far
 pub before_or_methods : Laws → (text : List ℕ) (found : List FindingModel) (p : ProgramModel) → AreFindings text found → HasProgram text p → ⊥

@@ -11,7 +11,7 @@ use Rattle.singcheck.proofs.entering.enter_method.Goals.{After-entry_index}
 pub entry_index-requires : goal.entry_index-requires
 entry_index-requires c = record {
   few = let p = program_of c.args.text.now c.args.tree.now in
-      omega (arith, all_named p 0 p.items, ap (λ l. length l) c.requires.program.methods, c.requires.few);
+      omega (arith, all_named p 0 p.items, ap (λ q. length q.methods) c.requires.program.is, c.requires.few);
 }
 
 -- where the entry is looked for

@@ -45,14 +45,12 @@ returns-in_ok-methods-in-Ok c =
     let few = few_contracts text items resolved contract_model has.contracts in
     let size = length-map resolved contract_model in
     let same = ap length told.contracts in
+    let contracts = told.contracts ∙ has.contracts in
     let named : AreNamed text items (program_model methods) = record {
       names = record {
         parsed = parsed.parsed;
         clean = has.clean;
-        contracts = told.contracts ∙ has.contracts;
-        messages = told.messages;
-        structs = told.structs;
-        methods = told.methods;
+        is = λ i. record { contracts = contracts i; messages = told.messages i; structs = told.structs i; methods = told.methods i };
       };
       whole = All-same (λ s. IsWhole s.parts) _ _ told.contracts (All-map (λ s. IsWhole s.parts) contract_model resolved has.whole);
       room = omega (arith, few, size, same, parsed.few);

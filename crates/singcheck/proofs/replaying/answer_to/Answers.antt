@@ -30,7 +30,7 @@ returns-in-Clean-Some-clause-safe g c =
       sound = c.each_program_is_well_formed.ensures.sound text;
       bare = c.each_program_is_well_formed.ensures.bare text;
       bounds = c.each_program_has_bounds.ensures text;
-      one = c.one_program.ensures text;
+      one = c.one_program.ensures.one text;
       safe = c.empty_report_is_safe.ensures;
       bounded = c.runs_are_bounded.ensures;
     } in
@@ -47,7 +47,7 @@ returns-in-Clean-Some-clause-bounded g c =
       sound = c.each_program_is_well_formed.ensures.sound text;
       bare = c.each_program_is_well_formed.ensures.bare text;
       bounds = c.each_program_has_bounds.ensures text;
-      one = c.one_program.ensures text;
+      one = c.one_program.ensures.one text;
       safe = c.empty_report_is_safe.ensures;
       bounded = c.runs_are_bounded.ensures;
     } in
