@@ -102,7 +102,7 @@ pub(crate) fn only(alloc: Global, text: &str) -> Result<Program, Fail>
     Ok(program)
 }
 
-/// The program of a text with one contract and a method, or more of these.
+/// The program of a text with one contract and at least one method.
 pub(crate) fn with_one_contract(alloc: Global, text: &str) -> Result<Program, Fail>
     ensures contracts { IfOk result (λ p. length (model_of p).contracts ≡ 1) }
     ensures methods { IfOk result (λ p. 0 < length (model_of p).methods) }
