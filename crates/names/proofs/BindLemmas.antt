@@ -13,7 +13,7 @@ use Rattle.lemmas.proofs.Lists.{none_left}
 
 -- a name, and those behind it
 abbrev bound_next : ProgramText → Option MessageParameter → Bind → List MessageParameter → List Bind → NameFrame → CheckedPiece
-bound_next p param b params binds f = follow (bind_turn p param b f) (binds_turn p params binds)
+bound_next p param b params binds f = follow (bind_turn p param b.name b.ty f) (binds_turn p params binds)
 
 next_bound : (p : ProgramText) (params : List MessageParameter) (binds : List Bind) (i : ℕ) (d b : Bind) → i < length binds → b ≡ get_or binds i d → binds_turn p (drop i params) (drop i binds) ≡ bound_next p (slice_get params i) b (drop (suc i) params) (drop (suc i) binds)
 next_bound p params [] i d b lt is = absurd (omega (arith, lt))
@@ -24,7 +24,7 @@ next_bound p (x ∷ params) (c ∷ binds) (suc i) d b lt is = next_bound p param
 
 pub bound_less : {text : List ℕ} {old mid : List Mistake} {v : ScopeVariables} {whole : CheckedPiece} (p : ProgramText) (params : List MessageParameter) (binds : List Bind) (i : ℕ) (d b : Bind) (param : Option MessageParameter) → i < length binds → b ≡ get_or binds i d → param ≡ slice_get params i
     → Ongoing text old mid v whole (binds_turn p (drop i params) (drop i binds))
-    → Ongoing text old mid v whole (λ f. follow (bind_turn p param b f) (binds_turn p (drop (i + 1) params) (drop (i + 1) binds)))
+    → Ongoing text old mid v whole (λ f. follow (bind_turn p param b.name b.ty f) (binds_turn p (drop (i + 1) params) (drop (i + 1) binds)))
 bound_less {text = text} {old = old} {mid = mid} {v = v} {whole = whole} p params binds i d b param lt is at o =
     subst (λ n. Ongoing text old mid v whole (bound_next p param b (drop n params) (drop n binds))) (sym (add-one i))
     (subst (λ k. Ongoing text old mid v whole (bound_next p k b (drop (suc i) params) (drop (suc i) binds))) (sym at)

@@ -14,7 +14,7 @@ use Rattle.names.specs.Expressions.{InScope, type_of, place_of, signed_type, sig
 use Rattle.declarations.specs.Mistakes.{Adds}
 use Rattle.declarations.specs.Types.{is_unknown}
 use Rattle.names.specs.Operands.{IsOperand, Judges, IsJoined, IsSigned}
-use Rattle.names.specs.Shapes.{Shape, Joined, Joint, Signed, joint_of, sign_of, with_signs, shape, joined, atom_shape}
+use Rattle.names.specs.Shapes.{Shape, Joined, Joint, Signed, joint_of, with_signs, shape, joined, atom_shape}
 use Rattle.declarations.specs.declared.value_type.ValueType.{ValueType}
 use Rattle.declarations.specs.declared.value_type.ValueType.TheVariants as ty
 use Rattle.names.specs.declared.operands.Operand.{Operand}
@@ -46,14 +46,14 @@ judged_joined s joint l r first second both =
       found = adds_then first.found (adds_then second.found asked.found);
     }
 
-judged_signed : (s : InScope) (p : Prefix) (e : Shape) {old mid new : List Mistake} {inner o : Operand} → IsOperand s e old mid inner → IsSigned (sign_of p.operator) p.span.place inner mid new o → IsOperand s (Signed (sign_of p.operator) p.span.place e) old new o
+judged_signed : (s : InScope) (p : Prefix) (e : Shape) {old mid new : List Mistake} {inner o : Operand} → IsOperand s e old mid inner → IsSigned p.operator p.span.place inner mid new o → IsOperand s (Signed p.operator p.span.place e) old new o
 judged_signed s p e {mid = mid} {new = new} {inner = inner} first sign =
-    let unknown : ValueType → ValueType = λ k. if is_unknown k then ty.Unknown else signed_type (sign_of p.operator) in
+    let unknown : ValueType → ValueType = λ k. if is_unknown k then ty.Unknown else signed_type p.operator in
     record {
       ty = sign.ty ∙ ap unknown first.ty;
       place = sign.at;
       found = adds_then first.found
-          (subst (Adds mid new) (ap (λ k. sign_asked (sign_of p.operator) k inner.place) first.ty ∙ ap (sign_asked (sign_of p.operator) (type_of s e)) first.place) sign.found);
+          (subst (Adds mid new) (ap (λ k. sign_asked p.operator k inner.place) first.ty ∙ ap (sign_asked p.operator (type_of s e)) first.place) sign.found);
     }
 
 -- one more part of a chain
@@ -100,5 +100,5 @@ judges_signed ps qs a tree (Ok o) new {scope = scope} {variables = variables} {o
     (record { all = λ p f is_scope is_frame. all _ (atom_shape a) old (first.all p f is_scope is_frame) }))
 
 -- one more sign, from behind
-pub judged_more : (s : InScope) (e : Shape) (ps : List Prefix) (p : Prefix) {old mid new : List Mistake} {inner o : Operand} → IsOperand s (with_signs ps e) old mid inner → IsSigned (sign_of p.operator) p.span.place inner mid new o → IsOperand s (with_signs (p ∷ ps) e) old new o
+pub judged_more : (s : InScope) (e : Shape) (ps : List Prefix) (p : Prefix) {old mid new : List Mistake} {inner o : Operand} → IsOperand s (with_signs ps e) old mid inner → IsSigned p.operator p.span.place inner mid new o → IsOperand s (with_signs (p ∷ ps) e) old new o
 judged_more s e ps p = judged_signed s p (with_signs ps e)

@@ -3,7 +3,7 @@ use Rattle.std.proofs.Common.{◌≡◌, ℕ, ◌+◌, List, [], ◌∷◌, leng
 use Rattle.std.specs.Prelude.{is_some, position, ◌&&◌, ◌||◌, if◌then◌else◌, Result, OnOk}
 use Rattle.std.specs.Cmp.{tied_then}
 use Rattle.std.specs.Cmp.Lexicographic.{slice_cmp}
-use Rattle.std.specs.List.{position_or_len}
+use Rattle.std.specs.List.{list_any, position_or_len}
 use Rattle.std.specs.Option.{option_cmp}
 use Rattle.std.specs.declared.cmp.Ordering.{Ordering}
 use Rattle.std.specs.Ordering.{is_eq, nat_cmp, ordering_then}
@@ -16,7 +16,7 @@ use Rattle.tree.specs.declared.statement as made
 use Rattle.tree.specs.declared.statement.Awaited.{Awaited}
 use Rattle.tree.specs.declared.statement.Awaited.TheVariants.{Message, Closed}
 use Rattle.names.specs.Bodies.{head_of, heads_of}
-use Rattle.names.specs.Cases.{Head, same_name, same_awaited, is_closed, awaited_span, twice_mistakes, type_head_mistakes, other_head_mistakes, awaits_too, names_endpoint, awaits_closed}
+use Rattle.names.specs.Cases.{Head, same_name, same_awaited, awaited_span, twice_mistakes, type_head_mistakes, other_mistakes, awaits_too, names_endpoint, awaits_closed}
 use Rattle.names.specs.Expressions.{InScope}
 use Rattle.declarations.specs.declared.mistake.Mistake.{Mistake}
 use Rattle.declarations.specs.declared.mistake.Mistake.TheVariants.{CaseTwice}
@@ -28,7 +28,7 @@ use Rattle.program.specs.declared.types.Side.{Side}
 use Rattle.names.specs.Heads.{awaiting_of, awaited_word, key_words, head_words, same_message, same_key, key_at, is_before, switch_heads}
 use Rattle.lemmas.specs.Places.{first_position}
 use Rattle.tables.specs.Words.{word_at, words_at, same_word}
-use Rattle.names.proofs.HeadLemmas.{some_of, first_before, first_of_some}
+use Rattle.names.proofs.HeadLemmas.{first_before, first_of_some}
 use Rattle.lemmas.proofs.FirstPlaces.{same_position}
 use Rattle.tree.proofs.StatementTwins.{switch_is}
 
@@ -91,31 +91,19 @@ turned_message text (Closed a) (Message b) = refl
 turned_message text (Closed a) (Closed b) = refl
 
 -- the heads before a place that await the same
-pub awaiting_too : (text : List ℕ) (h : Head) (before : List Head) → some_of (λ x. same_key (head_words text h) (head_words text x)) before ≡ awaits_too text h before
+pub awaiting_too : (text : List ℕ) (h : Head) (before : List Head) → list_any (λ x. same_key (head_words text h) (head_words text x)) before ≡ awaits_too text h before
 awaiting_too text h [] = refl
 awaiting_too text h (x ∷ xs) =
-    ap (λ b. (b && same_message (awaited_word text h.awaited) (awaited_word text x.awaited)) || some_of (λ x. same_key (head_words text h) (head_words text x)) xs) (turned (word_at text h.endpoint) (word_at text x.endpoint))
-    ∙ ap (λ b. (same_name text x.endpoint h.endpoint && b) || some_of (λ x. same_key (head_words text h) (head_words text x)) xs) (turned_message text h.awaited x.awaited)
+    ap (λ b. (b && same_message (awaited_word text h.awaited) (awaited_word text x.awaited)) || list_any (λ x. same_key (head_words text h) (head_words text x)) xs) (turned (word_at text h.endpoint) (word_at text x.endpoint))
+    ∙ ap (λ b. (same_name text x.endpoint h.endpoint && b) || list_any (λ x. same_key (head_words text h) (head_words text x)) xs) (turned_message text h.awaited x.awaited)
     ∙ ap (λ b. (same_name text x.endpoint h.endpoint && same_awaited text x.awaited h.awaited) || b) (awaiting_too text h xs)
 
 -- those that name an endpoint
-pub naming : (text : List ℕ) (name : Span) (before : List Head) → some_of (λ x. same_word (word_at text name) (word_at text x.endpoint)) before ≡ names_endpoint text name before
+pub naming : (text : List ℕ) (name : Span) (before : List Head) → list_any (λ x. same_word (word_at text name) (word_at text x.endpoint)) before ≡ names_endpoint text name before
 naming text name [] = refl
 naming text name (x ∷ xs) =
-    ap (λ b. b || some_of (λ x. same_word (word_at text name) (word_at text x.endpoint)) xs) (turned (word_at text name) (word_at text x.endpoint))
+    ap (λ b. b || list_any (λ x. same_word (word_at text name) (word_at text x.endpoint)) xs) (turned (word_at text name) (word_at text x.endpoint))
     ∙ ap (λ b. same_name text x.endpoint name || b) (naming text name xs)
-
-closed_message : (text : List ℕ) (a : Awaited) → same_message None (awaited_word text a) ≡ is_closed a
-closed_message text (Message m) = refl
-closed_message text (Closed word) = refl
-
--- those that await its close
-pub awaiting_close : (text : List ℕ) (name : Span) (all : List Head) → some_of (λ x. same_key (word_at text name, None) (head_words text x)) all ≡ awaits_closed text name all
-awaiting_close text name [] = refl
-awaiting_close text name (x ∷ xs) =
-    ap (λ b. (b && same_message None (awaited_word text x.awaited)) || some_of (λ x. same_key (word_at text name, None) (head_words text x)) xs) (turned (word_at text name) (word_at text x.endpoint))
-    ∙ ap (λ b. (same_name text x.endpoint name && b) || some_of (λ x. same_key (word_at text name, None) (head_words text x)) xs) (closed_message text x.awaited)
-    ∙ ap (λ b. (same_name text x.endpoint name && is_closed x.awaited) || b) (awaiting_close text name xs)
 
 -- a head that an earlier one is like
 pub found_twice : (text : List ℕ) (all : List Head) (h : Head) (index : ℕ) → is_before index (key_at text (head_words text h) all) ≡ awaits_too text h (take index all)
@@ -131,7 +119,7 @@ found_named text all name index =
 
 -- an endpoint whose close a head awaits
 pub found_closed : (text : List ℕ) (all : List Head) (name : Span) → is_some (key_at text (word_at text name, None) all) ≡ awaits_closed text name all
-found_closed text all name = first_of_some (λ x. same_key (word_at text name, None) (head_words text x)) all ∙ awaiting_close text name all
+found_closed text all name = first_of_some (λ x. same_key (word_at text name, None) (head_words text x)) all ∙ awaiting_too text (record { endpoint = name; awaited = Closed name; binds = [] }) all
 
 heads_in : (cases : List CaseTree) → heads_of (case_sequence cases) ≡ map head_of cases
 heads_in [] = refl
@@ -146,7 +134,7 @@ switch_heads_are s =
     ∙ mapped head_of case_tree (made.Switch.out-Switch s).others.items)
 
 -- a case on what is no endpoint
-pub no_endpoint : (s : InScope) (all earlier : List Head) (k : ValueType) (h : Head) → ((end : Side) (n : ℕ) → k ≡ ty.Endpoint end n → ⊥) → type_head_mistakes s all earlier k h ≡ (if is_silent k then [] else other_head_mistakes k h)
+pub no_endpoint : (s : InScope) (all earlier : List Head) (k : ValueType) (h : Head) → ((end : Side) (n : ℕ) → k ≡ ty.Endpoint end n → ⊥) → type_head_mistakes s all earlier k h ≡ (if is_silent k then [] else other_mistakes k h h.awaited)
 no_endpoint s all earlier (ty.Scalar t) h other = refl
 no_endpoint s all earlier (ty.Pointer n) h other = refl
 no_endpoint s all earlier (ty.Array t) h other = refl

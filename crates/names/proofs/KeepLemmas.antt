@@ -9,7 +9,7 @@ use Rattle.tree.specs.declared.statement as made
 use Rattle.tree.specs.declared.contract as contract_nodes
 use Rattle.tree.specs.declared.types as type_nodes
 use Rattle.names.specs.Bodies.{Surroundings, plain_turn, statement_turn, statements_turn, block_turn, test_turn, others_turn, case_turn, cases_turn, in_loop, in_switch, head_of, heads_of}
-use Rattle.names.specs.Cases.{Head, typed_turn, bind_turn, binds_turn}
+use Rattle.names.specs.Cases.{Head, bind_turn, binds_turn}
 use Rattle.declarations.specs.Program.{ProgramText}
 use Rattle.names.specs.Variables.{ScopeVariable, NameFrame, variable_named, declared_variable}
 use Rattle.declarations.specs.declared.value_type.ValueType.{ValueType}
@@ -73,14 +73,14 @@ pub statements_extend : (m : Surroundings) (xs : StatementTrees) (f : NameFrame)
 statements_extend m trees.NoStatement f = same_extends f f refl
 statements_extend m (trees.MoreStatements x xs) f = extends_then f _ _ (statement_extends m x f) (statements_extend m xs (statement_turn m x f).frame)
 
-typed_extends : (p : ProgramText) (param : Option contract_nodes.MessageParameter.MessageParameter) (name : Span) (t : Option type_nodes.Type.Type) (f : NameFrame) → Extends f (typed_turn p param name t f).frame
-typed_extends p param name (Some t) f = declared_extends _ _ _ _ f
-typed_extends p param name None f = declared_extends _ _ _ _ f
+bind_extends : (p : ProgramText) (param : Option contract_nodes.MessageParameter.MessageParameter) (name : Span) (t : Option type_nodes.Type.Type) (f : NameFrame) → Extends f (bind_turn p param name t f).frame
+bind_extends p param name (Some t) f = declared_extends _ _ _ _ f
+bind_extends p param name None f = declared_extends _ _ _ _ f
 
 binds_extend : (p : ProgramText) (params : List contract_nodes.MessageParameter.MessageParameter) (binds : List made.Bind.Bind) (f : NameFrame) → Extends f (binds_turn p params binds f).frame
 binds_extend p params [] f = same_extends f f refl
-binds_extend p [] (b ∷ binds) f = extends_then f _ _ (typed_extends p None b.name b.ty f) (binds_extend p [] binds (bind_turn p None b f).frame)
-binds_extend p (x ∷ params) (b ∷ binds) f = extends_then f _ _ (typed_extends p (Some x) b.name b.ty f) (binds_extend p params binds (bind_turn p (Some x) b f).frame)
+binds_extend p [] (b ∷ binds) f = extends_then f _ _ (bind_extends p None b.name b.ty f) (binds_extend p [] binds (bind_turn p None b.name b.ty f).frame)
+binds_extend p (x ∷ params) (b ∷ binds) f = extends_then f _ _ (bind_extends p (Some x) b.name b.ty f) (binds_extend p params binds (bind_turn p (Some x) b.name b.ty f).frame)
 
 -- what stood before a case stands in front behind what it binds and what it does
 pub case_extends : (m : Surroundings) (params : List contract_nodes.MessageParameter.MessageParameter) (binds : List made.Bind.Bind) (xs : StatementTrees) (f : NameFrame) → Extends f (statements_turn m xs (binds_turn m.program params binds f).frame).frame

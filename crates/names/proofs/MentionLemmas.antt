@@ -1,12 +1,14 @@
 -- The fields of the structs that pointers lead to.
 use Rattle.std.proofs.Common.{◌≡◌, ℕ, List, [], ◌∷◌, refl, subst, if◌then◌else◌}
+use Rattle.std.specs.Option.{option_map_or}
 use Rattle.std.specs.Prelude.{Option, None, Some, Result, Ok, Err, IfOk, is_some}
 use Rattle.source.specs.declared.fault.Memory.{Memory}
 use Rattle.declarations.specs.declared.mistake.Mistake.{Mistake}
 use Rattle.source.specs.declared.token.Span.{Span}
 use Rattle.tree.specs.Trees.{StructTree}
-use Rattle.names.specs.Expressions.{InScope, struct_field_type, field_type, field_mistakes}
+use Rattle.names.specs.Expressions.{InScope, field_type, field_mistakes}
 use Rattle.declarations.specs.Named.{field_named}
+use Rattle.declarations.specs.Types.{type_meant}
 use Rattle.declarations.specs.declared.mistake.Mistake.TheVariants.{Unknown}
 use Rattle.declarations.specs.declared.mistake.NameSort.TheVariants as sort
 use Rattle.names.specs.Mentions.{IsGiven, GivesIn}
@@ -19,7 +21,7 @@ use Rattle.declarations.specs.declared.scope.Scope.{Scope}
 
 -- the field of a struct that was found
 abbrev InStruct : InScope → List ℕ → ℕ → Span → Fields → List Mistake → List Mistake → ValueType → Type 0
-InStruct s text index field f old new k = (x : StructTree) → AreFieldsOf text x f → IsGiven (struct_field_type s (field_named text x field)) (if is_some (field_named text x field) then [] else Unknown field (sort.Field index) ∷ []) old new k
+InStruct s text index field f old new k = (x : StructTree) → AreFieldsOf text x f → IsGiven (option_map_or (λ f. type_meant s.program f.ty) (field_named text x field) ty.Unknown) (if is_some (field_named text x field) then [] else Unknown field (sort.Field index) ∷ []) old new k
 
 given_in : (s : InScope) (field : Span) (f : Fields) (old new : List Mistake) (k : ValueType) (index : ℕ) (o : Option (ℕ × StructTree)) → item_at as_struct s.program index ≡ o → IsStruct s.program.text o (Some (index, f)) → InStruct s s.program.text index field f old new k
     → IsGiven (field_type s (ty.Pointer index) field) (field_mistakes s (ty.Pointer index) field field) old new k
@@ -29,7 +31,7 @@ given_in s field f old new k index (Some x) is h all = rw is (all x.1 h.1)
 pub given_pointed : (scope : Scope) (field : Span) (f : Fields) (old new : List Mistake) (index : ℕ) (r : Result ValueType Memory)
     → ((p : ProgramText) → IsScope p scope → IsStruct p.text (item_at as_struct p index) (Some (index, f)))
     → IfOk r (λ k. (s : InScope) (x : StructTree) → IsScope s.program scope → AreFieldsOf scope.text.now x f
-    → IsGiven (struct_field_type s (field_named scope.text.now x field)) (if is_some (field_named scope.text.now x field) then [] else Unknown field (sort.Field index) ∷ []) old new k)
+    → IsGiven (option_map_or (λ f. type_meant s.program f.ty) (field_named scope.text.now x field) ty.Unknown) (if is_some (field_named scope.text.now x field) then [] else Unknown field (sort.Field index) ∷ []) old new k)
     → IfOk r (GivesIn scope (λ s. field_type s (ty.Pointer index) field) (λ s. field_mistakes s (ty.Pointer index) field field) old new)
 given_pointed scope field f old new index (Err e) struct all = tt
 given_pointed scope field f old new index (Ok k) struct all = record {

@@ -5,18 +5,17 @@ use Rattle.std.specs.Prelude.{Option, None, Some}
 use Rattle.source.specs.declared.token.Span.{Span}
 use Rattle.program.specs.declared.types.Scalar.{Scalar}
 use Rattle.program.specs.declared.types.Side.{Side}
-use Rattle.tree.specs.Trees.{ContractTree, StructTree}
+use Rattle.tree.specs.Trees.{ContractTree}
 use Rattle.tree.specs.declared.class as made
 use Rattle.tree.specs.declared.types as type_nodes
 use Rattle.tree.specs.declared.types.Heap.TheVariants as heap
 use Rattle.tree.specs.declared.types.Type.TheVariants as type
 use Rattle.declarations.specs.Declarations.{is_declared, names_of_states, states_of}
 use Rattle.declarations.specs.Types.{endpoint_type, is_heap, pointer_type, type_meant}
-use Rattle.declarations.specs.Named.{field_named}
-use Rattle.declarations.specs.Program.{ProgramText, as_struct, contract_named, item_at, struct_named}
+use Rattle.declarations.specs.Program.{ProgramText, contract_named, struct_named}
 use Rattle.declarations.specs.declared.value_type.ValueType.{ValueType}
 use Rattle.declarations.specs.declared.value_type.ValueType.TheVariants as ty
-use Rattle.names.specs.Expressions.{InScope, field_type, is_owning, owns, struct_field_type}
+use Rattle.names.specs.Expressions.{InScope, field_of, field_type, owns}
 
 no_pointer : {X : Type 0} (o : Option (ℕ × X)) (n : Scalar) → pointer_type o ≡ ty.Scalar n → ⊥
 no_pointer None n is = cc
@@ -40,20 +39,15 @@ scalar_type p (type.Heap (heap.Array element bang)) n is = cc
 scalar_type p (type.Heap (heap.Endpoint contract end state bang in_heap)) n is =
     absurd (no_endpoint p.text (contract_named p contract) end state n is)
 
-scalar_field : (s : InScope) (o : Option made.Field.Field) (n : Scalar) → struct_field_type s o ≡ ty.Scalar n → is_owning o ≡ false
-scalar_field s None n is = refl
-scalar_field s (Some f) n is = scalar_type s.program f.ty n is
-
-scalar_in : (s : InScope) (o : Option (ℕ × StructTree)) (field : Span) (n : Scalar)
-    → option_map_or (λ x. struct_field_type s (field_named s.program.text x.1 field)) o ty.Unknown ≡ ty.Scalar n
-    → option_map_or (λ x. is_owning (field_named s.program.text x.1 field)) o false ≡ false
-scalar_in s None field n is = refl
-scalar_in s (Some x) field n is = scalar_field s (field_named s.program.text x.1 field) n is
+scalar_field : (p : ProgramText) (o : Option made.Field.Field) (n : Scalar)
+    → option_map_or (λ f. type_meant p f.ty) o ty.Unknown ≡ ty.Scalar n → option_map_or (λ f. is_heap f.ty) o false ≡ false
+scalar_field p None n is = refl
+scalar_field p (Some f) n is = scalar_type p f.ty n is
 
 -- a field that is a scalar
 pub scalar_owns : (s : InScope) (held : ValueType) (field : Span) (n : Scalar) → field_type s held field ≡ ty.Scalar n → owns s held field ≡ false
 scalar_owns s (ty.Scalar t) field n is = refl
-scalar_owns s (ty.Pointer place) field n is = scalar_in s (item_at as_struct s.program place) field n is
+scalar_owns s (ty.Pointer place) field n is = scalar_field s.program (field_of s place field) n is
 scalar_owns s (ty.Array t) field n is = refl
 scalar_owns s (ty.Endpoint end c) field n is = refl
 scalar_owns s ty.Missing field n is = refl

@@ -1,5 +1,5 @@
 -- Findings that are added before those of a call that may fail.
-use Rattle.std.proofs.Common.{◌≡◌, [], ℕ, List, ◌++◌, Option, Some, None, refl, sym, ap}
+use Rattle.std.proofs.Common.{◌≡◌, [], ℕ, List, ◌∷◌, ◌++◌, length, Option, Some, None, refl, sym, ap}
 use Rattle.std.specs.Prelude.{Result, Ok, Err, OnOk, option_map}
 use Rattle.std.specs.Option.{option_map_or}
 use Rattle.declarations.specs.declared.mistake.Mistake.{Mistake}
@@ -9,7 +9,7 @@ use Rattle.declarations.specs.Mistakes.{Adds}
 use Rattle.declarations.specs.Owning.{owning_fields}
 use Rattle.declarations.specs.Scopes.{AreMethods, IsClass}
 use Rattle.declarations.specs.declared.members.ClassMethods.{ClassMethods}
-use Rattle.names.specs.Values.{class_meant, Purpose, send_mistakes, argument_mistakes}
+use Rattle.names.specs.Values.{Purpose, argument_mistakes, class_mistakes, send_mistakes}
 use Rattle.names.specs.Expressions.{InScope}
 use Rattle.declarations.specs.Types.{is_silent, unless}
 use Rattle.names.specs.Shapes.{Shape}
@@ -18,6 +18,8 @@ use Rattle.declarations.specs.declared.value_type.ValueType.TheVariants as ty
 use Rattle.source.specs.declared.token.Span.{Span}
 use Rattle.program.specs.declared.types.Side.{Side}
 use Rattle.declarations.specs.declared.mistake.Demand.TheVariants as demand
+use Rattle.declarations.specs.declared.mistake.Mistake.TheVariants.{Unknown}
+use Rattle.declarations.specs.declared.mistake.NameSort.TheVariants as sort
 use Rattle.declarations.specs.declared.mistake.Mismatch.TheVariants.{Given}
 use Rattle.declarations.proofs.AddLemmas.{adds_then}
 
@@ -25,9 +27,10 @@ pub on_adds : {T E : Type 0} (r : Result T E) (old mid new : List Mistake) (a b 
 on_adds (Ok x) old mid new a b first second = adds_then first second
 on_adds (Err e) old mid new a b first second = second
 
-pub class_lacks : (text : List ℕ) (o : Option (ℕ × ClassTree)) → IsClass text o None → class_meant o ≡ None
-class_lacks text None h = refl
-class_lacks text (Some c) h = absurd h
+-- a call of a method of a class that is not there
+pub no_class : (s : InScope) (text : List ℕ) (o : Option (ℕ × ClassTree)) (purpose : Purpose) (class name : Span) (es : List Shape) → IsClass text o None → class_mistakes s o purpose class name es ≡ Unknown class (sort.Front (length s.variables)) ∷ argument_mistakes s [] es
+no_class s text None purpose class name es h = refl
+no_class s text (Some c) purpose class name es h = absurd h
 
 -- a call on what is no endpoint
 pub no_send : (s : InScope) (k : ValueType) (purpose : Purpose) (variable word : Span) (arguments : List Shape) → ((end : Side) (n : ℕ) → k ≡ ty.Endpoint end n → ⊥) → send_mistakes s k purpose variable word arguments ≡ unless (is_silent k) variable.place (Given demand.Endpoint k) ++ argument_mistakes s [] arguments
@@ -63,10 +66,10 @@ no_struct (Some s) is = cc
 
 -- a class that was looked up
 pub record Classed (text : List ℕ) (o : Option (ℕ × ClassTree)) (m : ClassMethods) : Type 0 where
-  pub class : ClassTree
-  pub is : class_meant o ≡ Some class
-  pub methods : AreMethods text class m
+  pub class : ℕ × ClassTree
+  pub is : o ≡ Some class
+  pub methods : AreMethods text class.1 m
 
 pub classed : (text : List ℕ) (o : Option (ℕ × ClassTree)) (m : ClassMethods) → IsClass text o (Some m) → Classed text o m
 classed text None m h = absurd h
-classed text (Some c) m h = record { class = c.1; is = refl; methods = h }
+classed text (Some c) m h = record { class = c; is = refl; methods = h }

@@ -1,6 +1,6 @@
 -- The type of an expression, and what is wrong with the names and types in it.
-use Rattle.std.specs.Prelude.{Bool, false, ◌||◌, not, List, [], ◌∷◌, ◌++◌, codes, length, if◌then◌else◌}
-use Rattle.std.specs.Prelude.{Option, None, Some, is_some}
+use Rattle.std.specs.Prelude.{ℕ, Bool, false, ◌||◌, not, List, [], ◌∷◌, ◌++◌, codes, length, if◌then◌else◌}
+use Rattle.std.specs.Prelude.{Option, is_some, option_and_then}
 use Rattle.std.specs.Option.{option_map_or}
 use Rattle.source.specs.declared.place.Place.{Place}
 use Rattle.source.specs.declared.token.Span.{Span}
@@ -11,11 +11,13 @@ use Rattle.declarations.specs.declared.mistake.NameSort.TheVariants as sort
 use Rattle.declarations.specs.declared.mistake.Demand.TheVariants as demand
 use Rattle.declarations.specs.declared.mistake.Mismatch.TheVariants.{Given, FieldOwns}
 use Rattle.declarations.specs.Named.{field_named}
-use Rattle.declarations.specs.Types.{is_silent, is_unknown, is_number, is_truth, is_block, is_heap, type_meant, unless}
+use Rattle.declarations.specs.Types.{agree, is_silent, is_unknown, is_number, is_truth, is_block, is_heap, type_meant, unless}
 use Rattle.declarations.specs.Program.{ProgramText, as_struct, item_at}
 use Rattle.names.specs.Shapes.{Shape, Number, Truth, Mention, Field, Element, Parens, Signed}
-use Rattle.names.specs.Shapes.{Joined, Joint, Logic, Likeness, Sum, OperandSign, Denial, Minus}
+use Rattle.names.specs.Shapes.{Joined, Joint, Logic, Likeness, Sum}
 use Rattle.tree.specs.declared.class as made
+use Rattle.tree.specs.declared.expression.PrefixOperator.{PrefixOperator}
+use Rattle.tree.specs.declared.expression.PrefixOperator.TheVariants.{Not, Negate}
 use Rattle.names.specs.Variables.{ScopeVariable, variable_named}
 use Rattle.tables.specs.Words.{word_at, same_word}
 use Rattle.declarations.specs.declared.value_type.ValueType.{ValueType}
@@ -44,25 +46,19 @@ place_of (Parens place inner) = place
 place_of (Signed sign place inner) = place
 place_of (Joined joint left right) = place_of left
 
--- the type of a field of what a variable holds; of an array there is the length alone
-abbrev pub struct_field_type : InScope → Option made.Field.Field → ValueType
-struct_field_type s None = ty.Unknown
-struct_field_type s (Some f) = type_meant s.program f.ty
+-- the field of this name of the struct that is the item at this index
+abbrev pub field_of : InScope → ℕ → Span → Option made.Field.Field
+field_of s n field = option_and_then (λ x. field_named s.program.text x.1 field) (item_at as_struct s.program n)
 
--- A field owns where it is of a type of the exchange heap, whether the names in that are declared or not.
-abbrev pub is_owning : Option made.Field.Field → Bool
-is_owning None = false
-is_owning (Some f) = is_heap f.ty
-
--- whether a field of what a variable holds owns
+-- A field of what a variable holds owns if it is of a type of the exchange heap, whether the names in that are declared or not.
 abbrev pub owns : InScope → ValueType → Span → Bool
-owns s (ty.Pointer n) field = option_map_or (λ x. is_owning (field_named s.program.text x.1 field)) (item_at as_struct s.program n) false
+owns s (ty.Pointer n) field = option_map_or (λ f. is_heap f.ty) (field_of s n field) false
 owns s _ field = false
 
+-- the type of a field of what a variable holds; of an array there is the length alone
 abbrev pub field_type : InScope → ValueType → Span → ValueType
 field_type s (ty.Array element) field = if is_length s field then ty.Scalar scalar.Int else ty.Unknown
-field_type s (ty.Pointer n) field =
-    option_map_or (λ x. struct_field_type s (field_named s.program.text x.1 field)) (item_at as_struct s.program n) ty.Unknown
+field_type s (ty.Pointer n) field = option_map_or (λ f. type_meant s.program f.ty) (field_of s n field) ty.Unknown
 field_type s ty.Unknown field = ty.Unknown
 field_type s _ field = ty.Missing
 
@@ -72,30 +68,28 @@ element_type ty.Unknown lost = ty.Unknown
 element_type (ty.Array element) lost = if lost then ty.Unknown else ty.Scalar element
 element_type _ lost = if lost then ty.Unknown else ty.Missing
 
--- the type of what is meant by a name; of a name that nothing declares it is unknown
-abbrev pub variable_type : Option ScopeVariable → ValueType
-variable_type None = ty.Unknown
-variable_type (Some v) = v.ty
+-- the type of what a name means; if nothing declares it, it is unknown
+abbrev pub type_named : InScope → Span → ValueType
+type_named s name = option_map_or (λ v. v.ty) (variable_of s name) ty.Unknown
 
 abbrev pub joined_type : Joint → ValueType
 joined_type Sum = ty.Scalar scalar.Int
 joined_type _ = ty.Scalar scalar.Bool
 
-abbrev pub signed_type : OperandSign → ValueType
-signed_type Denial = ty.Scalar scalar.Bool
-signed_type Minus = ty.Scalar scalar.Int
+abbrev pub signed_type : PrefixOperator → ValueType
+signed_type Not = ty.Scalar scalar.Bool
+signed_type Negate = ty.Scalar scalar.Int
 
 -- An operator gives its own type, but for operands that are built on an unknown name.
 abbrev pub type_of : InScope → Shape → ValueType
 type_of s (Number place) = ty.Scalar scalar.Int
 type_of s (Truth place) = ty.Scalar scalar.Bool
-type_of s (Mention name) = variable_type (variable_of s name)
-type_of s (Field name field) = field_type s (variable_type (variable_of s name)) field
-type_of s (Element name index) = element_type (variable_type (variable_of s name)) (is_unknown (type_of s index))
+type_of s (Mention name) = type_named s name
+type_of s (Field name field) = field_type s (type_named s name) field
+type_of s (Element name index) = element_type (type_named s name) (is_unknown (type_of s index))
 type_of s (Parens place inner) = type_of s inner
 type_of s (Signed sign place inner) = if is_unknown (type_of s inner) then ty.Unknown else signed_type sign
-type_of s (Joined joint left right) = if is_unknown (type_of s left) || is_unknown (type_of s right) then ty.Unknown
-    else joined_type joint
+type_of s (Joined joint left right) = if is_unknown (type_of s left) || is_unknown (type_of s right) then ty.Unknown else joined_type joint
 
 -- what is asked of an operand
 abbrev pub asked_number : ValueType → Place → List Mistake
@@ -106,6 +100,13 @@ asked_truth k place = unless (is_silent k || is_truth k) place (Given demand.Tru
 
 abbrev pub asked_either : ValueType → Place → List Mistake
 asked_either k place = unless (is_silent k || (is_number k || is_truth k)) place (Given demand.Scalar k)
+
+-- a block, or what is of a type
+abbrev pub block_asked : ValueType → Place → List Mistake
+block_asked k place = unless (is_silent k || is_block k) place (Given demand.Block k)
+
+abbrev pub type_asked : ValueType → ValueType → Place → List Mistake
+type_asked asked k place = unless (agree k asked) place (Given (demand.OfType asked) k)
 
 -- Of two that are compared the left one decides, where it is a number or a truth value.
 abbrev pub asked_like : ValueType → ValueType → Place → List Mistake
@@ -118,13 +119,12 @@ left_asked Likeness k place = asked_either k place
 left_asked _ k place = asked_number k place
 
 abbrev pub right_asked : Joint → ValueType → ValueType → Place → List Mistake
-right_asked Logic left k place = asked_truth k place
 right_asked Likeness left k place = asked_like left k place
-right_asked _ left k place = asked_number k place
+right_asked joint left k place = left_asked joint k place
 
-abbrev pub sign_asked : OperandSign → ValueType → Place → List Mistake
-sign_asked Denial k place = asked_truth k place
-sign_asked Minus k place = asked_number k place
+abbrev pub sign_asked : PrefixOperator → ValueType → Place → List Mistake
+sign_asked Not k place = asked_truth k place
+sign_asked Negate k place = asked_number k place
 
 -- a variable has to be declared
 abbrev pub variable_mistakes : InScope → Span → List Mistake
@@ -133,7 +133,7 @@ variable_mistakes s name = if is_some (variable_of s name) then [] else Unknown 
 -- a variable of the exchange heap does not stand within an expression
 abbrev pub mention_mistakes : InScope → Span → List Mistake
 mention_mistakes s name = variable_mistakes s name
-    ++ unless (not (is_block (variable_type (variable_of s name)))) name.place (Given demand.NoBlock (variable_type (variable_of s name)))
+    ++ unless (not (is_block (type_named s name))) name.place (Given demand.NoBlock (type_named s name))
 
 -- only an array has elements
 abbrev pub element_mistakes : ValueType → Span → List Mistake
@@ -153,11 +153,11 @@ expression_mistakes s (Number place) = []
 expression_mistakes s (Truth place) = []
 expression_mistakes s (Mention name) = mention_mistakes s name
 expression_mistakes s (Field name field) =
-    variable_mistakes s name ++ (field_mistakes s (variable_type (variable_of s name)) name field
-    ++ unless (not (owns s (variable_type (variable_of s name)) field)) name.place FieldOwns)
+    variable_mistakes s name ++ (field_mistakes s (type_named s name) name field
+    ++ unless (not (owns s (type_named s name) field)) name.place FieldOwns)
 expression_mistakes s (Element name index) =
     expression_mistakes s index ++ (asked_number (type_of s index) (place_of index)
-    ++ (variable_mistakes s name ++ element_mistakes (variable_type (variable_of s name)) name))
+    ++ (variable_mistakes s name ++ element_mistakes (type_named s name) name))
 expression_mistakes s (Parens place inner) = expression_mistakes s inner
 expression_mistakes s (Signed sign place inner) = expression_mistakes s inner ++ sign_asked sign (type_of s inner) (place_of inner)
 expression_mistakes s (Joined joint left right) =

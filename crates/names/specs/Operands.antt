@@ -9,11 +9,12 @@ use Rattle.names.specs.Frames.{IsContext, IsNameFrame}
 use Rattle.declarations.specs.Types.{is_unknown}
 use Rattle.declarations.specs.Program.{ProgramText}
 use Rattle.declarations.specs.Scopes.{IsScope}
-use Rattle.names.specs.Shapes.{Shape, Joint, OperandSign, shape}
+use Rattle.names.specs.Shapes.{Shape, Joint, shape}
 use Rattle.names.specs.Variables.{NameFrame}
 use Rattle.declarations.specs.declared.value_type.ValueType.TheVariants as ty
 use Rattle.tree.specs.ExpressionTrees.{expression_tree}
 use Rattle.tree.specs.declared.expression.Expression.{Expression}
+use Rattle.tree.specs.declared.expression.PrefixOperator.{PrefixOperator}
 use Rattle.names.specs.declared.operands.Operand.{Operand}
 use Rattle.names.specs.declared.surroundings.NameContext.{NameContext}
 use Rattle.declarations.specs.declared.scope.Scope.{Scope}
@@ -63,7 +64,7 @@ pub record IsJoined (joint : Joint) (left right : Operand) (old new : List Mista
   pub found : Adds old new (left_asked joint left.ty left.place ++ right_asked joint left.ty right.ty right.place)
 
 -- an operand with a sign before it
-pub record IsSigned (sign : OperandSign) (place : Place) (inner : Operand) (old new : List Mistake) (o : Operand) : Type 0 where
+pub record IsSigned (sign : PrefixOperator) (place : Place) (inner : Operand) (old new : List Mistake) (o : Operand) : Type 0 where
   pub ty : o.ty ≡ (if is_unknown inner.ty then ty.Unknown else signed_type sign)
   pub at : o.place ≡ place
   pub found : Adds old new (sign_asked sign inner.ty inner.place)

@@ -1,11 +1,9 @@
 //! What is wrong with what a case of a switch awaits.
 
-ghost use Rattle.std.specs.Prelude.{◌≡◌, ◌∷◌, [], List, Some, OnOk, if◌then◌else◌};
-ghost use Rattle.names.specs.Cases.{awaited_span, closed_mistakes, message_case_mistakes, other_head_mistakes};
+ghost use Rattle.std.specs.Prelude.{◌≡◌, ◌∷◌, [], ℕ, Some, OnOk, if◌then◌else◌};
+ghost use Rattle.names.specs.Cases.{awaited_span, closed_mistakes, message_case_mistakes, other_mistakes};
 ghost use Rattle.declarations.specs.Mistakes.{Adds};
-ghost use Rattle.declarations.specs.Program.{ProgramText};
 ghost use Rattle.names.specs.Values.{receives};
-ghost use Rattle.names.specs.Variables.{ScopeVariable};
 ghost use Rattle.tree.specs.Trees.{message_tree};
 
 use crate::operands::{add_wrong_type, ask};
@@ -86,7 +84,7 @@ pub(crate) fn judge_other_head(
     found: &mut Vec<Mistake>,
 ) -> Result<(), Memory>
     ensures { OnOk result (Adds found.old.items found.new.items
-        (other_head_mistakes ty (record { endpoint = endpoint; awaited = awaited; binds = binds.now }))) }
+        (other_mistakes ty (record { endpoint = endpoint; awaited = awaited; binds = binds.now }) awaited)) }
 {
     add_wrong_type(endpoint.place, Mismatch::Given(Demand::Endpoint, ty), found)?;
     match awaited {
@@ -103,8 +101,8 @@ pub(crate) fn judge_message_case(
     binds: &[Bind],
     found: &mut Vec<Mistake>,
 ) -> Result<(), Memory>
-    ensures { (p : ProgramText) (vs : List ScopeVariable) (k : ValueType) → OnOk result (Adds found.old.items found.new.items
-        (message_case_mistakes (record { program = p; variables = vs }) k (Some (message_tree message.now)) end word binds.now)) }
+    ensures { (n : ℕ) → OnOk result (Adds found.old.items found.new.items
+        (message_case_mistakes n (Some (message_tree message.now)) end word binds.now)) }
 {
     let well = receives(end, message.direction);
     ask(well, word.place, Mismatch::NotReceived(end, word), found)?;

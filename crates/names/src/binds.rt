@@ -1,14 +1,16 @@
 //! What is wrong with what the cases of a switch bind.
 
-ghost use Rattle.std.specs.Prelude.{◌≡◌, ◌++◌, List, Option, OnOk, option_map, slice_get};
+ghost use Rattle.std.specs.Prelude.{◌≡◌, ◌++◌, List, Option, OnOk, false, option_map, slice_get};
+ghost use Rattle.std.specs.Option.{option_map_or};
 ghost use Rattle.tree.specs.Trees.{message_tree};
 ghost use Rattle.program.specs.declared.types.Side.{Side};
 ghost use Rattle.tree.specs.declared.contract.MessageParameter.{MessageParameter};
-ghost use Rattle.names.specs.Cases.{typed_turn, bind_turn, binds_turn, brings_heap};
+ghost use Rattle.names.specs.Cases.{bind_turn, binds_turn};
 ghost use Rattle.declarations.specs.Types.{brought_type};
 ghost use Rattle.declarations.specs.Mistakes.{Adds};
 ghost use Rattle.names.specs.Frames.{IsNameFrame, Turned};
-ghost use Rattle.declarations.specs.Types.{agree, is_heap, type_meant, type_unknown, unless};
+ghost use Rattle.declarations.specs.Types.{is_heap, type_meant, type_unknown};
+ghost use Rattle.names.specs.Expressions.{type_asked};
 ghost use Rattle.declarations.specs.Program.{ProgramText};
 ghost use Rattle.declarations.specs.Scopes.{IsScope};
 ghost use Rattle.names.specs.Variables.{NameFrame, declared_variable};
@@ -32,7 +34,7 @@ fn brought_type(scope: &Scope<'_>, parameter: Option<&MessageParameter>) -> Valu
 
 /// Whether a message brings something of the exchange heap for this parameter.
 fn brings_heap(parameter: Option<&MessageParameter>) -> bool
-    ensures { result ≡ brings_heap (option_map (λ x. x.now) parameter.entry) }
+    ensures { result ≡ option_map_or (λ x. is_heap x.ty) (option_map (λ x. x.now) parameter.entry) false }
 {
     match parameter {
         Some(parameter) => is_heap(parameter.ty),
@@ -49,8 +51,7 @@ fn judge_bound_type(
     found: &mut Vec<Mistake>,
 ) -> Result<(), Memory>
     ensures { (p : ProgramText) → IsScope p scope.now → OnOk result
-        (Adds found.old.items found.new.items (type_unknown p written ++ unless (agree (type_meant p written) brought) name.place
-        (Mismatch.Given (Demand.OfType brought) (type_meant p written)))) }
+        (Adds found.old.items found.new.items (type_unknown p written ++ type_asked brought (type_meant p written) name.place)) }
 {
     judge_type(scope, written, found)?;
     let bound = scope.type_meant(written);
@@ -84,7 +85,8 @@ fn judge_bind<'a>(
     found: &mut Vec<Mistake>,
 ) -> Result<(), Memory>
     ensures { (p : ProgramText) (f : NameFrame) → IsScope p scope.now → IsNameFrame p.text f variables.old → OnOk result
-        (Turned p.text found.old.items found.new.items variables.new (bind_turn p (option_map (λ x. x.now) parameter.entry) bind f)) }
+        (Turned p.text found.old.items found.new.items variables.new
+        (bind_turn p (option_map (λ x. x.now) parameter.entry) bind.name bind.ty f)) }
 {
     let brought = brought_type(scope, parameter);
     match bind.ty {

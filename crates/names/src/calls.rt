@@ -11,7 +11,7 @@ ghost use Rattle.declarations.specs.Scopes.{IsScope, IsCallee};
 ghost use Rattle.names.specs.Values.{argument_mistakes, result_fits, result_type, demand_of, start_mistakes, method_mistakes};
 ghost use Rattle.declarations.specs.Owning.{can_start};
 ghost use Rattle.names.specs.Values.{sends, is_alone, message_mistakes, contract_message, send_mismatch, send_mistakes};
-ghost use Rattle.names.specs.Values.{class_mistakes, class_meant, member_mistakes, call_mistakes};
+ghost use Rattle.names.specs.Values.{class_mistakes, member_mistakes, call_mistakes};
 ghost use Rattle.source.specs.declared.token.Span.{Span as SpanModel};
 ghost use Rattle.names.specs.Operands.{AddsHere, shapes_of};
 ghost use Rattle.names.specs.Frames.{AddsAround};
@@ -296,8 +296,7 @@ fn judge_class(
     found: &mut Vec<Mistake>,
 ) -> Result<(), Memory>
     ensures { AddsHere context.now found.old.items found.new.items result
-        (λ s. class_mistakes s (class_meant
-        (class_named s.program class)) site.now.purpose class site.now.name
+        (λ s. class_mistakes s (class_named s.program class) site.now.purpose class site.now.name
         (shapes_of site.now.arguments.now)) }
 {
     match context.scope.class(class) {

@@ -2,8 +2,8 @@
 
 ghost use Rattle.std.specs.Prelude.{◌≡◌, List, Some, [], take, if◌then◌else◌, OnOk, option_map};
 ghost use Rattle.tree.specs.Trees.{message_tree};
-ghost use Rattle.names.specs.Cases.{Head, awaited_mistakes, endpoint_head_mistakes, type_head_mistakes};
-ghost use Rattle.names.specs.Cases.{other_head_mistakes, head_mistakes, binds_turn, awaited_message};
+ghost use Rattle.names.specs.Cases.{Head, awaited_mistakes, type_head_mistakes};
+ghost use Rattle.names.specs.Cases.{other_mistakes, head_mistakes, binds_turn, awaited_message};
 ghost use Rattle.declarations.specs.Declarations.{bound_params};
 ghost use Rattle.declarations.specs.Mistakes.{Adds};
 ghost use Rattle.names.specs.Frames.{IsContext, IsNameFrame, Turned};
@@ -93,7 +93,7 @@ fn judge_awaited(
     found: &mut Vec<Mistake>,
 ) -> Result<(), Memory>
     ensures { AddsBehind context.now.scope.now twice (case_head case.now) found.old.items found.new.items result (λ s earlier.
-        endpoint_head_mistakes s earlier (ValueType.Endpoint end.side end.item) end.side (case_head case.now)) }
+        awaited_mistakes s earlier end.side end.item (case_head case.now) case.now.message) }
 {
     match case.message {
         Awaited::Closed(word) => {
@@ -115,7 +115,7 @@ fn judge_message(
 ) -> Result<(), Memory>
     ensures { case.now.message ≡ Awaited.Message word
         → AddsBehind context.now.scope.now twice (case_head case.now) found.old.items found.new.items result (λ s earlier.
-        awaited_mistakes s earlier (ValueType.Endpoint end.side end.item) end.side (case_head case.now) (Awaited.Message word)) }
+        awaited_mistakes s earlier end.side end.item (case_head case.now) (Awaited.Message word)) }
 {
     match context.scope.message(end.item, word) {
         Some(message) => {
@@ -129,7 +129,7 @@ fn judge_message(
 /// Adds what is wrong with a case on what is no endpoint, unless its type is unknown.
 fn judge_no_endpoint(ty: ValueType, case: &Case, found: &mut Vec<Mistake>) -> Result<(), Memory>
     ensures { OnOk result (Adds found.old.items found.new.items
-        (if is_silent ty then [] else other_head_mistakes ty (case_head case.now))) }
+        (if is_silent ty then [] else other_mistakes ty (case_head case.now) case.now.message)) }
 {
     if ty.is_silent() {
         return Ok(());

@@ -1,9 +1,8 @@
 //! What is wrong with the names and types in exchanges.
 
-ghost use Rattle.std.specs.Prelude.{◌++◌, ◌||◌, IfOk};
+ghost use Rattle.std.specs.Prelude.{◌++◌, IfOk};
 ghost use Rattle.names.specs.Bodies.{exchanged_type, holder_mistakes, exchange_mistakes};
-ghost use Rattle.names.specs.Expressions.{field_type, field_mistakes};
-ghost use Rattle.declarations.specs.Types.{unless, is_silent, is_block};
+ghost use Rattle.names.specs.Expressions.{block_asked, field_type, field_mistakes};
 ghost use Rattle.names.specs.Mentions.{GivesIn};
 ghost use Rattle.names.specs.Operands.{AddsIn};
 
@@ -61,8 +60,7 @@ fn judge_owning(
     found: &mut Vec<Mistake>,
 ) -> Result<ValueType, Memory>
     ensures { IfOk result (GivesIn scope.now (λ s. field_type s held field) (λ s. field_mistakes s held holder field
-        ++ unless (is_silent (field_type s held field) || is_block (field_type s held field)) field.place
-        (Mismatch.Given Demand.Block (field_type s held field)))
+        ++ block_asked (field_type s held field) field.place)
         found.old.items found.new.items) }
 {
     let ty = judge_field(scope, held, holder, field, found)?;

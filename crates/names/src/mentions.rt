@@ -1,12 +1,14 @@
 //! What is wrong with the variables in an expression, their fields and their elements.
 
-ghost use Rattle.std.specs.Prelude.{◌≡◌, List, [], ◌∷◌, OnOk, IfOk, codes, if◌then◌else◌};
+ghost use Rattle.std.specs.Prelude.{◌≡◌, List, [], ◌∷◌, OnOk, IfOk, codes, false, if◌then◌else◌};
+ghost use Rattle.std.specs.Option.{option_map_or};
 ghost use Rattle.declarations.specs.declared.mistake.Mistake.{Mistake as MistakeModel};
 ghost use Rattle.source.specs.declared.token.Span.{Span};
 ghost use Rattle.tree.specs.Trees.{StructTree};
-ghost use Rattle.names.specs.Expressions.{InScope, variable_of, variable_type, variable_mistakes, field_type, field_mistakes};
-ghost use Rattle.names.specs.Expressions.{element_type, element_mistakes, struct_field_type, is_owning, owns};
+ghost use Rattle.names.specs.Expressions.{InScope, type_named, variable_mistakes, field_type, field_mistakes};
+ghost use Rattle.names.specs.Expressions.{element_type, element_mistakes, owns};
 ghost use Rattle.declarations.specs.Named.{field_named};
+ghost use Rattle.declarations.specs.Types as types;
 ghost use Rattle.declarations.specs.Mistakes.{Adds};
 ghost use Rattle.names.specs.Mentions.{GivesOperand, GivesIn, IsGiven, unknown_field};
 ghost use Rattle.names.specs.Operands.{Judges};
@@ -32,7 +34,7 @@ pub(crate) fn judge_variable(
     found: &mut Vec<Mistake>,
 ) -> Result<ValueType, Memory>
     ensures { IfOk result
-        (GivesOperand scope.now variables.now (λ s. variable_type (variable_of s name)) (λ s. variable_mistakes s name)
+        (GivesOperand scope.now variables.now (λ s. type_named s name) (λ s. variable_mistakes s name)
         found.old.items found.new.items) }
 {
     match variables.find(scope.text, name) {
@@ -174,7 +176,7 @@ fn is_owner(scope: &Scope<'_>, held: ValueType, field: Span) -> bool
 }
 
 fn is_owning(field: Option<Field>) -> bool
-    ensures { result ≡ is_owning field }
+    ensures { result ≡ option_map_or (λ f. types.is_heap f.ty) field false }
 {
     match field {
         Some(field) => is_heap(field.ty),
@@ -228,7 +230,8 @@ fn judge_field_in(
     found: &mut Vec<Mistake>,
 ) -> Result<ValueType, Memory>
     ensures { IfOk result (λ k. (s : InScope) (x : StructTree) → IsScope s.program scope.now → AreFieldsOf scope.now.text.now x fields.now
-        → (let named = field_named scope.now.text.now x field in IsGiven (struct_field_type s named)
+        → (let named = field_named scope.now.text.now x field in
+        IsGiven (option_map_or (λ f. types.type_meant s.program f.ty) named ValueType.Unknown)
         (unknown_field named index field) found.old.items found.new.items k)) }
 {
     match fields.find(scope.text, field) {

@@ -1,11 +1,13 @@
 //! What is wrong with the names and types in classes.
 
-ghost use Rattle.std.specs.Prelude.{OnOk};
+ghost use Rattle.std.specs.Prelude.{OnOk, []};
 ghost use Rattle.std.specs.List.{flat_map};
+ghost use Rattle.std.specs.Option.{option_map_or};
 ghost use Rattle.tree.specs.Trees.{ClassTree, method_tree};
 ghost use Rattle.declarations.specs.Mistakes.{Adds};
 ghost use Rattle.names.specs.Frames.{IsNameFrame, Turned};
-ghost use Rattle.names.specs.Methods.{result_unknown, parameter_turn, parameters_turn, method_turn, class_mistakes};
+ghost use Rattle.declarations.specs.Types.{type_unknown};
+ghost use Rattle.names.specs.Methods.{parameter_turn, parameters_turn, method_turn, class_mistakes};
 ghost use Rattle.declarations.specs.Program.{ProgramText};
 ghost use Rattle.declarations.specs.Scopes.{IsScope, AreMethods};
 ghost use Rattle.names.specs.Variables.{NameFrame};
@@ -79,7 +81,8 @@ fn judge_result(
     written: Option<Type>,
     found: &mut Vec<Mistake>,
 ) -> Result<(), Memory>
-    ensures { (p : ProgramText) → IsScope p scope.now → OnOk result (Adds found.old.items found.new.items (result_unknown p written)) }
+    ensures { (p : ProgramText) → IsScope p scope.now → OnOk result (Adds found.old.items found.new.items
+        (option_map_or (type_unknown p) written [])) }
 {
     match written {
         Some(written) => judge_type(scope, written, found),

@@ -6,7 +6,6 @@ ghost use Rattle.declarations.specs.Types.{unless, is_unknown};
 ghost use Rattle.names.specs.Expressions.{asked_number, asked_truth, asked_either, asked_like};
 ghost use Rattle.names.specs.Expressions.{left_asked, right_asked, joined_type, signed_type, sign_asked};
 ghost use Rattle.names.specs.Operands.{IsJoined, IsSigned};
-ghost use Rattle.names.specs.Shapes.{sign_of};
 
 use declarations::{Demand, Mismatch, Mistake, ValueType};
 use program::Scalar;
@@ -199,7 +198,7 @@ fn ask_signed(
     inner: Operand,
     found: &mut Vec<Mistake>,
 ) -> Result<(), Memory>
-    ensures { OnOk result (Adds found.old.items found.new.items (sign_asked (sign_of operator) inner.ty inner.place)) }
+    ensures { OnOk result (Adds found.old.items found.new.items (sign_asked operator inner.ty inner.place)) }
 {
     match operator {
         PrefixOperator::Not => ask_truth(inner.ty, inner.place, found),
@@ -209,7 +208,7 @@ fn ask_signed(
 
 /// The type of an operand with a sign before it.
 fn type_signed(operator: PrefixOperator, inner: ValueType) -> ValueType
-    ensures { result ≡ (if is_unknown inner then ValueType.Unknown else signed_type (sign_of operator)) }
+    ensures { result ≡ (if is_unknown inner then ValueType.Unknown else signed_type operator) }
 {
     if inner.is_unknown() {
         return ValueType::Unknown;
@@ -226,7 +225,7 @@ pub(crate) fn sign(
     inner: Operand,
     found: &mut Vec<Mistake>,
 ) -> Result<Operand, Memory>
-    ensures { IfOk result (IsSigned (sign_of prefix.operator) prefix.span.place inner found.old.items found.new.items) }
+    ensures { IfOk result (IsSigned prefix.operator prefix.span.place inner found.old.items found.new.items) }
 {
     ask_signed(prefix.operator, inner, found)?;
     Ok(Operand {

@@ -1,12 +1,13 @@
 //! What is wrong with the names and types in statements that hold no others.
 
-ghost use Rattle.std.specs.Prelude.{◌≡◌, ◌++◌, None, Some, OnOk, option_map};
+ghost use Rattle.std.specs.Prelude.{◌≡◌, ◌++◌, ◌∷◌, [], None, Some, OnOk, option_map};
+ghost use Rattle.std.specs.Option.{option_map_or};
 ghost use Rattle.tree.specs.ExpressionTrees.{expression_tree};
 ghost use Rattle.tree.specs.StatementTrees.{declare_tree, assign_tree};
 ghost use Rattle.tree.specs.Values.{value_tree};
-ghost use Rattle.names.specs.Bodies.{given_mistakes, declaration_turn, delete_mistakes, is_end_of, same_end};
-ghost use Rattle.names.specs.Bodies.{demand_beside, ends_mistakes, new_ends_mistakes, channel_mistakes, return_mistakes};
-ghost use Rattle.names.specs.Expressions.{variable_mistakes, variable_of, variable_type};
+ghost use Rattle.names.specs.Bodies.{declaration_turn, delete_mistakes, is_end_of, same_end};
+ghost use Rattle.names.specs.Bodies.{demand_beside, ends_mistakes, channel_mistakes, return_mistakes};
+ghost use Rattle.names.specs.Expressions.{variable_mistakes, type_named};
 ghost use Rattle.declarations.specs.Mistakes.{Adds};
 ghost use Rattle.names.specs.Frames.{AddsAround, IsNameFrame, Turns};
 ghost use Rattle.declarations.specs.Program.{ProgramText, contract_named};
@@ -39,7 +40,7 @@ fn judge_given<'a>(
     found: &mut Vec<Mistake>,
 ) -> Result<(), Memory>
     ensures { AddsAround around.now variables.now found.old.items found.new.items result
-        (λ i. given_mistakes i asked (option_map value_tree value.now)) }
+        (λ i. option_map_or (value_mistakes i asked) (option_map value_tree value.now) []) }
 {
     match value {
         Some(value) => judge_value(around, variables, asked, value, found),
@@ -88,7 +89,7 @@ pub(crate) fn judge_assign<'a>(
 /// The type of what this name means.
 pub(crate) fn held_type(scope: &Scope<'_>, variables: &ScopeVariables<'_>, name: Span) -> ValueType
     ensures { (p : ProgramText) (f : NameFrame) → IsScope p scope.now → IsNameFrame p.text f variables.now
-        → result ≡ variable_type (variable_of (record { program = p; variables = f.variables }) name) }
+        → result ≡ type_named (record { program = p; variables = f.variables }) name }
 {
     match variables.find(scope.text, name) {
         Some(variable) => variable.ty,
@@ -195,8 +196,8 @@ fn judge_new_ends(
     found: &mut Vec<Mistake>,
 ) -> Result<(), Memory>
     ensures { AddsIn scope.now variables.now found.old.items found.new.items result
-        (λ s. new_ends_mistakes s
-        (contract_named s.program channel.contract) channel.contract channel.first channel.second) }
+        (λ s. option_map_or (λ c. ends_mistakes c.0 (type_named s channel.first) (type_named s channel.second) channel.first
+        channel.second) (contract_named s.program channel.contract) (Mistake.Unknown channel.contract NameSort.Contract ∷ [])) }
 {
     let left = held_type(scope, variables, channel.first);
     let right = held_type(scope, variables, channel.second);

@@ -1,7 +1,6 @@
 //! What is wrong with a number of arguments, and with a jump that stands where it cannot.
 
 ghost use Rattle.std.specs.Prelude.{◌∷◌, [], OnOk, if◌then◌else◌, ◌==◌};
-ghost use Rattle.names.specs.Bodies.{outside};
 ghost use Rattle.declarations.specs.Mistakes.{Adds};
 
 use declarations::Mistake;
@@ -26,7 +25,8 @@ pub(crate) fn judge_count(
 
 /// Adds a `break`, unless it has something to break off.
 pub(crate) fn judge_break(well: bool, word: Span, found: &mut Vec<Mistake>) -> Result<(), Memory>
-    ensures { OnOk result (Adds found.old.items found.new.items (outside well (Mistake.BreakOutside word.place))) }
+    ensures { OnOk result (Adds found.old.items found.new.items
+        (if well then [] else Mistake.BreakOutside word.place ∷ [])) }
 {
     if well {
         return Ok(());
@@ -37,7 +37,8 @@ pub(crate) fn judge_break(well: bool, word: Span, found: &mut Vec<Mistake>) -> R
 
 /// Adds a `continue`, unless it has something to turn back to.
 pub(crate) fn judge_continue(well: bool, word: Span, found: &mut Vec<Mistake>) -> Result<(), Memory>
-    ensures { OnOk result (Adds found.old.items found.new.items (outside well (Mistake.ContinueOutside word.place))) }
+    ensures { OnOk result (Adds found.old.items found.new.items
+        (if well then [] else Mistake.ContinueOutside word.place ∷ [])) }
 {
     if well {
         return Ok(());

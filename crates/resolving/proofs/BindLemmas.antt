@@ -7,7 +7,7 @@ use Rattle.tree.specs.declared.statement.Bind.{Bind}
 use Rattle.tree.specs.declared.contract.MessageParameter.{MessageParameter}
 use Rattle.declarations.specs.Program.{ProgramText}
 use Rattle.program.specs.declared.number.VarId.{VarId}
-use Rattle.resolving.specs.Binds.{bind_declaration, bind_told, binds_told, one_number}
+use Rattle.resolving.specs.Binds.{bind_told, binds_told, bound_as, one_number}
 use Rattle.resolving.specs.Frames.{IsLocalFrame, number_model}
 use Rattle.resolving.specs.Locals.{LocalFrame, with_declaration, next_number}
 use Rattle.resolving.specs.Pieces.{ResolvedPiece, follow}
@@ -18,7 +18,7 @@ use Rattle.lemmas.proofs.Lists.{none_left}
 
 -- a name that is declared, with its number, is bound
 pub declared_bound : {T E : Type 0} (p : ProgramText) (param : Option MessageParameter) (b : Bind) (f : LocalFrame) (d : Declaration) (number : Option VarId) (old new : List VarId) (l : Locals) (r : Result T E)
-    → d ≡ bind_declaration p param b → number_model number ≡ next_number d.held f → new ≡ old ++ one_number (number_model number) → OnOk r (IsLocalFrame p.text (with_declaration p.text d f) l) → OnOk r (AddsBinds p.text old new l (bind_told p param b f))
+    → d ≡ bound_as p param b.name b.ty → number_model number ≡ next_number d.held f → new ≡ old ++ one_number (number_model number) → OnOk r (IsLocalFrame p.text (with_declaration p.text d f) l) → OnOk r (AddsBinds p.text old new l (bind_told p param b f))
 declared_bound p param b f d number old new l r is next adds frame =
     subst (λ e. OnOk r (AddsBinds p.text old new l (record { what = one_number (next_number e.held f); frame = with_declaration p.text e f }))) is
     (on_ok_weaker r (λ h. record { adds = adds ∙ ap (λ n. old ++ one_number n) next; frame = h }) frame)

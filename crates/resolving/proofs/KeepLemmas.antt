@@ -9,7 +9,7 @@ use Rattle.tree.specs.declared.statement as made
 use Rattle.tree.specs.declared.contract as tree
 use Rattle.declarations.specs.Program.{ProgramText}
 use Rattle.program.specs.declared.types.HeapType.{HeapType}
-use Rattle.resolving.specs.Binds.{bind_declaration, bind_told, binds_told}
+use Rattle.resolving.specs.Binds.{bind_told, binds_told, bound_as}
 use Rattle.resolving.specs.Locals.{Local, LocalFrame, local_named, with_local, with_declaration, declared_as}
 use Rattle.resolving.specs.Plain.{declaration_of, frame_behind}
 use Rattle.resolving.specs.Told.{statement_told, statements_told, block_told, test_told, others_told, case_told, cases_told}
@@ -84,8 +84,8 @@ statements_extend p class stays (trees.MoreStatements x xs) f = extends_then f _
 
 binds_extend : (p : ProgramText) (params : List tree.MessageParameter.MessageParameter) (binds : List made.Bind.Bind) (f : LocalFrame) → Extends f (binds_told p params binds f).frame
 binds_extend p params [] f = same_extends f f refl
-binds_extend p [] (b ∷ binds) f = extends_then f _ _ (declared_extends p.text (bind_declaration p None b) f) (binds_extend p [] binds (bind_told p None b f).frame)
-binds_extend p (x ∷ params) (b ∷ binds) f = extends_then f _ _ (declared_extends p.text (bind_declaration p (Some x) b) f) (binds_extend p params binds (bind_told p (Some x) b f).frame)
+binds_extend p [] (b ∷ binds) f = extends_then f _ _ (declared_extends p.text (bound_as p None b.name b.ty) f) (binds_extend p [] binds (bind_told p None b f).frame)
+binds_extend p (x ∷ params) (b ∷ binds) f = extends_then f _ _ (declared_extends p.text (bound_as p (Some x) b.name b.ty) f) (binds_extend p params binds (bind_told p (Some x) b f).frame)
 
 -- and behind what a case binds, with the statements behind it
 pub case_extends : (p : ProgramText) (class : ℕ) (stays : Staying) (params : List tree.MessageParameter.MessageParameter) (binds : List made.Bind.Bind) (xs : StatementTrees) (f : LocalFrame) → Extends f (statements_told p class stays xs (binds_told p params binds f).frame).frame

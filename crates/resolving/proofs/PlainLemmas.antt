@@ -18,19 +18,20 @@ use Rattle.resolving.specs.Frames.{IsLocalFrame}
 use Rattle.resolving.specs.Locals.{LocalFrame, mention_of, number_of}
 use Rattle.resolving.specs.Reads.{reads}
 use Rattle.resolving.specs.Steps.{TellsStatement, TellsCall}
-use Rattle.resolving.specs.Plain.{simple_of, lone, return_statement, assign_statement, first_value}
+use Rattle.program.specs.Statements as seen
+use Rattle.resolving.specs.Plain.{lone, return_statement, assign_statement, first_value}
 use Rattle.resolving.specs.declared.locals.Locals.{Locals}
 
 -- an expression that is given is read, or is a variable of the exchange heap alone
 pub returned_told : (p : ProgramText) (own : ℕ) (locals : Locals) (place : Place) (e : ExpressionTree) (value : Option Mention) (scope : Option VarId) (before : List Mention) (r : Result Statement AllocError)
     → before ≡ [] → ((f : LocalFrame) → IsLocalFrame p.text f locals → value ≡ lone p own f e) → ((f : LocalFrame) → IsLocalFrame p.text f locals → scope ≡ option_map number_of f.last)
-    → IfOk r (TellsStatement p.text locals (λ f. simple_of (before ++ reads p.text f.locals e) (Return place value scope))) → IfOk r (TellsStatement p.text locals (λ f. return_statement p own f place (Some e)))
+    → IfOk r (TellsStatement p.text locals (λ f. seen.Simple (before ++ reads p.text f.locals e) (Return place value scope))) → IfOk r (TellsStatement p.text locals (λ f. return_statement p own f place (Some e)))
 returned_told p own locals place e value scope before (Err x) none is last h = tt
 returned_told p own locals place e value scope before (Ok s) none is last h = record {
   all = λ f frame. h.all f frame
-      ∙ ap (λ l. simple_of (l ++ reads p.text f.locals e) (Return place value scope)) none
-      ∙ ap (λ v. simple_of (reads p.text f.locals e) (Return place v scope)) (is f frame)
-      ∙ ap (λ n. simple_of (reads p.text f.locals e) (Return place (lone p own f e) n)) (last f frame);
+      ∙ ap (λ l. seen.Simple (l ++ reads p.text f.locals e) (Return place value scope)) none
+      ∙ ap (λ v. seen.Simple (reads p.text f.locals e) (Return place v scope)) (is f frame)
+      ∙ ap (λ n. seen.Simple (reads p.text f.locals e) (Return place (lone p own f e) n)) (last f frame);
 }
 
 -- a statement that comes to what another does
@@ -40,8 +41,8 @@ told_as text locals (Ok s) now want same h = record { all = λ f frame. h.all f 
 
 -- a statement that is a call, or nothing where there is none
 pub call_said : (text : List ℕ) (locals : Locals) (wrap : CallModel → StatementModel) (want : LocalFrame → Option CallModel) (o : Option Call) (s : Statement)
-    → statement_model s ≡ option_map_or wrap (option_map call_model o) (simple_of [] Nothing) → TellsCall text locals want o → TellsStatement text locals (λ f. option_map_or wrap (want f) (simple_of [] Nothing)) s
-call_said text locals wrap want o s is h = record { all = λ f frame. is ∙ ap (λ w. option_map_or wrap w (simple_of [] Nothing)) (h.all f frame) }
+    → statement_model s ≡ option_map_or wrap (option_map call_model o) (seen.Simple [] Nothing) → TellsCall text locals want o → TellsStatement text locals (λ f. option_map_or wrap (want f) (seen.Simple [] Nothing)) s
+call_said text locals wrap want o s is h = record { all = λ f frame. is ∙ ap (λ w. option_map_or wrap w (seen.Simple [] Nothing)) (h.all f frame) }
 
 -- the value of a declaration is assigned
 pub first_assigned : (p : ProgramText) (own : ℕ) (f : LocalFrame) (name : Span) (number : Option ℕ) (v : ValueTree) → assign_statement p own f (option_map (mention_of name) number) v ≡ first_value p own f name number (Some v)

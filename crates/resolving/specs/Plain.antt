@@ -34,25 +34,13 @@ use Rattle.resolving.specs.Staying.{Staying}
 use Rattle.tree.specs.Alone.{lone_name}
 use Rattle.resolving.specs.declared.locals.Declaration.{Declaration}
 
--- a simple statement: what it reads, and what it does then
-abbrev pub simple_of : List Mention → Effect → StatementModel
-simple_of reads effect = seen.Simple reads effect
-
 -- an action, if there is one
 abbrev pub effect_of : Option Action → Effect
-effect_of None = Nothing
-effect_of (Some action) = Act action
+effect_of action = option_map_or Act action Nothing
 
--- the target takes what the source has
-abbrev pub move_of : Mention → Option Mention → Effect
-move_of target source = effect_of (option_map (Move target) source)
-
--- a field or an element is written
-abbrev pub use_of : Option Mention → Effect
-use_of whole = effect_of (option_map Use whole)
-
-abbrev pub delete_of : Option Mention → Effect
-delete_of freed = effect_of (option_map Delete freed)
+-- an action on what a name means, if it means a variable of the exchange heap
+abbrev pub effect_on : (Mention → Action) → Option Mention → Effect
+effect_on act mention = effect_of (option_map act mention)
 
 -- what is given for a parameter: a variable of the exchange heap, if that is what stands there alone
 abbrev pub argument_of : declared_class.Parameter.Parameter → Option Mention → List Argument
@@ -98,10 +86,10 @@ module _ (p : ProgramText) (class : ℕ) (f : LocalFrame) where
   call_told c target behind = option_map (call_of c target behind) (callee p class f.locals c)
 
   abbrev pub call_statement : CallTree → Option Mention → List Mention → StatementModel
-  call_statement c target behind = option_map_or seen.Call (call_told c target behind) (simple_of [] Nothing)
+  call_statement c target behind = option_map_or seen.Call (call_told c target behind) (seen.Simple [] Nothing)
 
   abbrev pub start_statement : CallTree → StatementModel
-  start_statement c = option_map_or seen.Start (call_told c None []) (simple_of [] Nothing)
+  start_statement c = option_map_or seen.Start (call_told c None []) (seen.Simple [] Nothing)
 
   -- what is given for the parameters of a message that are of the exchange heap, in order
   abbrev pub payloads : List ExpressionTree → List Mention
@@ -171,15 +159,15 @@ module _ (p : ProgramText) (class : ℕ) (f : LocalFrame) where
 
   -- a variable of the exchange heap takes a value
   abbrev pub take_statement : Mention → ValueTree → StatementModel
-  take_statement target (values.Expression e) = simple_of [] (move_of target (lone e))
+  take_statement target (values.Expression e) = seen.Simple [] (effect_on (Move target) (lone e))
   take_statement target (values.Call c) = call_statement c (Some target) []
   take_statement target (values.New n) = seen.New (new_of target n.made)
 
   -- a scalar takes a value
   abbrev pub scalar_taken : ValueTree → StatementModel
-  scalar_taken (values.Expression e) = simple_of (reads p.text f.locals e) Nothing
+  scalar_taken (values.Expression e) = seen.Simple (reads p.text f.locals e) Nothing
   scalar_taken (values.Call c) = call_statement c None []
-  scalar_taken (values.New n) = simple_of (made_reads n.made) Nothing
+  scalar_taken (values.New n) = seen.Simple (made_reads n.made) Nothing
 
   -- a variable takes a value: one of the exchange heap, or a scalar
   abbrev pub assign_statement : Option Mention → ValueTree → StatementModel
@@ -189,9 +177,9 @@ module _ (p : ProgramText) (class : ℕ) (f : LocalFrame) where
   -- A part of what a variable has takes a value. The index of an element is read before the value, and what is written into is
   -- used behind both; behind a call, both stand behind it.
   abbrev pub part_taken : List Mention → Option Mention → ValueTree → StatementModel
-  part_taken index whole (values.Expression e) = simple_of (index ++ reads p.text f.locals e) (use_of whole)
+  part_taken index whole (values.Expression e) = seen.Simple (index ++ reads p.text f.locals e) (effect_on Use whole)
   part_taken index whole (values.Call c) = call_statement c None (index ++ mention_list whole)
-  part_taken index whole (values.New n) = simple_of (index ++ made_reads n.made) (use_of whole)
+  part_taken index whole (values.New n) = seen.Simple (index ++ made_reads n.made) (effect_on Use whole)
 
   abbrev pub write_statement : TargetTree → ValueTree → StatementModel
   write_statement (trees.Variable name) value = assign_statement (mention p.text f.locals name) value
@@ -200,13 +188,13 @@ module _ (p : ProgramText) (class : ℕ) (f : LocalFrame) where
 
   -- a declaration with a value assigns it; the variable has the next number
   abbrev pub first_value : Span → Option ℕ → Option ValueTree → StatementModel
-  first_value name number None = simple_of [] Nothing
+  first_value name number None = seen.Simple [] Nothing
   first_value name number (Some value) = assign_statement (option_map (mention_of name) number) value
 
   -- what a method gives: a scalar is read, and a variable of the exchange heap stands alone
   abbrev pub return_statement : Place → Option ExpressionTree → StatementModel
-  return_statement place None = simple_of [] (Return place None (option_map number_of f.last))
-  return_statement place (Some e) = simple_of (reads p.text f.locals e) (Return place (lone e) (option_map number_of f.last))
+  return_statement place None = seen.Simple [] (Return place None (option_map number_of f.last))
+  return_statement place (Some e) = seen.Simple (reads p.text f.locals e) (Return place (lone e) (option_map number_of f.last))
 
   -- a statement that holds no others
   abbrev pub plain_told : Staying → PlainTree → StatementModel
@@ -214,11 +202,11 @@ module _ (p : ProgramText) (class : ℕ) (f : LocalFrame) where
   plain_told stays (stated.Assign a) = write_statement a.target a.value
   plain_told stays (stated.Call c) = stated_call c
   plain_told stays (stated.Start word c) = start_statement c
-  plain_told stays (stated.Delete name) = simple_of [] (delete_of (mention p.text f.locals name))
-  plain_told stays (stated.Exchange e) = simple_of [] (effect_of (exchange_found e))
-  plain_told stays (stated.NewChannel n) = simple_of [] (effect_of (channel_found n))
-  plain_told stays (stated.Break word) = simple_of [] (Break (forget word.place stays.at_break f.last))
-  plain_told stays (stated.Continue word) = simple_of [] (Continue (forget word.place stays.at_continue f.last))
+  plain_told stays (stated.Delete name) = seen.Simple [] (effect_on Delete (mention p.text f.locals name))
+  plain_told stays (stated.Exchange e) = seen.Simple [] (effect_of (exchange_found e))
+  plain_told stays (stated.NewChannel n) = seen.Simple [] (effect_of (channel_found n))
+  plain_told stays (stated.Break word) = seen.Simple [] (Break (forget word.place stays.at_break f.last))
+  plain_told stays (stated.Continue word) = seen.Simple [] (Continue (forget word.place stays.at_continue f.last))
   plain_told stays (stated.Return word value) = return_statement word.place value
 
   -- the frame behind it

@@ -103,7 +103,7 @@ fn bind_declaration(
     bind: Bind,
 ) -> Declaration
     ensures { (p : ProgramText) (own : ℕ) → IsAround p own around.now
-        → result ≡ model.bind_declaration p (option_map (λ x. x.now) param.entry) bind }
+        → result ≡ model.bound_as p (option_map (λ x. x.now) param.entry) bind.name bind.ty }
 {
     let name = bind.name;
     let role = Role::Local;

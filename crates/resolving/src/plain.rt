@@ -11,7 +11,7 @@ ghost use Rattle.resolving.specs.Frames.{IsLocalFrame, staying_model};
 ghost use Rattle.resolving.specs.Types.{type_held};
 ghost use Rattle.resolving.specs.Locals.{LocalFrame, mention_of, next_number};
 ghost use Rattle.resolving.specs.Steps.{TellsStatement};
-ghost use Rattle.resolving.specs.Plain.{declaration_of, delete_of, first_value, frame_behind, plain_told};
+ghost use Rattle.resolving.specs.Plain.{declaration_of, effect_on, first_value, frame_behind, plain_told};
 ghost use Rattle.resolving.specs.Plain.{return_statement, write_statement};
 
 use crate::around::Around;
@@ -31,7 +31,7 @@ use tree::{Declare, Expression, Plain, Target, Value};
 
 /// What a variable has is freed.
 fn delete_effect(mention: Option<Mention>) -> Effect
-    ensures { result ≡ delete_of mention }
+    ensures { result ≡ effect_on Action.Delete mention }
 {
     match mention {
         Some(mention) => Effect::Act(Action::Delete(mention)),

@@ -1,11 +1,11 @@
 //! What stays in scope where a block, a loop or a switch is left, and what does not.
 
 ghost use Rattle.std.specs.Prelude.{◌≡◌, ℕ, List, []};
+ghost use Rattle.program.specs.Statements as seen;
 ghost use Rattle.program.specs.Statements.{statement_model};
 ghost use Rattle.program.specs.declared.statement.Effect.TheVariants.{Break, Continue};
 ghost use Rattle.resolving.specs.Frames.{IsLocalFrame, number_model, staying_model};
 ghost use Rattle.resolving.specs.Locals.{LocalFrame, forget};
-ghost use Rattle.resolving.specs.Plain.{simple_of};
 ghost use Rattle.resolving.specs.Staying.{stays_here, in_switch};
 
 use crate::locals::Locals;
@@ -70,7 +70,7 @@ pub(crate) fn tell_break(
     stays: Staying,
 ) -> Statement
     ensures { (text : List ℕ) (f : LocalFrame) → IsLocalFrame text f locals.now
-        → statement_model result ≡ simple_of [] (Break (forget place (number_model stays.at_break) f.last)) }
+        → statement_model result ≡ seen.Simple [] (Break (forget place (number_model stays.at_break) f.last)) }
 {
     unread(
         alloc,
@@ -86,7 +86,7 @@ pub(crate) fn tell_continue(
     stays: Staying,
 ) -> Statement
     ensures { (text : List ℕ) (f : LocalFrame) → IsLocalFrame text f locals.now
-        → statement_model result ≡ simple_of [] (Continue (forget place (number_model stays.at_continue) f.last)) }
+        → statement_model result ≡ seen.Simple [] (Continue (forget place (number_model stays.at_continue) f.last)) }
 {
     unread(
         alloc,

@@ -12,8 +12,8 @@ ghost use Rattle.resolving.specs.Steps.{AddsReads, TellsStatement};
 ghost use Rattle.resolving.specs.Frames.{IsLocalFrame};
 ghost use Rattle.resolving.specs.Locals.{LocalFrame};
 ghost use Rattle.resolving.specs.Reads.{reads};
-ghost use Rattle.resolving.specs.Plain.{assign_statement, effect_of, made_arguments, made_reads, move_of, new_of};
-ghost use Rattle.resolving.specs.Plain.{part_taken, scalar_taken, simple_of, take_statement, use_of};
+ghost use Rattle.resolving.specs.Plain.{assign_statement, effect_of, effect_on, made_arguments, made_reads, new_of};
+ghost use Rattle.resolving.specs.Plain.{part_taken, scalar_taken, take_statement};
 
 use crate::around::Around;
 use crate::calls::{ResultUse, tell_call};
@@ -26,14 +26,14 @@ use tree::{Expression, Made, Value};
 
 /// The statement that reads these, and then does this.
 fn simple_statement(reads: Vec<Mention>, effect: Effect) -> Statement
-    ensures { statement_model result ≡ simple_of reads.items effect }
+    ensures { statement_model result ≡ seen.Simple reads.items effect }
 {
     Statement::Simple(Simple { reads, effect })
 }
 
 /// A statement that reads nothing.
 pub(crate) fn unread(alloc: Global, effect: Effect) -> Statement
-    ensures { statement_model result ≡ simple_of [] effect }
+    ensures { statement_model result ≡ seen.Simple [] effect }
 {
     simple_statement(Vec::new(alloc), effect)
 }
@@ -50,14 +50,14 @@ fn effect_of(action: Option<Action>) -> Effect
 
 /// A statement that reads nothing and does this, if there is an action.
 pub(crate) fn statement_of(alloc: Global, action: Option<Action>) -> Statement
-    ensures { statement_model result ≡ simple_of [] (effect_of action) }
+    ensures { statement_model result ≡ seen.Simple [] (effect_of action) }
 {
     unread(alloc, effect_of(action))
 }
 
 /// The target takes what the source has, if there is a source.
 fn move_effect(target: Mention, source: Option<Mention>) -> Effect
-    ensures { result ≡ move_of target source }
+    ensures { result ≡ effect_on (Action.Move target) source }
 {
     match source {
         Some(source) => Effect::Act(Action::Move { target, source }),
@@ -67,7 +67,7 @@ fn move_effect(target: Mention, source: Option<Mention>) -> Effect
 
 /// A part of what the variable has is written.
 fn use_effect(whole: Option<Mention>) -> Effect
-    ensures { result ≡ use_of whole }
+    ensures { result ≡ effect_on Action.Use whole }
 {
     match whole {
         Some(whole) => Effect::Act(Action::Use(whole)),
@@ -116,7 +116,7 @@ fn tell_made(
     effect: Effect,
 ) -> Result<Statement, AllocError>
     ensures { (items : List ItemTree) (own : ℕ) → IfOk result (TellsStatement text.now locals.now
-        (λ f. simple_of (before.items ++ made_reads (program_in text.now items) own f (made_tree made.now)) effect)) }
+        (λ f. seen.Simple (before.items ++ made_reads (program_in text.now items) own f (made_tree made.now)) effect)) }
 {
     add_made_reads(text, locals, made, &mut before)?;
     Ok(simple_statement(before, effect))
@@ -151,7 +151,7 @@ pub(crate) fn tell_read(
     effect: Effect,
 ) -> Result<Statement, AllocError>
     ensures { IfOk result (TellsStatement text.now locals.now
-        (λ f. simple_of (before.items ++ reads text.now f.locals (expression_tree expression.now)) effect)) }
+        (λ f. seen.Simple (before.items ++ reads text.now f.locals (expression_tree expression.now)) effect)) }
 {
     add_reads(text, locals, expression, &mut before)?;
     Ok(simple_statement(before, effect))

@@ -11,7 +11,7 @@ use Rattle.names.specs.Expressions.{type_of, place_of, whole_mistakes}
 use Rattle.declarations.specs.Types.{agree, alike, is_block, type_meant, type_unknown, unless}
 use Rattle.declarations.specs.Program.{ProgramText}
 use Rattle.names.specs.Shapes.{shape}
-use Rattle.names.specs.Values.{argument_mistakes, asked_mistakes, parameter_types}
+use Rattle.names.specs.Values.{argument_mistakes, asked_mistakes}
 use Rattle.names.specs.Variables as names
 use Rattle.declarations.specs.declared.value_type as declared
 use Rattle.program.specs.Methods.{VariableModel}
@@ -153,13 +153,13 @@ one_given p class s f g standing x e known asked true block hs gs rest =
 
 -- what is given for the parameters of a method
 pub arguments_given : (p : ProgramText) (class : ℕ) (s : Setting) (f : LocalFrame) (g : names.NameFrame) → AreStanding p s.variables f g → (params : List Parameter) (es : List ExpressionTree)
-    → Each (λ x. type_unknown p x.ty ≡ []) params → length params ≡ length es → argument_mistakes (scope_of p g) (parameter_types p params) (map shape es) ≡ []
+    → Each (λ x. type_unknown p x.ty ≡ []) params → length params ≡ length es → argument_mistakes (scope_of p g) (map (λ x. type_meant p x.ty) params) (map shape es) ≡ []
     → GivenFor s (flat_map (heading p) params) (arguments p class f params es)
 arguments_given p class s f g standing [] es known many none = tt
 arguments_given p class s f g standing (x ∷ params) [] known many none = cc
 arguments_given p class s f g standing (x ∷ params) (e ∷ es) known many none =
     let k = type_meant p x.ty in
-    let both = both_none (asked_mistakes (scope_of p g) k (shape e)) (argument_mistakes (scope_of p g) (parameter_types p params) (map shape es)) none in
+    let both = both_none (asked_mistakes (scope_of p g) k (shape e)) (argument_mistakes (scope_of p g) (map (λ x. type_meant p x.ty) params) (map shape es)) none in
     let asked = asked_known p s.variables f g standing k e (type_known p x.ty known.0) both.0 in
     let rest = arguments_given p class s f g standing params es known.1 (omega (arith, many)) both.1 in
     one_given p class s f g standing x e known.0 asked (is_block k) refl (flat_map (heading p) params) (arguments p class f params es) rest

@@ -5,7 +5,7 @@ use Rattle.source.specs.declared.token.Span.{Span}
 use Rattle.tree.specs.declared.statement as made
 use Rattle.tree.specs.declared.types as type_nodes
 use Rattle.tree.specs.declared.contract.MessageParameter.{MessageParameter}
-use Rattle.names.specs.Cases.{bind_turn, binds_turn, typed_turn}
+use Rattle.names.specs.Cases.{bind_turn, binds_turn}
 use Rattle.declarations.specs.declared.mistake.Demand.TheVariants as demand
 use Rattle.declarations.specs.declared.mistake.Mismatch.TheVariants.{Given}
 use Rattle.declarations.specs.Types.{brought_type}
@@ -58,8 +58,8 @@ bind_bound p vs param name None f after behind bound within rest = next_bound p 
 
 -- A name that a case binds comes into scope. What the message brings for it counts where it is of the exchange heap.
 bind_stands : (p : ProgramText) (vs : List VariableModel) (x : MessageParameter) (name : Span) (ty : Option type_nodes.Type.Type) (f : LocalFrame) (g : names.NameFrame)
-    → type_unknown p x.ty ≡ [] → AreStanding p vs f g → Within vs (with_declaration p.text (bound_as p (Some x) name ty) f) → (typed_turn p (Some x) name ty g).found ≡ []
-    → AreStanding p vs (with_declaration p.text (bound_as p (Some x) name ty) f) (typed_turn p (Some x) name ty g).frame
+    → type_unknown p x.ty ≡ [] → AreStanding p vs f g → Within vs (with_declaration p.text (bound_as p (Some x) name ty) f) → (bind_turn p (Some x) name ty g).found ≡ []
+    → AreStanding p vs (with_declaration p.text (bound_as p (Some x) name ty) f) (bind_turn p (Some x) name ty g).frame
 bind_stands p vs x name (Some t) f g brought standing within none =
     let fits = unless (agree (type_meant p t) (brought_type p (Some x))) name.place (Given (demand.OfType (brought_type p (Some x))) (type_meant p t)) in
     let entered = declared_variable p.text name (type_meant p t) (is_heap t) g in
@@ -79,7 +79,7 @@ binds_stand p vs params [] f g standing within known many none = record { standi
 binds_stand p vs [] (b ∷ binds) f g standing within known many none = absurd (omega arith)
 binds_stand p vs (x ∷ params) (b ∷ binds) f g standing within known many none =
     let next = (bind_told p (Some x) b f).frame in
-    let turned = bind_turn p (Some x) b g in
+    let turned = bind_turn p (Some x) b.name b.ty g in
     let here = within_before p next (binds_told p params binds next).frame vs (binds_grow p params binds next) within in
     let clean = both_none turned.found (binds_turn p params binds turned.frame).found none in
     let stands = bind_stands p vs x b.name b.ty f g known.0 standing here clean.0 in

@@ -7,7 +7,7 @@ use Rattle.tree.specs.Trees.{MessageTree, contracts_of}
 use Rattle.tree.specs.declared.statement as made
 use Rattle.tree.specs.declared.types as type_nodes
 use Rattle.tree.specs.declared.contract.MessageParameter.{MessageParameter}
-use Rattle.names.specs.Cases.{bind_turn, binds_turn, typed_turn}
+use Rattle.names.specs.Cases.{bind_turn, binds_turn}
 use Rattle.declarations.specs.Declarations.{messages_of}
 use Rattle.declarations.specs.declared.mistake.Demand.TheVariants as demand
 use Rattle.declarations.specs.declared.mistake.Mismatch.TheVariants.{Given}
@@ -62,7 +62,7 @@ one_holds p s name a k own asked f true block like sure known within ks vs rest 
 
 -- a name that a case binds for this parameter
 bound_holds : (p : ProgramText) (s : Setting) (x : MessageParameter) (name : Span) (ty : Option type_nodes.Type.Type) (f : LocalFrame) (g : names.NameFrame) → IsKnown p (type_meant p x.ty)
-    → Within s.variables (with_declaration p.text (bound_as p (Some x) name ty) f) → (typed_turn p (Some x) name ty g).found ≡ [] → (ks : List held.HeapType.HeapType) (vs : List VarId) → HoldAll s ks vs
+    → Within s.variables (with_declaration p.text (bound_as p (Some x) name ty) f) → (bind_turn p (Some x) name ty g).found ≡ [] → (ks : List held.HeapType.HeapType) (vs : List VarId) → HoldAll s ks vs
     → HoldAll s (held_listed (type_held p x.ty) ++ ks) (one_number (next_number (bound_as p (Some x) name ty).held f) ++ vs)
 bound_holds p s x name (Some t) f g known within none ks vs rest =
     let k = type_meant p x.ty in
@@ -84,7 +84,7 @@ binds_hold p s (x ∷ params) [] f g within known many none = absurd (omega arit
 binds_hold p s [] (b ∷ binds) f g within known many none = absurd (omega arith)
 binds_hold p s (x ∷ params) (b ∷ binds) f g within known many none =
     let next = (bind_told p (Some x) b f).frame in
-    let turned = bind_turn p (Some x) b g in
+    let turned = bind_turn p (Some x) b.name b.ty g in
     let clean = both_none turned.found (binds_turn p params binds turned.frame).found none in
     let here = within_before p next (binds_told p params binds next).frame s.variables (binds_grow p params binds next) within in
     let fewer : length params ≡ length binds = omega arith in

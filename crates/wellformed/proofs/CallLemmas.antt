@@ -8,14 +8,14 @@ use Rattle.tree.specs.Expressions.{ExpressionTree}
 use Rattle.tree.specs.Trees.{ClassTree, MethodTree}
 use Rattle.tree.specs.Values.{CallTree}
 use Rattle.tree.specs.declared.types as tree
-use Rattle.names.specs.Expressions.{variable_type, variable_mistakes}
+use Rattle.names.specs.Expressions.{variable_mistakes}
 use Rattle.declarations.specs.declared.mistake.Mistake.TheVariants.{Unknown}
 use Rattle.declarations.specs.declared.mistake.NameSort.TheVariants as sort
 use Rattle.declarations.specs.declared.mistake.Mismatch.TheVariants.{Given}
-use Rattle.declarations.specs.Types.{unless}
+use Rattle.declarations.specs.Types.{unless, type_meant}
 use Rattle.declarations.specs.Program.{ProgramText, Numbered, as_class, class_named, item_at}
 use Rattle.names.specs.Shapes.{shape}
-use Rattle.names.specs.Values.{demand_of, result_type, argument_mistakes, call_mistakes, class_mistakes, class_meant, front_mistakes, is_alone, member_mistakes, method_mistakes, number_of_arguments, parameter_types, result_fits, start_mistakes}
+use Rattle.names.specs.Values.{demand_of, result_type, argument_mistakes, call_mistakes, class_mistakes, front_mistakes, is_alone, member_mistakes, method_mistakes, number_of_arguments, result_fits, start_mistakes}
 use Rattle.declarations.specs.Named.{method_named}
 use Rattle.names.specs.Variables as names
 use Rattle.names.specs.Variables.{variable_named}
@@ -30,7 +30,7 @@ use Rattle.program.specs.Lists.{Each}
 use Rattle.program.specs.WellFormed.{Setting, IsCallOf, IsMention, IsTarget, parameters}
 use Rattle.wellformed.proofs.ArgumentLemmas.{arguments_given, given_parameters, reads_mentioned}
 use Rattle.wellformed.proofs.FindingLemmas.{as_many, unless_none}
-use Rattle.wellformed.proofs.MentionLemmas.{held_known}
+use Rattle.wellformed.proofs.MentionLemmas.{held_known, variable_type}
 use Rattle.wellformed.proofs.ListLemmas.{both_none}
 use Rattle.wellformed.proofs.ProgramLemmas.{member_answers, method_answers, parameters_are, parameters_clean}
 use Rattle.wellformed.proofs.ScopeLemmas.{same_named}
@@ -44,14 +44,14 @@ pub record CallsMethod (p : ProgramText) (class : ℕ) (f : LocalFrame) (g : nam
   pub is : callee p class f.locals c ≡ Some (record { number = number; method = method })
   pub told : IsMethod p method number
   pub many : length method.params ≡ length c.arguments
-  pub given : argument_mistakes (scope_of p g) (parameter_types p method.params) (map shape c.arguments) ≡ []
+  pub given : argument_mistakes (scope_of p g) (map (λ x. type_meant p x.ty) method.params) (map shape c.arguments) ≡ []
   pub fits : Is method
   pub no_send : send_told p class f c ≡ None
 
 -- what is known of a method that a call in this role names
 record Fitting (p : ProgramText) (g : names.NameFrame) (m : MethodTree) (Is : MethodTree → Type 0) (es : List ExpressionTree) : Type 0 where
   pub many : length m.params ≡ length es
-  pub given : argument_mistakes (scope_of p g) (parameter_types p m.params) (map shape es) ≡ []
+  pub given : argument_mistakes (scope_of p g) (map (λ x. type_meant p x.ty) m.params) (map shape es) ≡ []
   pub fits : Is m
 
 fitting : (p : ProgramText) (g : names.NameFrame) (front : Option Span) (role : _) (name : Span) (m : MethodTree) (es : List ExpressionTree) (Is : MethodTree → Type 0)
@@ -60,7 +60,7 @@ fitting : (p : ProgramText) (g : names.NameFrame) (front : Option Span) (role : 
 fitting p g front role name m es Is fits none =
     let shapes = map shape es in
     let many = number_of_arguments m.params shapes name.place in
-    let given = argument_mistakes (scope_of p g) (parameter_types p m.params) shapes in
+    let given = argument_mistakes (scope_of p g) (map (λ x. type_meant p x.ty) m.params) shapes in
     let starts = start_mistakes m role name in
     let result = unless (result_fits p m.result role) name.place (Given (demand_of role) (result_type p m.result)) in
     let behind = both_none many (given ++ (starts ++ result)) none in
@@ -116,7 +116,7 @@ class_call p class f g role c word Is fits member free n t there (Some m) found 
 
 named_call : (p : ProgramText) (class : ℕ) (f : LocalFrame) (g : names.NameFrame) (role : _) (c : CallTree) (word : Span) (Is : MethodTree → Type 0)
     → ((n : MethodTree) → start_mistakes n role word ≡ [] → (F : Option tree.Type.Type → Bool) → ((r : Option tree.Type.Type) → F r ≡ result_fits p r role) → F n.result ≡ true → Is n) → c.member ≡ Some word → local_named p.text f.locals c.name ≡ None
-    → (o : Option (Numbered ClassTree)) → class_named p c.name ≡ o → class_mistakes (scope_of p g) (class_meant o) role c.name word (map shape c.arguments) ≡ [] → CallsMethod p class f g Is c
+    → (o : Option (Numbered ClassTree)) → class_named p c.name ≡ o → class_mistakes (scope_of p g) o role c.name word (map shape c.arguments) ≡ [] → CallsMethod p class f g Is c
 named_call p class f g role c word Is fits member free None there none = cc
 named_call p class f g role c word Is fits member free (Some x) there none = class_call p class f g role c word Is fits member free x.0 x.1 there (method_named p.text x.1 word) refl none
 

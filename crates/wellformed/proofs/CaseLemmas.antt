@@ -10,8 +10,8 @@ use Rattle.tree.specs.StatementTrees.{Case, CaseTree, CaseTrees, MoreCases, NoCa
 use Rattle.tree.specs.declared.statement.Awaited.{Awaited}
 use Rattle.tree.specs.declared.statement.Awaited.TheVariants.{Closed, Message}
 use Rattle.names.specs.Bodies.{Surroundings, case_turn, cases_turn, head_of, heads_of, scope_in}
-use Rattle.names.specs.Cases.{Head, awaits_closed, endpoint_head_mistakes, head_mistakes, is_closed, type_head_mistakes, lack_mistakes, names_endpoint, other_awaited_mistakes, same_name}
-use Rattle.names.specs.Expressions.{InScope, variable_type, variable_of, variable_mistakes}
+use Rattle.names.specs.Cases.{Head, awaits_closed, head_mistakes, type_head_mistakes, lack_mistakes, names_endpoint, other_mistakes, same_awaited, same_name, awaited_mistakes}
+use Rattle.names.specs.Expressions.{InScope, variable_mistakes, type_named}
 use Rattle.tables.specs.Firsts.{first_of}
 use Rattle.declarations.specs.declared.mistake.Mistake.{Mistake}
 use Rattle.declarations.specs.declared.mistake.Mistake.TheVariants.{LacksClosed}
@@ -55,11 +55,17 @@ heads_clean m all before (MoreCases (Case word endpoint awaited left binds state
 same_words : (text : List ℕ) (a b : Span) → same_name text a b ≡ true → word_at text a ≡ word_at text b
 same_words text a b same = (bytes_decides (word_at text a) (word_at text b)).0 same
 
+-- whatever word says so, a close is a close
+closed_alike : (text : List ℕ) (a b : Span) (x : Awaited) → same_awaited text x (Closed a) ≡ same_awaited text x (Closed b)
+closed_alike text a b (Message m) = refl
+closed_alike text a b (Closed word) = refl
+
 awaits_same : (text : List ℕ) (heads : List Head) (a b : Span) → word_at text a ≡ word_at text b → awaits_closed text a heads ≡ awaits_closed text b heads
 awaits_same text [] a b same = refl
 awaits_same text (x ∷ heads) a b same =
-    ap (λ w. (same_word (word_at text x.endpoint) w && is_closed x.awaited) || awaits_closed text a heads) same
-    ∙ ap (λ r. (same_name text x.endpoint b && is_closed x.awaited) || r) (awaits_same text heads a b same)
+    ap (λ w. (same_word (word_at text x.endpoint) w && same_awaited text x.awaited (Closed a)) || awaits_closed text a heads) same
+    ∙ ap (λ r. (same_name text x.endpoint b && r) || awaits_closed text a heads) (closed_alike text a b x.awaited)
+    ∙ ap (λ r. (same_name text x.endpoint b && same_awaited text x.awaited (Closed b)) || r) (awaits_same text heads a b same)
 
 -- one of all heads awaits the close of this one's endpoint
 abbrev HasClose : List ℕ → List Head → Head → Type 0
@@ -73,13 +79,13 @@ named_closes text all (x ∷ before) name close named = ⊎_elim
     (λ later. named_closes text all before name close.1 later)
     (or_cases (same_name text x.endpoint name) (names_endpoint text name before) named)
 
-other_wrong : (k : ValueType) (h : Head) (a : Awaited) → other_awaited_mistakes k h a ≡ [] → ⊥
+other_wrong : (k : ValueType) (h : Head) (a : Awaited) → other_mistakes k h a ≡ [] → ⊥
 other_wrong k h (Message word) none = cc
 other_wrong k h (Closed word) none = cc
 
 -- a head with which nothing is wrong names an endpoint, and this does not lack its close
 no_lack : (p : ProgramText) (s : InScope) (all before : List Head) (h : Head) (k : ValueType) → IsKnown p k → type_head_mistakes s all before k h ≡ [] → lack_mistakes s all before h ≡ []
-no_lack p s all before h (ty.Endpoint end n) known none = (both_none (endpoint_head_mistakes s before (ty.Endpoint end n) end h) (lack_mistakes s all before h) none).1
+no_lack p s all before h (ty.Endpoint end n) known none = (both_none (awaited_mistakes s before end n h h.awaited) (lack_mistakes s all before h) none).1
 no_lack p s all before h (ty.Scalar t) known none = absurd (other_wrong (ty.Scalar t) h h.awaited none)
 no_lack p s all before h (ty.Array element) known none = absurd (other_wrong (ty.Array element) h h.awaited none)
 no_lack p s all before h (ty.Pointer n) known none = absurd (other_wrong (ty.Pointer n) h h.awaited none)
@@ -94,8 +100,8 @@ heads_close : (p : ProgramText) (vs : List VariableModel) (f : LocalFrame) (g : 
     → HeadsClean p g all before heads → Each (HasClose p.text all) heads
 heads_close p vs f g all before [] standing close clean = tt
 heads_close p vs f g all before (h ∷ heads) standing close clean =
-    let parts = both_none (variable_mistakes (scope_of p g) h.endpoint) (type_head_mistakes (scope_of p g) all before (variable_type (variable_of (scope_of p g) h.endpoint)) h) clean.0 in
-    let lack = no_lack p (scope_of p g) all before h (variable_type (variable_of (scope_of p g) h.endpoint)) (held_known p vs f g h.endpoint standing parts.0) parts.1 in
+    let parts = both_none (variable_mistakes (scope_of p g) h.endpoint) (type_head_mistakes (scope_of p g) all before (type_named (scope_of p g) h.endpoint) h) clean.0 in
+    let lack = no_lack p (scope_of p g) all before h (type_named (scope_of p g) h.endpoint) (held_known p vs f g h.endpoint standing parts.0) parts.1 in
     let told = nothing_lacks (names_endpoint p.text h.endpoint before || awaits_closed p.text h.endpoint all) (LacksClosed h.endpoint) lack in
     let here : HasClose p.text all h = ⊎_elim
     (λ named. named_closes p.text all before h.endpoint close named)

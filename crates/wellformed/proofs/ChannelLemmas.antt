@@ -1,14 +1,18 @@
 -- New channels with which nothing is wrong.
-use Rattle.std.proofs.Common.{◌≡◌, ℕ, eq-eqb, ◌==◌, ◌&&◌, ◌||◌, Bool, true, false, not, [], ◌++◌, sym, refl, ap, ◌∙◌, subst}
+use Rattle.std.proofs.Common.{◌≡◌, ℕ, eq-eqb, ◌==◌, ◌&&◌, ◌||◌, Bool, true, false, not, List, [], ◌∷◌, ◌++◌, sym, refl, ap, ◌∙◌, subst}
 use Rattle.std.proofs.lemmas.Bool.{eqb-true}
+use Rattle.std.specs.Option.{option_map_or}
 use Rattle.std.specs.Prelude.{Option, None, Some, option_map, option_and_then, slice_get, IsSomeAnd}
 use Rattle.source.specs.declared.token.Span.{Span}
 use Rattle.tree.specs.Trees.{ClassTree, ContractTree}
 use Rattle.tree.specs.declared.statement as made
 use Rattle.tree.specs.declared.types as type_nodes
 use Rattle.program.specs.declared.types.Side.{Side}
-use Rattle.names.specs.Bodies.{channel_mistakes, ends_mistakes, is_end_of, new_ends_mistakes, same_end}
-use Rattle.names.specs.Expressions.{variable_type, variable_of, variable_mistakes}
+use Rattle.names.specs.Bodies.{channel_mistakes, ends_mistakes, is_end_of, same_end}
+use Rattle.names.specs.Expressions.{variable_mistakes, type_named}
+use Rattle.declarations.specs.declared.mistake.Mistake.{Mistake}
+use Rattle.declarations.specs.declared.mistake.Mistake.TheVariants.{Unknown}
+use Rattle.declarations.specs.declared.mistake.NameSort.TheVariants as sort
 use Rattle.declarations.specs.Types.{is_block, is_silent, unless}
 use Rattle.program.specs.Types.{same_side}
 use Rattle.declarations.specs.Program.{Numbered, ProgramText}
@@ -75,10 +79,10 @@ channel_contract p contract c side named known =
 
 found_fits : (p : ProgramText) (class : ℕ) (s : Setting) (f : LocalFrame) (g : names.NameFrame) (n : made.NewChannel.NewChannel) (c : Numbered ContractTree) → items.contract_named p n.contract ≡ Some c
     → s.scope ≡ last_of f → AreStanding p s.variables f g → variable_mistakes (scope_of p g) n.first ≡ [] → variable_mistakes (scope_of p g) n.second ≡ []
-    → ends_mistakes c.0 (variable_type (variable_of (scope_of p g) n.first)) (variable_type (variable_of (scope_of p g) n.second)) n.first n.second ≡ [] → IsEffect s (effect_of (channel_found p class f n))
+    → ends_mistakes c.0 (type_named (scope_of p g) n.first) (type_named (scope_of p g) n.second) n.first n.second ≡ [] → IsEffect s (effect_of (channel_found p class f n))
 found_fits p class s f g n c named here standing first second none =
-    let a = variable_type (variable_of (scope_of p g) n.first) in
-    let b = variable_type (variable_of (scope_of p g) n.second) in
+    let a = type_named (scope_of p g) n.first in
+    let b = type_named (scope_of p g) n.second in
     let known_a = held_known p s.variables f g n.first standing first in
     let known_b = held_known p s.variables f g n.second standing second in
     let other = not (is_end_of c.0 a && same_end a b) in
@@ -105,9 +109,13 @@ found_fits p class s f g n c named here standing first second none =
           (subst (λ o. IsSomeAnd o (λ y. are_ends (contract_number p c.0).0 v.variable.ty y.ty ≡ true)) (sym w.there) ends),
     )
 
+-- what is wrong with the ends, if the contract is declared
+abbrev ends_asked : ProgramText → names.NameFrame → made.NewChannel.NewChannel → Option (Numbered ContractTree) → List Mistake
+ends_asked p g n o = option_map_or (λ c. ends_mistakes c.0 (type_named (scope_of p g) n.first) (type_named (scope_of p g) n.second) n.first n.second) o (Unknown n.contract sort.Contract ∷ [])
+
 named_fits : (p : ProgramText) (class : ℕ) (s : Setting) (f : LocalFrame) (g : names.NameFrame) (n : made.NewChannel.NewChannel) (o : Option (Numbered ContractTree)) → items.contract_named p n.contract ≡ o
     → s.scope ≡ last_of f → AreStanding p s.variables f g → variable_mistakes (scope_of p g) n.first ≡ [] → variable_mistakes (scope_of p g) n.second ≡ []
-    → new_ends_mistakes (scope_of p g) o n.contract n.first n.second ≡ [] → IsEffect s (effect_of (channel_found p class f n))
+    → ends_asked p g n o ≡ [] → IsEffect s (effect_of (channel_found p class f n))
 named_fits p class s f g n None named here standing first second none = cc
 named_fits p class s f g n (Some c) named here standing first second none = found_fits p class s f g n c named here standing first second none
 
@@ -116,7 +124,7 @@ pub channel_fits : (p : ProgramText) (t : ClassTree) (class : ℕ) (result : Opt
     → Around p t class result s → s.scope ≡ last_of f → AreStanding p s.variables f g → channel_mistakes (scope_of p g) n.contract n.first n.second ≡ [] → IsEffect s (effect_of (channel_found p class f n))
 channel_fits p t class result s f g n around here standing none =
     let named = items.contract_named p n.contract in
-    let ends = new_ends_mistakes (scope_of p g) named n.contract n.first n.second in
+    let ends = ends_asked p g n named in
     let both = both_none ends (variable_mistakes (scope_of p g) n.first ++ variable_mistakes (scope_of p g) n.second) none in
     let halves = both_none (variable_mistakes (scope_of p g) n.first) (variable_mistakes (scope_of p g) n.second) both.1 in
     named_fits p class s f g n named refl here standing halves.0 halves.1 both.0

@@ -9,7 +9,7 @@ use Rattle.tree.specs.declared.statement as made
 use Rattle.tree.specs.declared.types as type_nodes
 use Rattle.names.specs.Bodies.{exchange_mistakes, exchanged_type, holder_mistakes}
 use Rattle.declarations.specs.Declarations.{first_among}
-use Rattle.names.specs.Expressions.{field_mistakes, field_type, variable_type, variable_of, struct_field_type, variable_mistakes}
+use Rattle.names.specs.Expressions.{field_mistakes, field_type, variable_mistakes, type_named}
 use Rattle.declarations.specs.declared.mistake.Mistake.TheVariants.{Unknown}
 use Rattle.declarations.specs.declared.mistake.NameSort.TheVariants as sort
 use Rattle.declarations.specs.declared.mistake.Demand.TheVariants as demand
@@ -34,7 +34,7 @@ use Rattle.wellformed.proofs.FieldLemmas.{field_at, fields_clean, types_of_struc
 use Rattle.wellformed.proofs.FindingLemmas.{none_said, unless_none}
 use Rattle.wellformed.proofs.HeapTypeLemmas.{HasStruct, Holding, agree_alike, alike_block, alike_held, block_holds, known_loud, loud_left, pointer_held, scalar_holds, struct_known, struct_of, type_known}
 use Rattle.wellformed.proofs.ListLemmas.{both_none}
-use Rattle.wellformed.proofs.MentionLemmas.{IsMeant, block_mentioned, held_known, meant_stands}
+use Rattle.wellformed.proofs.MentionLemmas.{IsMeant, block_mentioned, field_meant, held_known, meant_stands, variable_type}
 use Rattle.wellformed.proofs.PlaceLemmas.{each_there}
 use Rattle.wellformed.proofs.Standing.{Around, AreStanding, IsHeld, IsKnown, last_of, scope_of}
 
@@ -48,12 +48,12 @@ record IsField (p : ProgramText) (s : StructTree) (field : Span) : Type 0 where
   known : IsKnown p (type_meant p tree.ty)
 
 -- the field of a name
-named_field : (p : ProgramText) (g : names.NameFrame) (s : StructTree) (field : Span) (index : Option ℕ) (f : Option Field) → Each (λ x. type_unknown p x.ty ≡ []) s.fields
+named_field : (p : ProgramText) (s : StructTree) (field : Span) (index : Option ℕ) (f : Option Field) → Each (λ x. type_unknown p x.ty ≡ []) s.fields
     → first_among p.text (map (λ (x : Field). x.name) s.fields) field ≡ index → option_and_then (slice_get s.fields) index ≡ f → is_some f ≡ true
-    → (is_silent (struct_field_type (scope_of p g) f) || is_block (struct_field_type (scope_of p g) f)) ≡ true → IsField p s field
-named_field p g s field None f known first at there fits = cc
-named_field p g s field (Some k) None known first at there fits = cc
-named_field p g s field (Some k) (Some f) known first at there fits =
+    → (is_silent (field_meant p f) || is_block (field_meant p f)) ≡ true → IsField p s field
+named_field p s field None f known first at there fits = cc
+named_field p s field (Some k) None known first at there fits = cc
+named_field p s field (Some k) (Some f) known first at there fits =
     let sure = type_known p f.ty (each_there (λ x. type_unknown p x.ty ≡ []) s.fields k f known at) in
     let block = loud_left (is_silent (type_meant p f.ty)) (is_block (type_meant p f.ty)) (known_loud p (type_meant p f.ty) sure) fits in
     record { index = k; tree = f; first = first; at = at; holding = block_holds p (type_meant p f.ty) (state_in f.ty) sure block; known = sure }
@@ -79,16 +79,16 @@ pointer_holder p g n name field clean known none fits =
     let index = first_among p.text (map (λ (x : Field). x.name) s.fields) field in
     let named = option_and_then (slice_get s.fields) index in
     let none_there = sym (ap (λ o. option_map_or (λ (x : ℕ × StructTree). if is_some (option_and_then (slice_get x.1.fields) (first_among p.text (map (λ (y : Field). y.name) x.1.fields) field)) then [] else Unknown field (sort.Field n) ∷ []) o []) has.is) ∙ none in
-    let type_is = ap (λ o. option_map_or (λ (x : ℕ × StructTree). struct_field_type (scope_of p g) (option_and_then (slice_get x.1.fields) (first_among p.text (map (λ (y : Field). y.name) x.1.fields) field))) o ty.Unknown) has.is in
+    let type_is = ap (λ o. field_meant p (option_and_then (λ (x : ℕ × StructTree). option_and_then (slice_get x.1.fields) (first_among p.text (map (λ (y : Field). y.name) x.1.fields) field)) o)) has.is in
     let block = subst (λ k. (is_silent k || is_block k) ≡ true) type_is fits in
-    let f = named_field p g s field index named (clean s has.is) refl refl (none_said (is_some named) (Unknown field (sort.Field n)) none_there) block in
+    let f = named_field p s field index named (clean s has.is) refl refl (none_said (is_some named) (Unknown field (sort.Field n)) none_there) block in
     record {
       number = n;
       tree = s;
       is = refl;
       there = has.is;
       of = f;
-      exchanged = type_is ∙ ap (struct_field_type (scope_of p g)) (struct_field p g s field f);
+      exchanged = type_is ∙ ap (field_meant p) (struct_field p g s field f);
     }
 
 holder_is : (p : ProgramText) (g : names.NameFrame) (k : declared.ValueType.ValueType) (name field : Span) → (clean : (n : ℕ) (s : StructTree) → item_at as_struct p n ≡ Some (n, s) → Each (λ f. type_unknown p f.ty ≡ []) s.fields)
@@ -128,7 +128,7 @@ held_block p t h = by (is_block (type_meant p t)) refl
 
 -- what an exchange comes to
 exchange_is : (p : ProgramText) (class : ℕ) (f : LocalFrame) (g : names.NameFrame) (vs : List VariableModel) (e : made.Exchange.Exchange) → AreStanding p vs f g → variable_mistakes (scope_of p g) e.holder ≡ [] → (n number : ℕ)
-    → variable_type (variable_of (scope_of p g) e.holder) ≡ ty.Pointer n → field_number p (ty.Pointer n) e.field ≡ Some number → (v w : Mention) → mention p.text f.locals e.holder ≡ Some v → mention p.text f.locals e.given ≡ Some w
+    → type_named (scope_of p g) e.holder ≡ ty.Pointer n → field_number p (ty.Pointer n) e.field ≡ Some number → (v w : Mention) → mention p.text f.locals e.holder ≡ Some v → mention p.text f.locals e.given ≡ Some w
     → exchange_found p class f e ≡ Some (exchange_of p class f e number v w)
 exchange_is p class f g vs e standing none n number is numbered v w holder given =
     let m : IsMeant p vs f g e.holder = meant_stands p vs f g e.holder standing none in
@@ -155,8 +155,8 @@ action_fits p class s f e number inside v w x y found holder given scope types s
 pub exchange_fits : (p : ProgramText) (t : ClassTree) (class : ℕ) (result : Option type_nodes.Type.Type) (s : Setting) (f : LocalFrame) (g : names.NameFrame) (e : made.Exchange.Exchange)
     → Around p t class result s → s.scope ≡ last_of f → AreStanding p s.variables f g → exchange_mistakes (scope_of p g) e ≡ [] → IsEffect s (effect_of (exchange_found p class f e))
 exchange_fits p t class result s f g e around here standing none =
-    let k = variable_type (variable_of (scope_of p g) e.holder) in
-    let a = variable_type (variable_of (scope_of p g) e.given) in
+    let k = type_named (scope_of p g) e.holder in
+    let a = type_named (scope_of p g) e.given in
     let asked = exchanged_type (scope_of p g) k e.field in
     let fits = unless (agree a asked) e.given.place (Given (demand.OfType asked) a) in
     let first = both_none (variable_mistakes (scope_of p g) e.holder) (holder_mistakes (scope_of p g) k e.holder e.field ++ (variable_mistakes (scope_of p g) e.given ++ fits)) none in

@@ -2,24 +2,26 @@
 use Rattle.std.proofs.Common.{◌≡◌, ℕ, ◌<◌, Bool, true, false, not, ◌||◌, List, [], ◌∷◌, ◌++◌, length, if◌then◌else◌, refl, sym, ap, subst, arith}
 use Rattle.std.proofs.lemmas.Bool.{not-true}
 use Rattle.std.specs.Option.{option_map_or}
-use Rattle.std.specs.Prelude.{Option, None, Some, is_some, IsSomeAnd}
+use Rattle.std.specs.Prelude.{Option, None, Some, is_some, option_and_then, IsSomeAnd}
 use Rattle.source.specs.declared.token.Span.{Span}
 use Rattle.tree.specs.Expressions as trees
 use Rattle.tree.specs.Expressions.{LevelTree, StepTrees, AtomTree, TargetTree, ExpressionTree}
 use Rattle.tree.specs.Operators.{Level, Operators}
 use Rattle.tree.specs.Trees.{StructTree}
 use Rattle.tree.specs.declared.class as made
+use Rattle.tree.specs.declared.expression.PrefixOperator.{PrefixOperator}
+use Rattle.tree.specs.declared.expression.PrefixOperator.TheVariants as signs
 use Rattle.tree.specs.declared.types as type_nodes
 use Rattle.tree.specs.declared.types.Type.TheVariants as type
 use Rattle.program.specs.declared.types.Scalar.TheVariants as scalar
-use Rattle.names.specs.Expressions.{type_of, place_of, variable_type, variable_of, expression_mistakes, whole_mistakes, field_type, field_mistakes, struct_field_type, is_length, is_owning, owns, element_type, element_mistakes, variable_mistakes, mention_mistakes, asked_number, sign_asked, left_asked, right_asked, signed_type, joined_type}
+use Rattle.names.specs.Expressions.{type_of, place_of, expression_mistakes, whole_mistakes, field_type, field_mistakes, is_length, owns, element_type, element_mistakes, variable_mistakes, mention_mistakes, asked_number, sign_asked, left_asked, right_asked, signed_type, joined_type, type_named}
 use Rattle.declarations.specs.Named.{field_named}
 use Rattle.declarations.specs.declared.mistake.Mistake.TheVariants.{Unknown}
 use Rattle.declarations.specs.declared.mistake.NameSort.TheVariants as sort
 use Rattle.declarations.specs.Types.{is_block, is_heap, is_number, is_truth, is_unknown, type_meant, unless}
 use Rattle.declarations.specs.Program.{ProgramText, Numbered, as_struct, item_at}
 use Rattle.names.specs.Shapes as shapes
-use Rattle.names.specs.Shapes.{Shape, OperandSign, shape}
+use Rattle.names.specs.Shapes.{Shape, shape}
 use Rattle.names.specs.Variables as names
 use Rattle.declarations.specs.declared.value_type as declared
 use Rattle.declarations.specs.declared.value_type.ValueType.TheVariants as ty
@@ -33,7 +35,7 @@ use Rattle.names.proofs.WholeNames.{not_lone}
 use Rattle.wellformed.proofs.HeapTypeLemmas.{known_certain}
 use Rattle.wellformed.proofs.ListLemmas.{both_none, each_append}
 use Rattle.wellformed.proofs.FindingLemmas.{none_said, unless_none}
-use Rattle.wellformed.proofs.MentionLemmas.{IsMentioned, block_mentioned, held_known, mention_within}
+use Rattle.wellformed.proofs.MentionLemmas.{field_meant, IsMentioned, block_mentioned, held_known, mention_within}
 use Rattle.wellformed.proofs.Standing.{IsKnown, AreStanding, scope_of}
 
 -- Each block that an expression reads is a variable of the method.
@@ -80,24 +82,24 @@ type_scalar : (p : ProgramText) (t : type_nodes.Type.Type) → is_heap t ≡ fal
 type_scalar p (type.Scalar s) own = (tt, refl)
 type_scalar p (type.Heap h) own = absurd (cc)
 
-part_scalar : (p : ProgramText) (g : names.NameFrame) (o : Option made.Field.Field) → is_some o ≡ true → is_owning o ≡ false
-    → IsKnown p (struct_field_type (scope_of p g) o) × (is_block (struct_field_type (scope_of p g) o) ≡ false)
-part_scalar p g None is own = absurd (cc)
-part_scalar p g (Some x) is own = type_scalar p x.ty own
+part_scalar : (p : ProgramText) (o : Option made.Field.Field) → is_some o ≡ true → option_map_or (λ f. is_heap f.ty) o false ≡ false
+    → IsKnown p (field_meant p o) × (is_block (field_meant p o) ≡ false)
+part_scalar p None is own = absurd (cc)
+part_scalar p (Some x) is own = type_scalar p x.ty own
 
-struct_scalar : (p : ProgramText) (g : names.NameFrame) (n : ℕ) (o : Option (Numbered StructTree)) (field : Span) → IsSomeAnd o (λ s. Unit {0})
+struct_scalar : (p : ProgramText) (n : ℕ) (o : Option (Numbered StructTree)) (field : Span) → IsSomeAnd o (λ s. Unit {0})
     → option_map_or (λ x. if is_some (field_named p.text x.1 field) then [] else Unknown field (sort.Field n) ∷ []) o [] ≡ []
-    → option_map_or (λ x. is_owning (field_named p.text x.1 field)) o false ≡ false
-    → IsKnown p (option_map_or (λ x. struct_field_type (scope_of p g) (field_named p.text x.1 field)) o ty.Unknown) × (is_block (option_map_or (λ x. struct_field_type (scope_of p g) (field_named p.text x.1 field)) o ty.Unknown) ≡ false)
-struct_scalar p g n None field known none own = absurd known
-struct_scalar p g n (Some x) field known none own = part_scalar p g (field_named p.text x.1 field) (none_said (is_some (field_named p.text x.1 field)) (Unknown field (sort.Field n)) none) own
+    → option_map_or (λ (f : made.Field.Field). is_heap f.ty) (option_and_then (λ x. field_named p.text x.1 field) o) false ≡ false
+    → IsKnown p (field_meant p (option_and_then (λ x. field_named p.text x.1 field) o)) × (is_block (field_meant p (option_and_then (λ x. field_named p.text x.1 field) o)) ≡ false)
+struct_scalar p n None field known none own = absurd known
+struct_scalar p n (Some x) field known none own = part_scalar p (field_named p.text x.1 field) (none_said (is_some (field_named p.text x.1 field)) (Unknown field (sort.Field n)) none) own
 
 -- a field that does not own, or an element, is a scalar
 pub field_scalar : (p : ProgramText) (g : names.NameFrame) (k : declared.ValueType.ValueType) (name field : Span) → IsKnown p k → field_mistakes (scope_of p g) k name field ≡ [] → owns (scope_of p g) k field ≡ false
     → IsKnown p (field_type (scope_of p g) k field) × (is_block (field_type (scope_of p g) k field) ≡ false)
 field_scalar p g (ty.Scalar s) name field known none own = absurd (cc)
 field_scalar p g (ty.Array element) name field known none own = length_scalar p (is_length (scope_of p g) field) (none_said (is_length (scope_of p g) field) (Unknown field sort.Length) none)
-field_scalar p g (ty.Pointer n) name field known none own = struct_scalar p g n (item_at as_struct p n) field known none own
+field_scalar p g (ty.Pointer n) name field known none own = struct_scalar p n (item_at as_struct p n) field known none own
 field_scalar p g (ty.Endpoint side n) name field known none own = absurd (cc)
 field_scalar p g ty.Missing name field known none own = absurd known
 field_scalar p g ty.Unknown name field known none own = absurd known
@@ -129,18 +131,18 @@ counted_scalar p (ty.Endpoint side n) is = absurd (cc)
 counted_scalar p ty.Missing is = absurd (cc)
 counted_scalar p ty.Unknown is = absurd (cc)
 
-signed_counted : (sign : OperandSign) → (is_number (signed_type sign) || is_truth (signed_type sign)) ≡ true
-signed_counted shapes.Denial = refl
-signed_counted shapes.Minus = refl
+signed_counted : (sign : PrefixOperator) → (is_number (signed_type sign) || is_truth (signed_type sign)) ≡ true
+signed_counted signs.Not = refl
+signed_counted signs.Negate = refl
 
 joined_counted : (joint : _) → (is_number (joined_type joint) || is_truth (joined_type joint)) ≡ true
 joined_counted joint = grind arith
 
 mention_scalar : (p : ProgramText) (vs : List VariableModel) (f : LocalFrame) (g : names.NameFrame) → AreStanding p vs f g → (name : Span) → mention_mistakes (scope_of p g) name ≡ []
-    → IsKnown p (variable_type (variable_of (scope_of p g) name)) × (is_block (variable_type (variable_of (scope_of p g) name)) ≡ false)
+    → IsKnown p (type_named (scope_of p g) name) × (is_block (type_named (scope_of p g) name) ≡ false)
 mention_scalar p vs f g standing name none =
-    let both = both_none (variable_mistakes (scope_of p g) name) (unless (not (is_block (variable_type (variable_of (scope_of p g) name)))) name.place _) none in
-    (held_known p vs f g name standing both.0, not-true (is_block (variable_type (variable_of (scope_of p g) name))) (unless_none _ (not (is_block (variable_type (variable_of (scope_of p g) name)))) name.place both.1))
+    let both = both_none (variable_mistakes (scope_of p g) name) (unless (not (is_block (type_named (scope_of p g) name))) name.place _) none in
+    (held_known p vs f g name standing both.0, not-true (is_block (type_named (scope_of p g) name)) (unless_none _ (not (is_block (type_named (scope_of p g) name))) name.place both.1))
 
 -- so is an expression with operators, numbers, fields and the like
 pub expression_scalar : (p : ProgramText) (vs : List VariableModel) (f : LocalFrame) (g : names.NameFrame) → AreStanding p vs f g
@@ -150,14 +152,14 @@ expression_scalar p vs f g standing (shapes.Truth place) none = (tt, refl)
 expression_scalar p vs f g standing (shapes.Mention name) none = mention_scalar p vs f g standing name none
 expression_scalar p vs f g standing (shapes.Field name field) none =
     let s = scope_of p g in
-    let k = variable_type (variable_of s name) in
+    let k = type_named s name in
     let both = both_none (variable_mistakes s name) (field_mistakes s k name field ++ unless (not (owns s k field)) name.place _) none in
     let inner = both_none (field_mistakes s k name field) (unless (not (owns s k field)) name.place _) both.1 in
     let own = not-true (owns s k field) (unless_none _ (not (owns s k field)) name.place inner.1) in
     field_scalar p g k name field (held_known p vs f g name standing both.0) inner.0 own
 expression_scalar p vs f g standing (shapes.Element name index) none =
     let s = scope_of p g in
-    let k = variable_type (variable_of s name) in
+    let k = type_named s name in
     let first = both_none (expression_mistakes s index) (asked_number (type_of s index) (place_of index) ++ (variable_mistakes s name ++ element_mistakes k name)) none in
     let second = both_none (asked_number (type_of s index) (place_of index)) (variable_mistakes s name ++ element_mistakes k name) first.1 in
     let third = both_none (variable_mistakes s name) (element_mistakes k name) second.1 in
@@ -184,7 +186,7 @@ whole_known p vs f g standing e none = (expression_scalar p vs f g standing e no
 pub record IsLone (p : ProgramText) (vs : List VariableModel) (f : LocalFrame) (g : names.NameFrame) (e : ExpressionTree) : Type 0 where
   pub name : Span
   pub is : lone_name e ≡ Some name
-  pub ty : type_of (scope_of p g) (shape e) ≡ variable_type (variable_of (scope_of p g) name)
+  pub ty : type_of (scope_of p g) (shape e) ≡ type_named (scope_of p g) name
   pub mentioned : IsMentioned p vs f g name
 
 lone_by : (p : ProgramText) (vs : List VariableModel) (f : LocalFrame) (g : names.NameFrame) → AreStanding p vs f g → (e : ExpressionTree) (x : Shape) → shape e ≡ x

@@ -10,9 +10,9 @@ use Rattle.tree.specs.declared.types as type_nodes
 use Rattle.program.specs.declared.types.Side.{Side}
 use Rattle.names.specs.Bodies.{params_of_case}
 use Rattle.names.specs.Cases as cases
-use Rattle.names.specs.Cases.{Head, closed_mistakes, endpoint_head_mistakes, head_mistakes, type_head_mistakes, lack_mistakes, message_case_mistakes, twice_mistakes}
+use Rattle.names.specs.Cases.{Head, closed_mistakes, head_mistakes, type_head_mistakes, lack_mistakes, message_case_mistakes, twice_mistakes, awaited_mistakes}
 use Rattle.declarations.specs.Declarations.{bound_params}
-use Rattle.names.specs.Expressions.{variable_type, variable_of, variable_mistakes}
+use Rattle.names.specs.Expressions.{variable_mistakes, type_named}
 use Rattle.declarations.specs.Types.{is_block, type_unknown, unless}
 use Rattle.declarations.specs.Program.{ProgramText, as_contract, item_at}
 use Rattle.program.specs.Parts.{ContractModel}
@@ -33,7 +33,7 @@ use Rattle.resolving.specs.Told.{awaited_as, awaited_message, awaited_params, ca
 use Rattle.program.specs.Lists.{Each}
 use Rattle.program.specs.WellFormed.{HoldAll, IsAwaited, IsBrought, IsEnd, Setting}
 use Rattle.wellformed.proofs.FindingLemmas.{as_many}
-use Rattle.wellformed.proofs.MentionLemmas.{block_mentioned, held_known, meant_stands}
+use Rattle.wellformed.proofs.MentionLemmas.{block_mentioned, held_known, meant_stands, variable_type}
 use Rattle.wellformed.proofs.SendLemmas.{is_end}
 use Rattle.wellformed.proofs.ContractLemmas.{AnswersMessage, message_awaited}
 use Rattle.wellformed.proofs.HeapTypeLemmas.{contract_known}
@@ -51,7 +51,7 @@ pub record HeadFits (p : ProgramText) (s : Setting) (f : LocalFrame) (g : names.
 
 -- the endpoint of a case is one of a contract that is there
 end_fits : (p : ProgramText) (t : ClassTree) (class : ℕ) (result : Option type_nodes.Type.Type) (s : Setting) (f : LocalFrame) (g : names.NameFrame) (name : Span) (n : ℕ) (side : Side) (P : ContractModel → Type 0)
-    → Around p t class result s → AreStanding p s.variables f g → variable_mistakes (scope_of p g) name ≡ [] → variable_type (variable_of (scope_of p g) name) ≡ ty.Endpoint side n
+    → Around p t class result s → AreStanding p s.variables f g → variable_mistakes (scope_of p g) name ≡ [] → type_named (scope_of p g) name ≡ ty.Endpoint side n
     → ((r : ContractModel) → contract_at p n ≡ Some r → P r) → IsEnd s P (case_endpoint p f name)
 end_fits p t class result s f g name n side P around standing none is each =
     let c = contract_known p n side (subst (IsKnown p) is (held_known p s.variables f g name standing none)) in
@@ -61,7 +61,7 @@ end_fits p t class result s f g name n side P around standing none is each =
 
 -- what its case awaits is looked up in that contract
 message_looked : (p : ProgramText) (vs : List VariableModel) (f : LocalFrame) (g : names.NameFrame) (name : Span) (n : ℕ) (side : Side) (word : Span) → AreStanding p vs f g
-    → variable_mistakes (scope_of p g) name ≡ [] → variable_type (variable_of (scope_of p g) name) ≡ ty.Endpoint side n → awaited_message p f name (waits.Message word) ≡ message_named p n word
+    → variable_mistakes (scope_of p g) name ≡ [] → type_named (scope_of p g) name ≡ ty.Endpoint side n → awaited_message p f name (waits.Message word) ≡ message_named p n word
 message_looked p vs f g name n side word standing none is =
     let m = meant_stands p vs f g name standing none in
     let same : m.local.ty ≡ ty.Endpoint side n = ap variable_type (sym m.meant_is) ∙ is in
@@ -84,15 +84,15 @@ close_brings s (v ∷ bound) holds = absurd holds
 -- a case on a message of that contract
 message_fits : (p : ProgramText) (t : ClassTree) (class : ℕ) (result : Option type_nodes.Type.Type) (s : Setting) (f : LocalFrame) (g : names.NameFrame) (name : Span) (word : Span) (binds : List made.Bind.Bind) (n : ℕ) (side : Side)
     (c : ContractTree) (o : Option MessageTree)
-    → Around p t class result s → AreStanding p s.variables f g → variable_mistakes (scope_of p g) name ≡ [] → variable_type (variable_of (scope_of p g) name) ≡ ty.Endpoint side n
-    → item_at as_contract p n ≡ Some (n, c) → message_written p.text c (word_at p.text word) ≡ o → message_case_mistakes (scope_of p g) (ty.Endpoint side n) o side word binds ≡ []
+    → Around p t class result s → AreStanding p s.variables f g → variable_mistakes (scope_of p g) name ≡ [] → type_named (scope_of p g) name ≡ ty.Endpoint side n
+    → item_at as_contract p n ≡ Some (n, c) → message_written p.text c (word_at p.text word) ≡ o → message_case_mistakes n o side word binds ≡ []
     → HeadFits p s f g (record { endpoint = name; awaited = waits.Message word; binds = binds })
 message_fits p t class result s f g name word binds n side c None around standing none is there written found = absurd (cc)
 message_fits p t class result s f g name word binds n side c (Some m) around standing none is there written found =
     let a = message_awaited p n c word m there written in
     let means = message_looked p s.variables f g name n side word standing none is ∙ a.is in
     let params : awaited_params (awaited_message p f name (waits.Message word)) ≡ m.params = ap awaited_params means ∙ ap (λ (x : MessageTree). x.params) a.message in
-    let bound : bound_params (cases.awaited_message (scope_of p g) (variable_type (variable_of (scope_of p g) name)) (waits.Message word)) ≡ m.params =
+    let bound : bound_params (cases.awaited_message (scope_of p g) (type_named (scope_of p g) name) (waits.Message word)) ≡ m.params =
     ap (λ k. bound_params (cases.awaited_message (scope_of p g) k (waits.Message word))) is
     ∙ ap (λ x. bound_params (option_and_then (λ y. message_written p.text y.1 (word_at p.text word)) x)) there
     ∙ ap bound_params written in
@@ -110,11 +110,11 @@ message_fits p t class result s f g name word binds n side c (Some m) around sta
 -- a head by the type of its endpoint
 head_by : (p : ProgramText) (t : ClassTree) (class : ℕ) (result : Option type_nodes.Type.Type) (s : Setting) (f : LocalFrame) (g : names.NameFrame) (all before : List Head) (name : Span) (awaited : made.Awaited.Awaited)
     (binds : List made.Bind.Bind) (k : declared.ValueType.ValueType)
-    → Around p t class result s → AreStanding p s.variables f g → variable_mistakes (scope_of p g) name ≡ [] → variable_type (variable_of (scope_of p g) name) ≡ k → IsKnown p k
+    → Around p t class result s → AreStanding p s.variables f g → variable_mistakes (scope_of p g) name ≡ [] → type_named (scope_of p g) name ≡ k → IsKnown p k
     → type_head_mistakes (scope_of p g) all before k (record { endpoint = name; awaited = awaited; binds = binds }) ≡ [] → HeadFits p s f g (record { endpoint = name; awaited = awaited; binds = binds })
 head_by p t class result s f g all before name (waits.Closed word) binds (ty.Endpoint side n) around standing none is known found =
     let h : Head = record { endpoint = name; awaited = waits.Closed word; binds = binds } in
-    let first = both_none (endpoint_head_mistakes (scope_of p g) before (ty.Endpoint side n) side h) (lack_mistakes (scope_of p g) all before h) found in
+    let first = both_none (awaited_mistakes (scope_of p g) before side n h h.awaited) (lack_mistakes (scope_of p g) all before h) found in
     let second = both_none (closed_mistakes binds word) (twice_mistakes (scope_of p g) before h) first.0 in
     record {
       end = end_fits p t class result s f g name n side (IsAwaited s Closed) around standing none is (λ r at. tt);
@@ -126,12 +126,12 @@ head_by p t class result s f g all before name (waits.Closed word) binds (ty.End
 head_by p t class result s f g all before name (waits.Message word) binds (ty.Endpoint side n) around standing none is known found =
     let h : Head = record { endpoint = name; awaited = waits.Message word; binds = binds } in
     let o = cases.awaited_message (scope_of p g) (ty.Endpoint side n) (waits.Message word) in
-    let first = both_none (endpoint_head_mistakes (scope_of p g) before (ty.Endpoint side n) side h) (lack_mistakes (scope_of p g) all before h) found in
-    let second = both_none (message_case_mistakes (scope_of p g) (ty.Endpoint side n) o side word binds) (if is_some o then twice_mistakes (scope_of p g) before h else []) first.0 in
+    let first = both_none (awaited_mistakes (scope_of p g) before side n h h.awaited) (lack_mistakes (scope_of p g) all before h) found in
+    let second = both_none (message_case_mistakes n o side word binds) (if is_some o then twice_mistakes (scope_of p g) before h else []) first.0 in
     let c = contract_known p n side known in
     let same : o ≡ message_written p.text c.tree (word_at p.text word) = ap (option_and_then (λ x. message_written p.text x.1 (word_at p.text word))) c.is in
     message_fits p t class result s f g name word binds n side c.tree (message_written p.text c.tree (word_at p.text word)) around standing none is c.is refl
-    (subst (λ x. message_case_mistakes (scope_of p g) (ty.Endpoint side n) x side word binds ≡ []) same second.0)
+    (subst (λ x. message_case_mistakes n x side word binds ≡ []) same second.0)
 head_by p t class result s f g all before name (waits.Closed word) binds (ty.Scalar x) around standing none is known found = absurd (cc)
 head_by p t class result s f g all before name (waits.Message word) binds (ty.Scalar x) around standing none is known found = absurd (cc)
 head_by p t class result s f g all before name (waits.Closed word) binds (ty.Pointer n) around standing none is known found = absurd (cc)
@@ -144,5 +144,5 @@ head_by p t class result s f g all before name awaited binds ty.Unknown around s
 pub head_fits : (p : ProgramText) (t : ClassTree) (class : ℕ) (result : Option type_nodes.Type.Type) (s : Setting) (f : LocalFrame) (g : names.NameFrame) (all before : List Head) (h : Head)
     → Around p t class result s → AreStanding p s.variables f g → head_mistakes (scope_of p g) all before h ≡ [] → HeadFits p s f g h
 head_fits p t class result s f g all before h around standing none =
-    let both = both_none (variable_mistakes (scope_of p g) h.endpoint) (type_head_mistakes (scope_of p g) all before (variable_type (variable_of (scope_of p g) h.endpoint)) h) none in
-    head_by p t class result s f g all before h.endpoint h.awaited h.binds (variable_type (variable_of (scope_of p g) h.endpoint)) around standing both.0 refl (held_known p s.variables f g h.endpoint standing both.0) both.1
+    let both = both_none (variable_mistakes (scope_of p g) h.endpoint) (type_head_mistakes (scope_of p g) all before (type_named (scope_of p g) h.endpoint) h) none in
+    head_by p t class result s f g all before h.endpoint h.awaited h.binds (type_named (scope_of p g) h.endpoint) around standing both.0 refl (held_known p s.variables f g h.endpoint standing both.0) both.1

@@ -1,17 +1,20 @@
 -- Names in scope, and the variables of the exchange heap that they mention.
 use Rattle.std.proofs.Common.{◌≡◌, ℕ, ◌<◌, true, false, List, [], ◌∷◌, length, map, if◌then◌else◌, refl, sym, ap, ◌∙◌, subst}
 use Rattle.std.proofs.lemmas.Option.{option_and_then_some, slice_get_within}
+use Rattle.std.specs.Option.{option_map_or}
 use Rattle.std.specs.Prelude.{Option, None, Some, is_some, slice_get, option_map, option_and_then, IsSomeAnd}
 use Rattle.source.specs.declared.token.Span.{Span}
+use Rattle.tree.specs.declared.class.Field.{Field}
 use Rattle.declarations.specs.Declarations.{first_among}
-use Rattle.names.specs.Expressions.{variable_type, variable_of, variable_mistakes}
+use Rattle.names.specs.Expressions.{variable_of, variable_mistakes, type_named}
 use Rattle.declarations.specs.declared.mistake.Mistake.TheVariants.{Unknown}
 use Rattle.declarations.specs.declared.mistake.NameSort.TheVariants as sort
-use Rattle.declarations.specs.Types.{is_block}
+use Rattle.declarations.specs.Types.{is_block, type_meant}
 use Rattle.declarations.specs.Program.{ProgramText}
 use Rattle.names.specs.Variables as names
 use Rattle.names.specs.Variables.{variable_named}
 use Rattle.declarations.specs.declared.value_type as declared
+use Rattle.declarations.specs.declared.value_type.ValueType.TheVariants as ty
 use Rattle.program.specs.Methods.{VariableModel}
 use Rattle.program.specs.Scopes.{IsInScope}
 use Rattle.program.specs.declared.number.VarId.{VarId}
@@ -51,9 +54,16 @@ pub meant_stands : (p : ProgramText) (vs : List VariableModel) (f : LocalFrame) 
     → variable_mistakes (scope_of p g) name ≡ [] → IsMeant p vs f g name
 meant_stands p vs f g name standing none = meant_by p vs f g name (local_named p.text f.locals name) standing refl (meant_as p vs f g name standing) none
 
+-- the type of what is meant, and of a field
+abbrev pub variable_type : Option names.ScopeVariable → declared.ValueType.ValueType
+variable_type o = option_map_or (λ v. v.ty) o ty.Unknown
+
+abbrev pub field_meant : ProgramText → Option Field → declared.ValueType.ValueType
+field_meant p o = option_map_or (λ f. type_meant p f.ty) o ty.Unknown
+
 -- so its type is known
 pub held_known : (p : ProgramText) (vs : List VariableModel) (f : LocalFrame) (g : names.NameFrame) (name : Span) → AreStanding p vs f g
-    → variable_mistakes (scope_of p g) name ≡ [] → IsKnown p (variable_type (variable_of (scope_of p g) name))
+    → variable_mistakes (scope_of p g) name ≡ [] → IsKnown p (type_named (scope_of p g) name)
 held_known p vs f g name standing none =
     let m = meant_stands p vs f g name standing none in
     subst (λ o. IsKnown p (variable_type o)) (sym m.meant_is) m.stands.known
@@ -64,7 +74,7 @@ pub record IsMentioned (p : ProgramText) (vs : List VariableModel) (f : LocalFra
   pub variable : VariableModel
   pub is : mention p.text f.locals name ≡ Some (mention_of name number)
   pub there : slice_get vs number ≡ Some variable
-  pub holds : IsHeld p (variable_type (variable_of (scope_of p g) name)) variable.ty
+  pub holds : IsHeld p (type_named (scope_of p g) name) variable.ty
   pub inside : IsInScope vs (last_of f) (number_of number)
 
 -- its number decides whether it is a mention
@@ -85,10 +95,10 @@ numbered_by : {last : Option VarId} → (p : ProgramText) (vs : List VariableMod
 numbered_by p vs l n number stands = numbered_there p vs l.ty n (slice_get vs n) refl (subst (IsNumbered p vs l.ty) number stands.numbered)
 
 mentioned_by : (p : ProgramText) (vs : List VariableModel) (f : LocalFrame) (g : names.NameFrame) (name : Span) (m : IsMeant p vs f g name) (o : Option ℕ) → m.local.number ≡ o
-    → is_block (variable_type (variable_of (scope_of p g) name)) ≡ true → IsMentioned p vs f g name
+    → is_block (type_named (scope_of p g) name) ≡ true → IsMentioned p vs f g name
 mentioned_by p vs f g name m None number block =
     let scalar : is_block m.local.ty ≡ false = subst (IsNumbered p vs m.local.ty) number m.stands.numbered in
-    let same : is_block (variable_type (variable_of (scope_of p g) name)) ≡ is_block m.local.ty = ap (λ o. is_block (variable_type o)) m.meant_is in
+    let same : is_block (type_named (scope_of p g) name) ≡ is_block m.local.ty = ap (λ o. is_block (variable_type o)) m.meant_is in
     absurd (cc)
 mentioned_by p vs f g name m (Some n) number block =
     let v = numbered_by p vs m.local n number m.stands in
@@ -102,7 +112,7 @@ mentioned_by p vs f g name m (Some n) number block =
     }
 
 pub block_mentioned : (p : ProgramText) (vs : List VariableModel) (f : LocalFrame) (g : names.NameFrame) (name : Span) → AreStanding p vs f g
-    → variable_mistakes (scope_of p g) name ≡ [] → is_block (variable_type (variable_of (scope_of p g) name)) ≡ true → IsMentioned p vs f g name
+    → variable_mistakes (scope_of p g) name ≡ [] → is_block (type_named (scope_of p g) name) ≡ true → IsMentioned p vs f g name
 block_mentioned p vs f g name standing none block =
     let m = meant_stands p vs f g name standing none in
     mentioned_by p vs f g name m m.local.number refl block
@@ -117,7 +127,7 @@ scalar_numbered p vs l (Some n) number stands scalar =
 
 -- a scalar is no mention
 pub scalar_not_mentioned : (p : ProgramText) (vs : List VariableModel) (f : LocalFrame) (g : names.NameFrame) (name : Span) → AreStanding p vs f g
-    → variable_mistakes (scope_of p g) name ≡ [] → is_block (variable_type (variable_of (scope_of p g) name)) ≡ false → mention p.text f.locals name ≡ None
+    → variable_mistakes (scope_of p g) name ≡ [] → is_block (type_named (scope_of p g) name) ≡ false → mention p.text f.locals name ≡ None
 scalar_not_mentioned p vs f g name standing none scalar =
     let m = meant_stands p vs f g name standing none in
     mention_by p.text f name m.local None m.is (scalar_numbered p vs m.local m.local.number refl m.stands (ap (λ o. is_block (variable_type o)) (sym m.meant_is) ∙ scalar))

@@ -1,6 +1,7 @@
 -- The methods of a program with whose names and types nothing is wrong are well formed.
 use Rattle.std.proofs.Common.{◌≡◌, ◌≢◌, ◌==◌, ℕ, zero, suc, ◌<◌, ◌≤◌, Bool, true, false, List, [], ◌∷◌, ◌++◌, length, sym, refl, subst, ap, ◌∙◌, append-nil, arith, length-append, eq-eqb, eqb-true}
 use Rattle.std.specs.Prelude.{Option, None, Some, option_map, slice_get, IfSome}
+use Rattle.std.specs.Option.{option_map_or}
 use Rattle.source.specs.declared.token.Span.{Span}
 use Rattle.tree.specs.StatementTrees as trees
 use Rattle.tree.specs.StatementTrees.{BlockTree}
@@ -10,7 +11,7 @@ use Rattle.tree.specs.declared.types as tree
 use Rattle.names.specs.Bodies.{Surroundings, block_turn}
 use Rattle.names.specs.Findings.{program_mistakes}
 use Rattle.declarations.specs.Types.{is_heap, type_meant, type_unknown}
-use Rattle.names.specs.Methods.{parameter_turn, parameters_turn, result_unknown}
+use Rattle.names.specs.Methods.{parameter_turn, parameters_turn}
 use Rattle.declarations.specs.Program.{ProgramText, as_class, item_at}
 use Rattle.program.specs.Parts.{ContractModel}
 use Rattle.declarations.specs.Resolution.{resolved_contracts}
@@ -179,7 +180,7 @@ method_fits p class c m index clean there at =
     let start : names.NameFrame = record { variables = []; heap = 0 } in
     let turns = method_clean p class c m index clean there at in
     let next = parameters_turn p m.params start in
-    let both = both_none (result_unknown p m.result) (next.found ++ (block_turn (surrounds p c m.result) m.body next.frame).found) turns in
+    let both = both_none (option_map_or (type_unknown p) m.result []) (next.found ++ (block_turn (surrounds p c m.result) m.body next.frame).found) turns in
     let halves = both_none next.found (block_turn (surrounds p c m.result) m.body next.frame).found both.1 in
     let all : Within vs after = record { rest = []; is = sym (append-nil after.variables) } in
     let grows = body_grows p class m.body opened in

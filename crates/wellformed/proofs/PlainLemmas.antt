@@ -1,5 +1,6 @@
 -- Statements that hold no others, and with which nothing is wrong.
 use Rattle.std.proofs.Common.{◌≡◌, ℕ, Bool, true, false, not, List, [], ◌++◌, length, sym, refl, ap, ◌∙◌, subst}
+use Rattle.std.specs.Option.{option_map_or}
 use Rattle.std.specs.Prelude.{Option, None, Some, option_map, slice_get}
 use Rattle.std.proofs.lemmas.Bool.{not-true}
 use Rattle.source.specs.declared.token.Span.{Span}
@@ -10,8 +11,7 @@ use Rattle.tree.specs.StatementTrees.{DeclareTree}
 use Rattle.tree.specs.Trees.{ClassTree}
 use Rattle.tree.specs.Values.{ValueTree}
 use Rattle.tree.specs.declared.types as tree
-use Rattle.names.specs.Bodies.{given_mistakes}
-use Rattle.names.specs.Expressions.{asked_number, expression_mistakes, variable_type, variable_of, place_of, element_mistakes, element_type, field_mistakes, type_of, number_mistakes, owns, variable_mistakes}
+use Rattle.names.specs.Expressions.{asked_number, expression_mistakes, place_of, element_mistakes, element_type, field_mistakes, type_of, number_mistakes, owns, variable_mistakes, type_named}
 use Rattle.declarations.specs.declared.mistake.Mismatch.TheVariants.{FieldOwns}
 use Rattle.declarations.specs.Types.{is_block, type_meant, type_unknown, unless}
 use Rattle.declarations.specs.Program.{ProgramText}
@@ -24,10 +24,11 @@ use Rattle.program.specs.Methods.{VariableModel}
 use Rattle.program.specs.declared.types.HeapType.{HeapType}
 use Rattle.program.specs.declared.method.Role.{Role}
 use Rattle.program.specs.declared.method.Role.TheVariants as role
+use Rattle.program.specs.declared.statement.Action.TheVariants.{Delete}
 use Rattle.program.specs.declared.statement.Mention.{Mention}
 use Rattle.resolving.specs.Types.{heap_type, state_in, type_held}
 use Rattle.resolving.specs.Locals.{LocalFrame, declared_as, mention, mention_of, next_number, number_of}
-use Rattle.resolving.specs.Plain.{assign_statement, delete_of, first_value, frame_behind, write_statement}
+use Rattle.resolving.specs.Plain.{assign_statement, effect_on, first_value, frame_behind, write_statement}
 use Rattle.resolving.specs.Reads.{mention_list, reads}
 use Rattle.program.specs.Lists.{Each}
 use Rattle.program.specs.Scopes.{IsInScope}
@@ -53,26 +54,26 @@ name_mentioned p s f g standing name = name_within p s f g standing name (mentio
 
 -- a variable takes a value
 variable_fits : (p : ProgramText) (t : ClassTree) (class : ℕ) (result : Option tree.Type.Type) (s : Setting) (f : LocalFrame) (g : names.NameFrame) (name : Span) (value : ValueTree) (b : Bool)
-    → is_block (variable_type (variable_of (scope_of p g) name)) ≡ b → Around p t class result s → s.scope ≡ last_of f → AreStanding p s.variables f g → variable_mistakes (scope_of p g) name ≡ []
-    → value_mistakes (record { scope = scope_of p g; class = t }) (variable_type (variable_of (scope_of p g) name)) value ≡ [] → IsStatement s (assign_statement p class f (mention p.text f.locals name) value)
+    → is_block (type_named (scope_of p g) name) ≡ b → Around p t class result s → s.scope ≡ last_of f → AreStanding p s.variables f g → variable_mistakes (scope_of p g) name ≡ []
+    → value_mistakes (record { scope = scope_of p g; class = t }) (type_named (scope_of p g) name) value ≡ [] → IsStatement s (assign_statement p class f (mention p.text f.locals name) value)
 variable_fits p t class result s f g name value false scalar around here standing none given =
     let known = held_known p s.variables f g name standing none in
     subst (λ o. IsStatement s (assign_statement p class f o value)) (sym (scalar_not_mentioned p s.variables f g name standing none scalar))
-    (scalar_taken_fits p t class result s f g (variable_type (variable_of (scope_of p g) name)) value around standing known scalar given)
+    (scalar_taken_fits p t class result s f g (type_named (scope_of p g) name) value around standing known scalar given)
 variable_fits p t class result s f g name value true block around here standing none given =
     let known = held_known p s.variables f g name standing none in
     let m = block_mentioned p s.variables f g name standing none block in
     subst (λ o. IsStatement s (assign_statement p class f o value)) (sym m.is)
-    (taken_fits p t class result s f g (variable_type (variable_of (scope_of p g) name)) (mention_of name m.number) m.variable value around standing known block m.there m.holds (subst (λ o. IsInScope s.variables o (number_of m.number)) (sym here) m.inside) given)
+    (taken_fits p t class result s f g (type_named (scope_of p g) name) (mention_of name m.number) m.variable value around standing known block m.there m.holds (subst (λ o. IsInScope s.variables o (number_of m.number)) (sym here) m.inside) given)
 
 -- an assignment
 pub assign_fits : (p : ProgramText) (t : ClassTree) (class : ℕ) (result : Option tree.Type.Type) (s : Setting) (f : LocalFrame) (g : names.NameFrame) (target : TargetTree) (value : ValueTree)
     → Around p t class result s → s.scope ≡ last_of f → AreStanding p s.variables f g → target_mistakes (scope_of p g) target ≡ []
     → value_mistakes (record { scope = scope_of p g; class = t }) (target_type (scope_of p g) target) value ≡ [] → IsStatement s (write_statement p class f target value)
 assign_fits p t class result s f g (trees.Variable name) value around here standing none given =
-    variable_fits p t class result s f g name value (is_block (variable_type (variable_of (scope_of p g) name))) refl around here standing none given
+    variable_fits p t class result s f g name value (is_block (type_named (scope_of p g) name)) refl around here standing none given
 assign_fits p t class result s f g (trees.Field name field) value around here standing none given =
-    let k = variable_type (variable_of (scope_of p g) name) in
+    let k = type_named (scope_of p g) name in
     let own = owns (scope_of p g) k field in
     let length = length_mistakes (scope_of p g) k field in
     let both = both_none (variable_mistakes (scope_of p g) name) (field_mistakes (scope_of p g) k name field ++ (length ++ unless (not own) field.place FieldOwns)) none in
@@ -81,7 +82,7 @@ assign_fits p t class result s f g (trees.Field name field) value around here st
     let scalar = field_scalar p g k name field (held_known p s.variables f g name standing both.0) fields.0 owning in
     part_taken_fits p t class result s f g (target_type (scope_of p g) (trees.Field name field)) [] (mention p.text f.locals name) value around standing scalar.0 scalar.1 tt (name_mentioned p s f g standing name) given
 assign_fits p t class result s f g (trees.Element name index) value around here standing none given =
-    let k = variable_type (variable_of (scope_of p g) name) in
+    let k = type_named (scope_of p g) name in
     let i = type_of (scope_of p g) (shape index) in
     let both = both_none (number_mistakes (scope_of p g) (shape index)) (variable_mistakes (scope_of p g) name ++ element_mistakes k name) none in
     let whole = both_none (variable_mistakes (scope_of p g) name) (element_mistakes k name) both.1 in
@@ -105,7 +106,7 @@ first_fits p t class result s f g name k state role value (Some held) rest is wi
 
 value_fits : (p : ProgramText) (t : ClassTree) (class : ℕ) (result : Option tree.Type.Type) (s : Setting) (f : LocalFrame) (g : names.NameFrame) (d : DeclareTree) (value : Option ValueTree)
     → s.scope ≡ last_of (frame_behind p class f (stated.Declare d)) → Around p t class result s → AreStanding p s.variables f g → Within s.variables (frame_behind p class f (stated.Declare d)) → type_unknown p d.ty ≡ []
-    → given_mistakes (record { scope = scope_of p g; class = t }) (type_meant p d.ty) value ≡ [] → IsStatement s (first_value p class f d.name (next_number (type_held p d.ty) f) value)
+    → option_map_or (value_mistakes (record { scope = scope_of p g; class = t }) (type_meant p d.ty)) value [] ≡ [] → IsStatement s (first_value p class f d.name (next_number (type_held p d.ty) f) value)
 value_fits p t class result s f g d None here around standing within known none = (tt, tt)
 value_fits p t class result s f g d (Some value) here around standing within known none =
     let k = type_meant p d.ty in
@@ -114,13 +115,13 @@ value_fits p t class result s f g d (Some value) here around standing within kno
 
 pub declare_fits : (p : ProgramText) (t : ClassTree) (class : ℕ) (result : Option tree.Type.Type) (s : Setting) (f : LocalFrame) (g : names.NameFrame) (d : DeclareTree)
     → s.scope ≡ last_of (frame_behind p class f (stated.Declare d)) → Around p t class result s → AreStanding p s.variables f g → Within s.variables (frame_behind p class f (stated.Declare d)) → type_unknown p d.ty ≡ []
-    → given_mistakes (record { scope = scope_of p g; class = t }) (type_meant p d.ty) d.value ≡ []
+    → option_map_or (value_mistakes (record { scope = scope_of p g; class = t }) (type_meant p d.ty)) d.value [] ≡ []
     → IsStatement s (first_value p class f d.name (next_number (type_held p d.ty) f) d.value)
 declare_fits p t class result s f g d here around standing within known none = value_fits p t class result s f g d d.value here around standing within known none
 
-deleted_fits : (s : Setting) (o : Option Mention) → Each (IsMention s) (mention_list o) → IsEffect s (delete_of o)
+deleted_fits : (s : Setting) (o : Option Mention) → Each (IsMention s) (mention_list o) → IsEffect s (effect_on Delete o)
 deleted_fits s None within = tt
 deleted_fits s (Some m) within = within.0
 
-pub delete_fits : (p : ProgramText) (s : Setting) (f : LocalFrame) (g : names.NameFrame) → AreStanding p s.variables f g → (name : Span) → IsEffect s (delete_of (mention p.text f.locals name))
+pub delete_fits : (p : ProgramText) (s : Setting) (f : LocalFrame) (g : names.NameFrame) → AreStanding p s.variables f g → (name : Span) → IsEffect s (effect_on Delete (mention p.text f.locals name))
 delete_fits p s f g standing name = deleted_fits s (mention p.text f.locals name) (name_mentioned p s f g standing name)

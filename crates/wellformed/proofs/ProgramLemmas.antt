@@ -2,6 +2,7 @@
 use Rattle.std.proofs.Common.{◌≡◌, ℕ, List, [], ◌∷◌, ◌++◌, map, sym, refl, ap, ◌∙◌}
 use Rattle.std.specs.List.{flat_map}
 use Rattle.std.specs.Prelude.{Option, None, Some, option_and_then, slice_get}
+use Rattle.std.specs.Option.{option_map_or}
 use Rattle.tree.specs.Trees.{DefinitionTree, Class, ClassTree, Contract, ContractTree, MessageTree, MethodTree}
 use Rattle.tree.specs.declared.class.Parameter.{Parameter}
 use Rattle.declarations.specs.ContractMistakes.{contract_mistakes, message_mistakes, state_mistakes}
@@ -12,7 +13,7 @@ use Rattle.tables.specs.Firsts.{first_of}
 use Rattle.declarations.specs.Types.{is_heap, type_meant, type_unknown}
 use Rattle.declarations.specs.Listed.{twice_among}
 use Rattle.declarations.specs.ItemMistakes.{items_mistakes}
-use Rattle.names.specs.Methods.{method_turn, parameter_turn, parameters_turn, result_unknown}
+use Rattle.names.specs.Methods.{method_turn, parameter_turn, parameters_turn}
 use Rattle.declarations.specs.Program.{ProgramText, as_class, as_contract, item_at}
 use Rattle.declarations.specs.Named.{message_written}
 use Rattle.names.specs.Variables.{NameFrame, declared_variable}
@@ -45,8 +46,8 @@ method_clean p class c m index clean there at =
     none_there (λ m. (method_turn p c m).found) c.methods index m inner at
 
 -- so the types of its result and of its parameters are known
-pub result_clean : (p : ProgramText) (m : MethodTree) (number : ℕ) → program_mistakes p ≡ [] → IsMethod p m number → result_unknown p m.result ≡ []
-result_clean p m number clean is = (both_none (result_unknown p m.result) _ (method_clean p is.class is.tree m is.index clean is.there is.at)).0
+pub result_clean : (p : ProgramText) (m : MethodTree) (number : ℕ) → program_mistakes p ≡ [] → IsMethod p m number → option_map_or (type_unknown p) m.result [] ≡ []
+result_clean p m number clean is = (both_none (option_map_or (type_unknown p) m.result []) _ (method_clean p is.class is.tree m is.index clean is.there is.at)).0
 
 params_known : (p : ProgramText) (params : List Parameter) (f : NameFrame) → (parameters_turn p params f).found ≡ [] → Each (λ x. type_unknown p x.ty ≡ []) params
 params_known p [] f none = tt
@@ -59,7 +60,7 @@ params_known p (x ∷ params) f none =
 pub parameters_clean : (p : ProgramText) (m : MethodTree) (number : ℕ) → program_mistakes p ≡ [] → IsMethod p m number → Each (λ x. type_unknown p x.ty ≡ []) m.params
 parameters_clean p m number clean is =
     let f : NameFrame = record { variables = []; heap = 0 } in
-    let inner = (both_none (result_unknown p m.result) _ (method_clean p is.class is.tree m is.index clean is.there is.at)).1 in
+    let inner = (both_none (option_map_or (type_unknown p) m.result []) _ (method_clean p is.class is.tree m is.index clean is.there is.at)).1 in
     params_known p m.params f (both_none (parameters_turn p m.params f).found _ inner).0
 
 message_at : (p : ProgramText) (messages : List MessageTree) (m : MessageTree) (o : Option ℕ) → flat_map (message_mistakes p) messages ≡ [] → option_and_then (slice_get messages) o ≡ Some m

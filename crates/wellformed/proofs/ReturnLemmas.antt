@@ -12,8 +12,7 @@ use Rattle.names.specs.Bodies.{return_mistakes, plain_turn}
 use Rattle.names.specs.Expressions.{whole_mistakes}
 use Rattle.declarations.specs.declared.mistake.Mismatch.TheVariants.{ValueReturned}
 use Rattle.declarations.specs.declared.mistake.Mistake.TheVariants.{WrongType}
-use Rattle.declarations.specs.Types.{is_block, type_meant}
-use Rattle.names.specs.Methods.{result_unknown}
+use Rattle.declarations.specs.Types.{is_block, type_meant, type_unknown}
 use Rattle.declarations.specs.Program.{ProgramText}
 use Rattle.names.specs.Shapes.{shape}
 use Rattle.declarations.specs.Owning.{any_lent, can_start}
@@ -23,7 +22,7 @@ use Rattle.program.specs.declared.statement.Effect.TheVariants as effects
 use Rattle.resolving.specs.Types.{result_held, state_in, type_held}
 use Rattle.resolving.specs.Locals.{LocalFrame}
 use Rattle.resolving.specs.Methods.{method_told}
-use Rattle.resolving.specs.Plain.{call_of, call_statement, lone, return_statement, start_statement, stated_call, simple_of}
+use Rattle.resolving.specs.Plain.{call_of, call_statement, lone, return_statement, start_statement, stated_call}
 use Rattle.program.specs.WellFormed.{IsStartOf, IsStatement, IsTaken, Setting}
 use Rattle.wellformed.proofs.ArgumentLemmas.{IsAsked, asked_block, asked_known, asked_scalar}
 use Rattle.wellformed.proofs.CallLemmas.{CallsMethod, call_means, call_of_fits, method_there}
@@ -66,7 +65,7 @@ start_fits p t class result s f g c word around standing none =
     let free = both_not (is_some x.method.result) (any_lent x.method.params) x.fits in
     let call = call_of_fits p t class result s f g c None [] (λ m. can_start m ≡ true) around standing x (subst (λ o. IsTaken s o None) (sym (void_gives p x.method.result free.0)) tt, tt) tt in
     let starts : IsStartOf s (call_of p class f c None [] (record { number = x.number; method = x.method })) (method_told p x.told.class x.method) = record { call = call; void = free.0; claimed = all_claimed p x.told.class x.method (parameters_clean p x.method x.number around.clean x.told) free.1 } in
-    subst (λ o. IsStatement s (option_map_or seen.Start (option_map (call_of p class f c None []) o) (simple_of [] effects.Nothing))) (sym x.is)
+    subst (λ o. IsStatement s (option_map_or seen.Start (option_map (call_of p class f c None []) o) (seen.Simple [] effects.Nothing))) (sym x.is)
     (subst (λ o. IsSomeAnd o (IsStartOf s (call_of p class f c None [] (record { number = x.number; method = x.method })))) (sym (method_there p t class result s x.method x.number around x.told)) starts)
 
 -- a return of nothing
@@ -84,7 +83,7 @@ given_fits p class s f g t e true block standing known asked =
     let x = asked_block p class s f g standing (type_meant p t) h.held e asked block (record { state = state_in t; is = h.is }) in
     subst (λ o. IsTaken s o (lone p class f e)) (sym h.is) (subst (λ o. IsTaken s (Some h.held) o) (sym x.is) x.holds)
 
-value_returned : (p : ProgramText) (class : ℕ) (s : Setting) (f : LocalFrame) (g : names.NameFrame) (result : Option tree.Type.Type) (word : Span) (e : ExpressionTree) → s.result ≡ result_held p result → result_unknown p result ≡ []
+value_returned : (p : ProgramText) (class : ℕ) (s : Setting) (f : LocalFrame) (g : names.NameFrame) (result : Option tree.Type.Type) (word : Span) (e : ExpressionTree) → s.result ≡ result_held p result → option_map_or (type_unknown p) result [] ≡ []
     → AreStanding p s.variables f g → return_mistakes (scope_of p g) result word (Some e) ≡ [] → IsTaken s s.result (lone p class f e)
 value_returned p class s f g None word e is known standing none =
     let lost = (both_none (whole_mistakes (scope_of p g) (shape e)) (WrongType word.place ValueReturned ∷ []) none).1 in

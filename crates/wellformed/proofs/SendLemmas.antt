@@ -9,16 +9,16 @@ use Rattle.tree.specs.Trees.{ClassTree, ContractTree, MessageTree, contracts_of}
 use Rattle.tree.specs.Values.{CallTree}
 use Rattle.tree.specs.declared.types as type_nodes
 use Rattle.program.specs.declared.types.Side.{Side}
-use Rattle.names.specs.Expressions.{variable_type, variable_of, variable_mistakes}
+use Rattle.names.specs.Expressions.{variable_of, variable_mistakes, type_named}
 use Rattle.names.specs.Findings.{program_mistakes}
 use Rattle.declarations.specs.declared.mistake.Mistake.TheVariants.{Unknown}
 use Rattle.declarations.specs.declared.mistake.NameSort.TheVariants as sort
-use Rattle.declarations.specs.Types.{is_block, type_unknown, unless}
+use Rattle.declarations.specs.Types.{is_block, type_unknown, unless, type_meant}
 use Rattle.declarations.specs.Program.{ProgramText, as_contract, item_at}
 use Rattle.program.specs.Parts.{ContractModel}
 use Rattle.declarations.specs.Resolution.{resolved_contracts}
 use Rattle.names.specs.Shapes.{shape}
-use Rattle.names.specs.Values.{argument_mistakes, is_alone, message_mistakes, number_of_arguments, message_types, send_mistakes, sends}
+use Rattle.names.specs.Values.{argument_mistakes, is_alone, message_mistakes, number_of_arguments, send_mistakes, sends}
 use Rattle.declarations.specs.Named.{message_written, sent_message}
 use Rattle.names.specs.Variables as names
 use Rattle.tables.specs.Words.{same_word, word_at}
@@ -36,7 +36,7 @@ use Rattle.program.specs.WellFormed.{HoldAll, Setting, IsEnd, IsMessageOf, IsSen
 use Rattle.wellformed.proofs.ArgumentLemmas.{payloads_given, reads_mentioned}
 use Rattle.wellformed.proofs.ContractLemmas.{AnswersMessage, contract_is_at, message_given}
 use Rattle.wellformed.proofs.FindingLemmas.{as_many, unless_none}
-use Rattle.wellformed.proofs.MentionLemmas.{block_mentioned}
+use Rattle.wellformed.proofs.MentionLemmas.{block_mentioned, variable_type}
 use Rattle.wellformed.proofs.HeapTypeLemmas.{HasContract, contract_known, end_held}
 use Rattle.wellformed.proofs.ListLemmas.{both_none}
 use Rattle.wellformed.proofs.ProgramLemmas.{message_clean}
@@ -63,7 +63,7 @@ record Sending (p : ProgramText) (g : names.NameFrame) (n : ℕ) (word : Span) (
   pub answer : AnswersMessage p n (message_sent p n word) message
   pub known : Each (λ x. type_unknown p x.ty ≡ []) message.params
   pub many : length message.params ≡ length es
-  pub given : argument_mistakes (scope_of p g) (message_types p message) (map shape es) ≡ []
+  pub given : argument_mistakes (scope_of p g) (map (λ x. type_meant p x.ty) message.params) (map shape es) ≡ []
 
 sent_written : (text word : List ℕ) (t : ContractTree) (m : MessageTree) (b : Bool) → (if b then message_written text t (drop 4 word) else None) ≡ Some m → message_written text t (drop 4 word) ≡ Some m
 sent_written text word t m true sent = sent
@@ -76,7 +76,7 @@ sending p g n side t role word es clean there (Some m) found none =
     let shapes = map shape es in
     let way = is_alone role && sends side m.direction in
     let many = number_of_arguments m.params shapes word.place in
-    let given = argument_mistakes (scope_of p g) (message_types p m) shapes in
+    let given = argument_mistakes (scope_of p g) (map (λ x. type_meant p x.ty) m.params) shapes in
     let first = both_none (unless way word.place _) (many ++ given) none in
     let rest = both_none many given first.1 in
     let written = sent_written p.text (word_at p.text word) t m (same_word (take 4 (word_at p.text word)) (codes "Send")) found in (
@@ -102,7 +102,7 @@ end_sends p t class result s f g role c word around standing member l local n si
     let of_contract = ap (option_and_then (λ x. sent_message p.text x.1 (word_at p.text word))) has.is in
     let clean = subst (λ o. message_mistakes (scope_of p g) n o side role word (map shape c.arguments) ≡ []) of_contract none in
     let x = sending p g n side has.tree role word c.arguments around.clean has.is (sent_message p.text has.tree (word_at p.text word)) refl clean in
-    let held_is : variable_type (variable_of (scope_of p g) c.name) ≡ ty.Endpoint side n = ap variable_type meant_is ∙ type_is in
+    let held_is : type_named (scope_of p g) c.name ≡ ty.Endpoint side n = ap variable_type meant_is ∙ type_is in
     let found : variable_mistakes (scope_of p g) c.name ≡ [] = ap (λ o. if is_some o then [] else Unknown c.name (sort.Variable (length g.variables)) ∷ []) meant_is in
     let m = block_mentioned p s.variables f g c.name standing found (ap is_block held_is) in
     let a = x.1.answer in

@@ -8,8 +8,7 @@ use Rattle.tree.specs.declared.class.Parameter.{Parameter}
 use Rattle.tree.specs.declared.types as tree
 use Rattle.names.specs.Expressions.{InScope}
 use Rattle.names.specs.Findings.{program_mistakes}
-use Rattle.declarations.specs.Types.{is_block}
-use Rattle.names.specs.Methods.{result_unknown}
+use Rattle.declarations.specs.Types.{is_block, type_unknown}
 use Rattle.declarations.specs.Program.{ProgramText, as_class, as_contract, as_struct, item_at}
 use Rattle.declarations.specs.Resolution.{resolved_contracts}
 use Rattle.names.specs.Variables as names
@@ -121,7 +120,7 @@ pub record Around (p : ProgramText) (c : ClassTree) (class : ℕ) (result : Opti
   pub structs_are : s.program.structs ≡ structs_told p
   pub methods_are : s.program.methods ≡ methods_told p
   pub result_is : s.result ≡ result_held p result
-  pub result_known : result_unknown p result ≡ []
+  pub result_known : option_map_or (type_unknown p) result [] ≡ []
   pub nested : AreNested s.variables
 
 -- a variable of this name and type comes into scope

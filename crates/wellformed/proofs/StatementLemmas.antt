@@ -1,5 +1,6 @@
 -- Statements with which nothing is wrong are well formed, and leave the variables in scope standing.
 use Rattle.std.proofs.Common.{◌≡◌, ℕ, List, [], ◌∷◌, ◌++◌, ◌∙◌, refl, sym, subst}
+use Rattle.std.specs.Option.{option_map_or}
 use Rattle.std.specs.Prelude.{Option, option_map}
 use Rattle.source.specs.declared.place.Place.{Place}
 use Rattle.tree.specs.StatementTrees as trees
@@ -117,7 +118,7 @@ declaration_goes m class s around d f g standing within none =
     let p = m.program in
     let after = with_declaration m.program.text (declaration_of m.program d) f in
     let unknown = type_unknown p d.ty in
-    let given = bodies.given_mistakes (bodies.inside_of m g) (type_meant p d.ty) d.value in
+    let given = option_map_or (value_mistakes (bodies.inside_of m g) (type_meant p d.ty)) d.value [] in
     let enters = names.declared_variable p.text d.name (type_meant p d.ty) (is_heap d.ty) g in
     let parts = both_none (unknown ++ given) enters.found none in
     let first = both_none unknown given parts.0 in

@@ -10,13 +10,13 @@ use Rattle.tree.specs.Trees.{ClassTree, MethodTree, StructTree}
 use Rattle.tree.specs.Values as values
 use Rattle.tree.specs.Values.{CallTree, MadeTree, NewTree, ValueTree}
 use Rattle.tree.specs.declared.types as tree
-use Rattle.declarations.specs.Types.{agree, alike, is_block, is_silent, pointer_type, type_meant, unless}
-use Rattle.names.specs.Methods.{result_unknown}
+use Rattle.declarations.specs.Types.{agree, alike, is_block, is_silent, pointer_type, type_meant, unless, type_unknown}
 use Rattle.names.specs.Findings.{program_mistakes}
 use Rattle.declarations.specs.Program.{Numbered, ProgramText, as_struct, item_at, struct_named}
 use Rattle.names.specs.Shapes.{shape}
-use Rattle.names.specs.Values.{argument_mistakes, fields_asked, made_mistakes, made_type, new_mistakes, number_of_arguments, struct_made_mistakes, value_mistakes}
+use Rattle.names.specs.Values.{argument_mistakes, made_mistakes, made_type, new_mistakes, number_of_arguments, struct_made_mistakes, value_mistakes}
 use Rattle.declarations.specs.Owning.{owning_fields}
+use Rattle.tree.specs.declared.class.Field.{Field}
 use Rattle.names.specs.Variables as names
 use Rattle.declarations.specs.declared.value_type as declared
 use Rattle.declarations.specs.declared.value_type.ValueType.TheVariants as ty
@@ -24,13 +24,15 @@ use Rattle.program.specs.declared.types.HeapType.{HeapType}
 use Rattle.program.specs.declared.types.Scalar.{Scalar}
 use Rattle.program.specs.Methods.{VariableModel}
 use Rattle.program.specs.Statements.{Call}
+use Rattle.program.specs.declared.statement.Action.TheVariants.{Move, Use}
 use Rattle.program.specs.declared.statement.Effect.TheVariants as effects
 use Rattle.program.specs.declared.statement.Mention.{Mention}
 use Rattle.resolving.specs.Counts.{structs_before}
 use Rattle.resolving.specs.Fields.{fields_held, structs_told}
 use Rattle.resolving.specs.Types.{result_held, state_in}
 use Rattle.resolving.specs.Locals.{LocalFrame}
-use Rattle.resolving.specs.Plain.{call_of, call_statement, lone, made_arguments, made_reads, move_of, new_of, part_taken, payloads, scalar_taken, take_statement, simple_of, use_of}
+use Rattle.program.specs.Statements as seen
+use Rattle.resolving.specs.Plain.{call_of, call_statement, lone, made_arguments, made_reads, effect_on, new_of, part_taken, payloads, scalar_taken, take_statement}
 use Rattle.resolving.specs.Reads.{mention_list, reads}
 use Rattle.program.specs.Lists.{Each}
 use Rattle.program.specs.WellFormed.{HoldAll, Holds, IsEffect, IsIn, IsMention, IsNew, IsStatement, IsTaken, Setting, field_types, is_end}
@@ -73,7 +75,7 @@ no_send p class s f g Is c alone (inl x) not_alone = x
 no_send p class s f g Is c alone (inr x) not_alone = cc
 
 -- A call as a value gives a block of the type that is asked.
-block_result : (p : ProgramText) (s : Setting) (k : declared.ValueType.ValueType) (target : Mention) (v : VariableModel) (result : Option tree.Type.Type) → result_unknown p result ≡ []
+block_result : (p : ProgramText) (s : Setting) (k : declared.ValueType.ValueType) (target : Mention) (v : VariableModel) (result : Option tree.Type.Type) → option_map_or (type_unknown p) result [] ≡ []
     → IsKnown p k → is_block k ≡ true → slice_get s.variables target.variable.0 ≡ Some v → IsHeld p k v.ty → gives_asked p result k ≡ true → IsTaken s (result_held p result) (Some target)
 block_result p s k target v None known asked block there holds fits = cc
 block_result p s k target v (Some t) known asked block there holds fits =
@@ -83,7 +85,7 @@ block_result p s k target v (Some t) known asked block there holds fits =
     subst (λ o. IsTaken s o (Some target)) (sym h.is) (holds_there s h.held target v there same)
 
 -- or nothing, where a scalar is asked
-scalar_result : (p : ProgramText) (k : declared.ValueType.ValueType) (result : Option tree.Type.Type) → result_unknown p result ≡ [] → IsKnown p k → is_block k ≡ false
+scalar_result : (p : ProgramText) (k : declared.ValueType.ValueType) (result : Option tree.Type.Type) → option_map_or (type_unknown p) result [] ≡ [] → IsKnown p k → is_block k ≡ false
     → gives_asked p result k ≡ true → result_held p result ≡ None
 scalar_result p k None known asked scalar fits = refl
 scalar_result p k (Some t) known asked scalar fits =
@@ -97,7 +99,7 @@ alone_result p (Some t) fits = scalar_holds p (type_meant p t) (state_in t) (not
 -- a call of a method, told
 pub told_call : (p : ProgramText) (class : ℕ) (s : Setting) (f : LocalFrame) (g : names.NameFrame) (c : CallTree) (target : Option Mention) (behind : List Mention) (Is : MethodTree → Type 0) → (x : CallsMethod p class f g Is c)
     → IsStatement s (Call (call_of p class f c target behind (record { number = x.number; method = x.method }))) → IsStatement s (call_statement p class f c target behind)
-told_call p class s f g c target behind Is x fits = subst (λ o. IsStatement s (option_map_or Call (option_map (call_of p class f c target behind) o) (simple_of [] effects.Nothing))) (sym x.is) fits
+told_call p class s f g c target behind Is x fits = subst (λ o. IsStatement s (option_map_or Call (option_map (call_of p class f c target behind) o) (seen.Simple [] effects.Nothing))) (sym x.is) fits
 
 -- a call whose result no variable takes
 pub void_call : (p : ProgramText) (t : ClassTree) (class : ℕ) (result : Option tree.Type.Type) (s : Setting) (f : LocalFrame) (g : names.NameFrame) (c : CallTree) (behind : List Mention) (Is : MethodTree → Type 0)
@@ -125,9 +127,9 @@ made_within p class s f g standing (values.Struct name left given) = tt
 made_within p class s f g standing (values.Array element length) = reads_within p s.variables f g standing length
 
 move_fits : (s : Setting) (target : Mention) (v : VariableModel) (o : Option Mention) (source : Mention) → o ≡ Some source → slice_get s.variables target.variable.0 ≡ Some v → Holds s v.ty source.variable
-    → IsIn s target.variable → IsEffect s (move_of target o)
+    → IsIn s target.variable → IsEffect s (effect_on (Move target) o)
 move_fits s target v o source is there holds inside =
-    subst (λ x. IsEffect s (move_of target x)) (sym is) (inside, subst (λ x. IsSomeAnd x (λ w. Holds s w.ty source.variable)) (sym there) holds)
+    subst (λ x. IsEffect s (effect_on (Move target) x)) (sym is) (inside, subst (λ x. IsSomeAnd x (λ w. Holds s w.ty source.variable)) (sym there) holds)
 
 -- what takes a new block is no end of a channel, and what is given is of the types that the block has in its fields that own
 abbrev pub IsMade : Setting → HeapType → List Mention → Type 0
@@ -146,7 +148,7 @@ array_made p s element k held fits is = cc
 given_fits : (p : ProgramText) (class : ℕ) (s : Setting) (f : LocalFrame) (g : names.NameFrame) (x : Numbered StructTree) (name : Span) (given : List ExpressionTree) → program_mistakes p ≡ [] → AreStanding p s.variables f g
     → item_at as_struct p x.0 ≡ Some (x.0, x.1) → struct_made_mistakes (scope_of p g) (Some x) name (map shape given) ≡ [] → HoldAll s (fields_held p x.1.fields) (map (λ m. m.variable) (payloads p class f given))
 given_fits p class s f g x name given clean standing there none =
-    let asked = fields_asked p x.1 in
+    let asked = map (λ (y : Field). type_meant p y.ty) (owning_fields x.1) in
     let params = as_params x.1 in
     let both = both_none (number_of_arguments asked (map shape given) name.place) (argument_mistakes (scope_of p g) asked (map shape given)) none in
     let many = as_many asked (map shape given) name.place both.0 ∙ length-map given shape in
@@ -211,7 +213,7 @@ scalar_taken_fits p t class result s f g k (values.Call c) around standing known
     void_call p t class result s f g c [] _ around standing x (scalar_result p k x.method.result (result_clean p x.method x.number around.clean x.told) known scalar x.fits) tt
 scalar_taken_fits p t class result s f g k (values.New n) around standing known scalar none = (made_within p class s f g standing n.made, tt)
 
-use_fits : (s : Setting) (o : Option Mention) → Each (IsMention s) (mention_list o) → IsEffect s (use_of o)
+use_fits : (s : Setting) (o : Option Mention) → Each (IsMention s) (mention_list o) → IsEffect s (effect_on Use o)
 use_fits s None h = tt
 use_fits s (Some m) h = h.0
 

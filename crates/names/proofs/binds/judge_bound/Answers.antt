@@ -18,4 +18,4 @@ loop-index-preserved c = λ p f scope frame.
     let bind = get_or binds i no_bind in
     let param = option_map (λ (x : Bor MessageParameter). x.now) c.parameter_at-parameter.result in
     let o = bound_less p params binds i no_bind bind param c.loop-index-test.true refl c.parameter_at-parameter.ensures (c.loop-index.invariant p f scope frame) in
-    goes_on (bind_turn p param bind) (binds_turn p (drop (i + 1) params) (drop (i + 1) binds)) o (c.in_ok-judge_bind.ensures p o.frame scope o.stands)
+    goes_on (bind_turn p param bind.name bind.ty) (binds_turn p (drop (i + 1) params) (drop (i + 1) binds)) o (c.in_ok-judge_bind.ensures p o.frame scope o.stands)

@@ -1,12 +1,12 @@
 use Rattle.std.proofs.Common.{◌++◌, ◌&&◌, map, subst, arith}
 use Rattle.std.specs.Prelude.{OnOk}
 use Rattle.tree.specs.ExpressionTrees.{expression_tree}
-use Rattle.tree.specs.Trees.{message_tree}
+use Rattle.tree.specs.declared.contract.MessageParameter.{MessageParameter}
 use Rattle.names.specs.Operands.{in_frame}
 use Rattle.declarations.specs.Mistakes.{Adds}
 use Rattle.declarations.specs.Types.{type_meant, unless}
 use Rattle.names.specs.Shapes.{shape}
-use Rattle.names.specs.Values.{send_mismatch, argument_mistakes, number_of_arguments, message_types, is_alone, sends}
+use Rattle.names.specs.Values.{send_mismatch, argument_mistakes, number_of_arguments, is_alone, sends}
 use Rattle.names.proofs.PassLemmas.{on_adds}
 use Rattle.names.proofs.PendingLemmas.{numbered}
 use Rattle.names.proofs.calls.judge_known_message.Goals as goal
@@ -24,7 +24,7 @@ returns c = λ n p f here.
     let asked = c.ask.new.found.items in
     let counted = c.judge_count.new.found.items in
     let new = c.judge_typed_arguments.new.found.items in
-    let types = message_types p (message_tree message) in
+    let types = map (λ (x : MessageParameter). type_meant p x.ty) params in
     on_adds result old asked new (unless (is_alone c.args.site.now.purpose && sends c.args.end message.direction) place (send_mismatch c.args.site.now.purpose c.args.end c.args.site.now.name)) (number_of_arguments params es place ++ argument_mistakes s types es)
     (subst (λ b. Adds old asked (unless b place (send_mismatch c.args.site.now.purpose c.args.end c.args.site.now.name))) c.is_sent-well.ensures
     (subst (λ m. Adds old asked (unless c.is_sent-well.result place m)) c.send_mismatch.ensures c.in_ok-ask.ensures))

@@ -2,12 +2,13 @@ use Rattle.std.proofs.Common.{◌++◌, map, subst, arith}
 use Rattle.std.specs.Prelude.{OnOk}
 use Rattle.tree.specs.ExpressionTrees.{expression_tree}
 use Rattle.tree.specs.Trees.{method_tree}
+use Rattle.tree.specs.declared.class as made
 use Rattle.names.specs.Operands.{in_frame}
 use Rattle.declarations.specs.Mistakes.{Adds}
 use Rattle.declarations.specs.declared.mistake.Mismatch.TheVariants.{Given}
 use Rattle.declarations.specs.Types.{type_meant, unless}
 use Rattle.names.specs.Shapes.{shape}
-use Rattle.names.specs.Values.{demand_of, result_type, argument_mistakes, number_of_arguments, parameter_types, start_mistakes, result_fits}
+use Rattle.names.specs.Values.{demand_of, result_type, argument_mistakes, number_of_arguments, start_mistakes, result_fits}
 use Rattle.names.proofs.PassLemmas.{on_adds}
 use Rattle.names.proofs.PendingLemmas.{numbered}
 use Rattle.names.proofs.calls.judge_known_method.Goals as goal
@@ -27,7 +28,7 @@ returns c = λ class startable p f here.
     let started = c.judge_start.new.found.items in
     let new = c.ask.new.found.items in
     let count = number_of_arguments params es place in
-    let each = argument_mistakes s (parameter_types p params) es in
+    let each = argument_mistakes s (map (λ (x : made.Parameter.Parameter). type_meant p x.ty) params) es in
     let start = start_mistakes (method_tree method) c.args.site.now.purpose c.args.site.now.name in
     let purpose = c.args.site.now.purpose in
     let fits = unless (result_fits p method.result purpose) place (Given (demand_of purpose) (result_type p method.result)) in

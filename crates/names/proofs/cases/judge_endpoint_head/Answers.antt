@@ -1,11 +1,10 @@
 use Rattle.std.proofs.Common.{[], ◌∷◌, take, ap, sym, ◌∙◌, refl, subst}
 use Rattle.std.specs.Prelude.{OnOk, if◌then◌else◌, ◌||◌}
-use Rattle.names.specs.Cases.{endpoint_head_mistakes, lack_mistakes, awaits_too, names_endpoint, awaits_closed}
+use Rattle.names.specs.Cases.{awaited_mistakes, lack_mistakes, awaits_too, names_endpoint, awaits_closed}
 use Rattle.names.specs.Operands.{in_frame}
 use Rattle.declarations.specs.Mistakes.{Adds}
 use Rattle.declarations.specs.declared.mistake.Mistake.TheVariants.{LacksClosed}
 use Rattle.names.specs.Heads.{IsHeads, case_head, awaiting_of}
-use Rattle.declarations.specs.declared.value_type.ValueType.TheVariants as ty
 use Rattle.names.proofs.HeadWords.{told_unless}
 use Rattle.tree.proofs.StatementTwins.{case_is}
 use Rattle.names.specs.Bodies.{head_of}
@@ -26,7 +25,7 @@ returns c = λ p f all scope heads.
     let twice = c.is_twice-twice.ensures all h own (c.awaiting_at.ensures ∙ ap (λ k. awaiting_of (head_of k)) (case_is c.args.case.now)) ∙ ap (λ t. awaits_too t h earlier) scope.text_is in
     let lacking = c.is_lacking-lacking.ensures all h own refl in
     let said = told_unless (names_endpoint tokens h.endpoint earlier || awaits_closed tokens h.endpoint all) (LacksClosed h.endpoint ∷ []) in
-    on_adds result old mid new (endpoint_head_mistakes s earlier (ty.Endpoint c.args.end.side c.args.end.item) c.args.end.side h) (lack_mistakes s all earlier h)
+    on_adds result old mid new (awaited_mistakes s earlier c.args.end.side c.args.end.item h h.awaited) (lack_mistakes s all earlier h)
     (c.in_ok-judge_awaited.ensures p f earlier scope twice)
     (subst (λ t. OnOk result (Adds mid new (if names_endpoint t h.endpoint earlier || awaits_closed t h.endpoint all then [] else LacksClosed h.endpoint ∷ []))) scope.text_is
     (subst (λ l. OnOk result (Adds mid new l)) (ap (λ b. if b then LacksClosed h.endpoint ∷ [] else []) lacking ∙ said) c.judge_lacking.ensures))

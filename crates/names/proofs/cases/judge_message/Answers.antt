@@ -19,12 +19,13 @@ returns-in_ok-judge_message_case-in-Some c = λ awaits p f earlier scope twice.
     let mid = c.judge_message_case.new.found.items in
     let new = c.judge_case_twice.new.found.items in
     let word = c.args.word in
-    let k = ty.Endpoint c.args.end.side c.args.end.item in
+    let n = c.args.end.item in
+    let k = ty.Endpoint c.args.end.side n in
     let message = message_tree c.in-Some.message.now in
     let named : awaited_message s k h.awaited ≡ Some message = ap (awaited_message s k) awaits ∙ sym (c.message.ensures p scope) ∙ ap (option_map (λ m. message_tree m.now)) c.in-Some.is in
-    subst (λ o. OnOk result (Adds old new (message_case_mistakes s k o c.args.end.side word h.binds ++ (if is_some o then twice_mistakes s earlier h else [])))) (sym named)
-    (on_adds result old mid new (message_case_mistakes s k (Some message) c.args.end.side word h.binds) (twice_mistakes s earlier h)
-    (subst (λ b. Adds old mid (message_case_mistakes s k (Some message) c.args.end.side word b)) c.deref.ensures.value (c.in_ok-judge_message_case-in-Some.ensures p f.variables k))
+    subst (λ o. OnOk result (Adds old new (message_case_mistakes n o c.args.end.side word h.binds ++ (if is_some o then twice_mistakes s earlier h else [])))) (sym named)
+    (on_adds result old mid new (message_case_mistakes n (Some message) c.args.end.side word h.binds) (twice_mistakes s earlier h)
+    (subst (λ b. Adds old mid (message_case_mistakes n (Some message) c.args.end.side word b)) c.deref.ensures.value (c.in_ok-judge_message_case-in-Some.ensures n))
     (told_twice result mid new s earlier h c.args.twice twice c.judge_case_twice.ensures))
 
 pub returns-in-None : goal.returns-in-None
@@ -35,7 +36,8 @@ returns-in-None c = λ awaits p f earlier scope twice.
     let old = c.args.found.now.items in
     let new = c.add_unknown.new.found.items in
     let word = c.args.word in
-    let k = ty.Endpoint c.args.end.side c.args.end.item in
+    let n = c.args.end.item in
+    let k = ty.Endpoint c.args.end.side n in
     let named : awaited_message s k h.awaited ≡ None = ap (awaited_message s k) awaits ∙ sym (c.message.ensures p scope) ∙ ap (option_map (λ m. message_tree m.now)) c.in-None.is in
-    subst (λ o. OnOk result (Adds old new (message_case_mistakes s k o c.args.end.side word h.binds ++ (if is_some o then twice_mistakes s earlier h else [])))) (sym named)
+    subst (λ o. OnOk result (Adds old new (message_case_mistakes n o c.args.end.side word h.binds ++ (if is_some o then twice_mistakes s earlier h else [])))) (sym named)
     c.add_unknown.ensures

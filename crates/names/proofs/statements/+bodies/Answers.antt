@@ -8,7 +8,7 @@ use Rattle.tree.specs.declared.statement as made
 use Rattle.names.specs.Bodies.{scope_in, statement_turn, statements_turn, block_turn, test_turn, others_turn, case_turn, cases_turn, head_of}
 use Rattle.names.specs.Cases.{binds_turn, awaited_message}
 use Rattle.declarations.specs.Declarations.{bound_params}
-use Rattle.names.specs.Expressions.{variable_of, variable_type, truth_mistakes}
+use Rattle.names.specs.Expressions.{type_named, truth_mistakes}
 use Rattle.names.specs.Frames.{Turned}
 use Rattle.names.specs.Heads.{IsHeads, switch_heads}
 use Rattle.names.specs.Shapes.{shape}
@@ -58,7 +58,7 @@ judge_case-returns t c = λ m f all around frame heads at.
     let new = c.judge_statements.new.found.items in
     let v = c.judge_binds.new.variables in
     let w = c.judge_statements.new.variables in
-    let params = bound_params (awaited_message s (variable_type (variable_of s case.endpoint)) case.message) in
+    let params = bound_params (awaited_message s (type_named s case.endpoint) case.message) in
     let binding = binds_turn m.program params case.binds.items f in
     let sequence = statement_sequence (map statement_tree case.statements.items) in
     let first = c.in_ok-judge_binds.ensures m.program f around.scope frame in

@@ -1,12 +1,12 @@
-use Rattle.std.proofs.Common.{◌++◌, sym, ap, subst}
-use Rattle.std.specs.Prelude.{OnOk}
+use Rattle.std.proofs.Common.{[], ◌∷◌, ◌++◌, sym, ap, subst}
+use Rattle.std.specs.Prelude.{OnOk, if◌then◌else◌}
 use Rattle.std.specs.Option.{option_map}
 use Rattle.tree.specs.ExpressionTrees.{expression_tree}
 use Rattle.tree.specs.StatementTrees.{plain_tree, declare_tree, assign_tree}
 use Rattle.tree.specs.Values.{call_tree}
 use Rattle.tree.specs.declared.statement as made
 use Rattle.declarations.specs.declared.mistake.Mistake.TheVariants.{BreakOutside, ContinueOutside}
-use Rattle.names.specs.Bodies.{inside_of, scope_in, declaration_turn, plain_turn, outside, delete_mistakes, exchange_mistakes, channel_mistakes, return_mistakes}
+use Rattle.names.specs.Bodies.{inside_of, scope_in, declaration_turn, plain_turn, delete_mistakes, exchange_mistakes, channel_mistakes, return_mistakes}
 use Rattle.declarations.specs.Mistakes.{Adds}
 use Rattle.names.specs.Frames.{Turned}
 use Rattle.names.specs.Values.{Alone, Started, call_mistakes, target_mistakes, target_type, value_mistakes}
@@ -90,7 +90,7 @@ returns-in-Break c = λ m f around frame.
     let new = c.judge_break.new.found.items in
     let v = c.args.variables.now in
     subst (λ x. OnOk result (Turned text old new v (plain_turn m x f))) (sym (ap plain_tree c.in-Break.is))
-    (on_stays result text old new v (outside m.breaks (BreakOutside c.in-Break.word.place)) f frame (subst (λ b. OnOk result (Adds old new (outside b (BreakOutside c.in-Break.word.place)))) around.breaks c.judge_break.ensures))
+    (on_stays result text old new v (if m.breaks then [] else BreakOutside c.in-Break.word.place ∷ []) f frame (subst (λ b. OnOk result (Adds old new (if b then [] else BreakOutside c.in-Break.word.place ∷ []))) around.breaks c.judge_break.ensures))
 
 pub returns-in-Continue : goal.returns-in-Continue
 returns-in-Continue c = λ m f around frame.
@@ -100,7 +100,7 @@ returns-in-Continue c = λ m f around frame.
     let new = c.judge_continue.new.found.items in
     let v = c.args.variables.now in
     subst (λ x. OnOk result (Turned text old new v (plain_turn m x f))) (sym (ap plain_tree c.in-Continue.is))
-    (on_stays result text old new v (outside m.continues (ContinueOutside c.in-Continue.word.place)) f frame (subst (λ b. OnOk result (Adds old new (outside b (ContinueOutside c.in-Continue.word.place)))) around.continues c.judge_continue.ensures))
+    (on_stays result text old new v (if m.continues then [] else ContinueOutside c.in-Continue.word.place ∷ []) f frame (subst (λ b. OnOk result (Adds old new (if b then [] else ContinueOutside c.in-Continue.word.place ∷ []))) around.continues c.judge_continue.ensures))
 
 pub returns-in-Return : goal.returns-in-Return
 returns-in-Return c = λ m f around frame.

@@ -8,7 +8,7 @@ use Rattle.declarations.specs.Owning.{owning_fields}
 use Rattle.declarations.specs.Program.{struct_named}
 use Rattle.names.specs.Operands.{in_frame}
 use Rattle.names.specs.Shapes.{shape}
-use Rattle.names.specs.Values.{argument_mistakes, fields_asked, struct_made_mistakes}
+use Rattle.names.specs.Values.{argument_mistakes, struct_made_mistakes}
 use Rattle.declarations.proofs.AddLemmas.{adds_then}
 use Rattle.names.proofs.PassLemmas.{structured}
 use Rattle.names.proofs.PendingLemmas.{numbered}
@@ -30,7 +30,7 @@ returns-in_ok-judge_typed_arguments-in-Some-clause-found c = λ p f here.
     let new = c.judge_typed_arguments.new.found.items in
     let owning = c.in-Some.owning.now in
     let looked = structured (struct_named p name) c.in-Some.index owning (c.in-Some.ensures p here.scope) in
-    let asked = fields_asked p looked.structure in
+    let asked = map (λ (x : made.Field.Field). type_meant p x.ty) (owning_fields looked.structure) in
     let many : length owning ≡ length asked = omega (arith, ap length looked.owning, length-map (owning_fields looked.structure) (λ (x : made.Field.Field). type_meant p x.ty)) in
     subst (λ o. Adds old new (struct_made_mistakes s o name es)) (sym looked.is)
     (adds_then (numbered expression_tree asked (length owning) args name.place many c.in_ok-judge_count-in-Some.ensures)

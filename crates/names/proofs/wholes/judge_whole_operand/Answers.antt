@@ -2,7 +2,7 @@ use Rattle.std.proofs.Common.{◌≡◌, List, refl, sym, subst, ◌∙◌}
 use Rattle.std.specs.Prelude.{None, Some}
 use Rattle.std.proofs.lemmas.Result.{IfOk-weaker}
 use Rattle.declarations.specs.declared.mistake.Mistake.{Mistake}
-use Rattle.names.specs.Expressions.{InScope, expression_mistakes, variable_type, variable_of, variable_mistakes, whole_mistakes}
+use Rattle.names.specs.Expressions.{InScope, expression_mistakes, type_named, variable_mistakes, whole_mistakes}
 use Rattle.names.specs.Mentions.{GivesOperand}
 use Rattle.declarations.specs.Mistakes.{Adds}
 use Rattle.names.specs.Operands.{Judges, JudgesWhole, in_frame}
@@ -41,7 +41,7 @@ judged_whole scope variables t old new o none judged = record {
 }
 
 judged_name : (scope : Scope) (variables : ScopeVariables) (t : ExpressionTree) (name : Span) (old new : List Mistake) (o : Operand)
-    → lone_name t ≡ Some name → o.place ≡ name.place → GivesOperand scope variables (λ s. variable_type (variable_of s name)) (λ s. variable_mistakes s name) old new o.ty
+    → lone_name t ≡ Some name → o.place ≡ name.place → GivesOperand scope variables (λ s. type_named s name) (λ s. variable_mistakes s name) old new o.ty
     → JudgesWhole scope variables (shape t) old new o
 judged_name scope variables t name old new o some at given =
     subst (λ e. JudgesWhole scope variables e old new o) (sym (lone_shape t name some)) (record {

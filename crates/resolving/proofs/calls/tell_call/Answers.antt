@@ -6,7 +6,7 @@ use Rattle.program.specs.Statements.{call_model}
 use Rattle.program.specs.declared.call.Call.{Call}
 use Rattle.program.specs.declared.statement.Effect.TheVariants.{Nothing}
 use Rattle.resolving.specs.Around.{program_in}
-use Rattle.resolving.specs.Plain.{simple_of, call_told}
+use Rattle.resolving.specs.Plain.{call_told}
 use Rattle.resolving.proofs.FormTwins.{called_is}
 use Rattle.resolving.proofs.PlainLemmas.{call_said}
 use Rattle.program.specs.declared.statement.Statement.TheVariants as made
@@ -17,7 +17,7 @@ returns-in_ok-new-in-Some c = λ items own around.
     let p = program_in c.args.text.now items in
     let call = call_tree c.args.call.now in
     call_said c.args.text.now c.args.locals.now seen.Call (λ f. call_told p own f call c.args.after.target c.args.after.behind.items) c.in_ok-call.field-0 (made.Call c.in_ok-new-in-Some.field-0)
-    (called_is c.in_ok-new-in-Some.field-0 ∙ ap (λ x. seen.Call (call_model x)) c.in_ok-new-in-Some.ensures.ok ∙ ap (λ (o : Option Call). option_map_or seen.Call (option_map call_model o) (simple_of [] Nothing)) (sym c.in-Some.is))
+    (called_is c.in_ok-new-in-Some.field-0 ∙ ap (λ x. seen.Call (call_model x)) c.in_ok-new-in-Some.ensures.ok ∙ ap (λ (o : Option Call). option_map_or seen.Call (option_map call_model o) (seen.Simple [] Nothing)) (sym c.in-Some.is))
     (c.in_ok-call.ensures items own around)
 
 pub returns-in-None : goal.returns-in-None
@@ -25,5 +25,5 @@ returns-in-None c = λ items own around.
     let p = program_in c.args.text.now items in
     let call = call_tree c.args.call.now in
     call_said c.args.text.now c.args.locals.now seen.Call (λ f. call_told p own f call c.args.after.target c.args.after.behind.items) c.in_ok-call.field-0 c.unread.result
-    (c.unread.ensures ∙ ap (λ (o : Option Call). option_map_or seen.Call (option_map call_model o) (simple_of [] Nothing)) (sym c.in-None.is))
+    (c.unread.ensures ∙ ap (λ (o : Option Call). option_map_or seen.Call (option_map call_model o) (seen.Simple [] Nothing)) (sym c.in-None.is))
     (c.in_ok-call.ensures items own around)

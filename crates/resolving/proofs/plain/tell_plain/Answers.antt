@@ -7,7 +7,8 @@ use Rattle.resolving.specs.Around.{program_in}
 use Rattle.resolving.specs.Frames.{staying_model}
 use Rattle.resolving.specs.Types.{type_held}
 use Rattle.resolving.specs.Locals.{next_number}
-use Rattle.resolving.specs.Plain.{effect_of, simple_of, stated_call, start_statement, first_value, write_statement, channel_found, exchange_found, return_statement, plain_told}
+use Rattle.program.specs.Statements as seen
+use Rattle.resolving.specs.Plain.{effect_of, stated_call, start_statement, first_value, write_statement, channel_found, exchange_found, return_statement, plain_told}
 use Rattle.resolving.proofs.PlainLemmas.{told_as}
 use Rattle.resolving.proofs.plain.tell_plain.Goals as goal
 
@@ -57,14 +58,14 @@ pub returns-in-Exchange : goal.returns-in-Exchange
 returns-in-Exchange c = λ items own around. record {
   all = λ f frame.
       let p = program_in c.args.text.now items in
-      c.statement_of.ensures ∙ ap (λ a. simple_of [] (effect_of a)) (c.exchange_of.ensures items own f around frame) ∙ ap (λ e. simple_of [] (effect_of (exchange_found p own f e))) c.deref-in-Exchange.ensures ∙ ap (plain_told p own f (staying_model c.args.stays)) (sym (ap plain_tree c.in-Exchange.is));
+      c.statement_of.ensures ∙ ap (λ a. seen.Simple [] (effect_of a)) (c.exchange_of.ensures items own f around frame) ∙ ap (λ e. seen.Simple [] (effect_of (exchange_found p own f e))) c.deref-in-Exchange.ensures ∙ ap (plain_told p own f (staying_model c.args.stays)) (sym (ap plain_tree c.in-Exchange.is));
 }
 
 pub returns-in-NewChannel : goal.returns-in-NewChannel
 returns-in-NewChannel c = λ items own around. record {
   all = λ f frame.
       let p = program_in c.args.text.now items in
-      c.statement_of-in-NewChannel.ensures ∙ ap (λ a. simple_of [] (effect_of a)) (c.channel_of.ensures items own f around frame) ∙ ap (λ n. simple_of [] (effect_of (channel_found p own f n))) c.deref-in-NewChannel.ensures ∙ ap (plain_told p own f (staying_model c.args.stays)) (sym (ap plain_tree c.in-NewChannel.is));
+      c.statement_of-in-NewChannel.ensures ∙ ap (λ a. seen.Simple [] (effect_of a)) (c.channel_of.ensures items own f around frame) ∙ ap (λ n. seen.Simple [] (effect_of (channel_found p own f n))) c.deref-in-NewChannel.ensures ∙ ap (plain_told p own f (staying_model c.args.stays)) (sym (ap plain_tree c.in-NewChannel.is));
 }
 
 pub returns-in-Return : goal.returns-in-Return

@@ -3,8 +3,9 @@ use Rattle.tree.specs.Values as values
 use Rattle.tree.specs.Values.{call_tree, value_tree, made_tree, new_tree}
 use Rattle.tree.specs.declared.value.Value.{Value}
 use Rattle.program.specs.Statements as seen
+use Rattle.program.specs.declared.statement.Action.TheVariants.{Move}
 use Rattle.resolving.specs.Around.{program_in}
-use Rattle.resolving.specs.Plain.{simple_of, call_statement, move_of, new_of, take_statement}
+use Rattle.resolving.specs.Plain.{call_statement, effect_on, new_of, take_statement}
 use Rattle.resolving.proofs.PlainLemmas.{told_as}
 use Rattle.resolving.proofs.values.tell_taken.Goals as goal
 
@@ -12,7 +13,7 @@ pub returns-in-Expression : goal.returns-in-Expression
 returns-in-Expression c = λ items own around. record {
   all = λ f frame.
       let p = program_in c.args.text.now items in
-      c.unread.ensures ∙ ap (simple_of []) (c.move_effect.ensures ∙ ap (move_of c.args.target) (c.alone-source.ensures items own f frame))
+      c.unread.ensures ∙ ap (seen.Simple []) (c.move_effect.ensures ∙ ap (effect_on (Move c.args.target)) (c.alone-source.ensures items own f frame))
       ∙ ap (λ (v : Value). take_statement p own f c.args.target (value_tree v)) (sym c.in-Expression.is);
 }
 
