@@ -25,7 +25,7 @@ const MIXED: &str =
 
 const NEVER: u64 = 0;
 
-/// What a run on this text answers, and what it writes.
+/// Returns the status of a run on this text, and what it writes.
 fn answer_to(alloc: Global, text: &str) -> Result<(Status, Vec<u8>), Fail> {
     let mut reader = Counted::new(text.as_bytes());
     let mut writer = Counted::new(Vec::new(alloc));
@@ -72,7 +72,7 @@ fn findings_as_worked_out(rt: HostRuntime) -> Result<(), Fail> {
     Ok(())
 }
 
-/// This is run with each growth of memory refused in turn: the writer takes none.
+/// Runs with each allocation refused in turn. The writer allocates nothing.
 #[test]
 fn answers_or_wants_memory(rt: HostRuntime) {
     let rows = [

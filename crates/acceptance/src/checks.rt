@@ -17,7 +17,7 @@ const FREED_TWICE_ANSWER: &str = "1:104 A01 p not owned\nfindings: 1\n";
 
 const HANDED_ON_ANSWER: &str = "ok: 0 contracts, 2 methods\n";
 
-/// What a check of this text answers, and what it writes.
+/// Returns the status of a check of this text, and what it writes.
 fn answer_to<R: Threads + Wait + AllocGlobal + Sync>(
     rt: &R,
     text: &str,
@@ -61,7 +61,7 @@ fn checks_as_worked_out(rt: HostRuntime) -> Result<(), Fail> {
     Ok(())
 }
 
-/// Whether the check of each of these texts has its status and writes its answer, whatever workers are asked for.
+/// Returns whether the check of each of these texts has its status and writes its answer, with any number of workers.
 fn all_answered<R: Threads + Wait + AllocGlobal + Sync>(
     rt: &R,
     rows: &[(&str, Status, &str)],
@@ -108,7 +108,7 @@ fn looks_at_the_heads_of_methods(rt: HostRuntime) -> Result<(), Fail> {
     Ok(())
 }
 
-/// This is run with each growth of memory refused in turn: the writer takes none.
+/// Runs with each allocation refused in turn. The writer allocates nothing.
 #[test]
 fn checks_or_wants_memory(rt: HostRuntime) {
     let rows = [

@@ -1,11 +1,11 @@
-//! Devices over memory that give and take a few bytes at a time, and of which one call fails.
+//! Devices over memory that give and take a few bytes at a time, and one call to which fails.
 
 ghost use Rattle.std.specs.Prelude.{◌≤◌, length, None};
 
 use singcheck::{Failed, Sink, Source};
 use std::alloc::{AllocError, Global};
 
-/// A text that gives at most so many bytes a call. The call of that number fails, counted from 1.
+/// A text that gives at most `most` bytes a call. The call with the number `failing` fails, counted from 1.
 #[derive(Drop)]
 pub struct Text {
     bytes: Vec<u8>,
@@ -17,7 +17,7 @@ pub struct Text {
 }
 
 impl Text {
-    /// A text with these bytes, of which nothing is read yet. `AllocError` if a growth was refused.
+    /// Returns a text with these bytes, none of them read yet. `AllocError` if an allocation fails.
     pub fn new(alloc: Global, text: &str, most: usize, failing: u64) -> Result<Text, AllocError> {
         Ok(Text {
             bytes: Vec::from_slice(alloc, text.as_bytes())?,
@@ -65,7 +65,7 @@ impl Source for Text {
     }
 }
 
-/// What was taken, at most so many bytes a call. The call of that number fails, counted from 1.
+/// The bytes taken so far, at most `most` a call. The call with the number `failing` fails, counted from 1.
 #[derive(Drop)]
 pub struct Page {
     pub bytes: Vec<u8>,
@@ -76,7 +76,7 @@ pub struct Page {
 }
 
 impl Page {
-    /// A page with nothing on it.
+    /// Returns an empty page.
     pub fn new(alloc: Global, most: usize, failing: u64) -> Page {
         Page {
             bytes: Vec::new(alloc),
@@ -108,7 +108,7 @@ impl Sink for Page {
     }
 }
 
-/// What was taken, at most 512 bytes in all. It takes no memory.
+/// The bytes taken so far, at most 512 in all. It allocates nothing.
 #[derive(Drop)]
 pub struct Card {
     bytes: [u8; 512],
@@ -118,7 +118,7 @@ pub struct Card {
 }
 
 impl Card {
-    /// A card with nothing on it.
+    /// Returns an empty card.
     pub fn new() -> Card {
         Card {
             bytes: [0; 512],
@@ -127,7 +127,7 @@ impl Card {
         }
     }
 
-    /// What was written to it.
+    /// Returns what was written to it.
     pub fn bytes(&self) -> &[u8] {
         &self.bytes[..self.len]
     }

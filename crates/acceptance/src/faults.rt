@@ -1,4 +1,4 @@
-//! The texts of the faults of checks and runs, and of what they share tasks out and read schedules with.
+//! The texts of the faults of checks and runs, and of the pool and the schedules that they use.
 
 use pool::PoolFault;
 use replays::ScheduleFault;

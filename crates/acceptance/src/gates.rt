@@ -1,4 +1,4 @@
-//! Which methods enter a gate, in which order, and what is seen from there while others work.
+//! Which methods enter a gate, in which order, and what a gate sees while others work.
 
 use crate::texts::{ASKED, FOUR};
 use shelf::Shelf;
@@ -12,7 +12,7 @@ const ASKED_ANSWER: &str = "ok: 1 contracts, 2 methods\n";
 const FOUR_ANSWER: &str =
     "3:59 A01 p not owned\n4:59 A01 p not owned\n5:59 A01 p not owned\n6:59 A01 p not owned\nfindings: 4\n";
 
-/// How often a gate looks whether it may let a method through before it gives up: some seconds.
+/// How often a gate checks whether it may let a method pass before it gives up: some seconds.
 const TURNS: u64 = 50_000_000;
 
 /// Counts how often each method enters, and how often method 1 enters after method 0.
@@ -25,7 +25,7 @@ struct Entries {
 }
 
 impl Entries {
-    /// A gate that nothing has entered yet.
+    /// Returns a gate that nothing has entered yet.
     fn new() -> Entries {
         Entries {
             first: AtomicU64::new(0),
@@ -35,7 +35,7 @@ impl Entries {
         }
     }
 
-    /// Whether each of the two methods has entered once, and nothing else has.
+    /// Returns whether each of the two methods has entered once, and nothing else has.
     fn is_each_once(&self) -> bool {
         self.first.load(Ordering::SeqCst) == 1
             && self.second.load(Ordering::SeqCst) == 1
@@ -57,7 +57,7 @@ impl Gate for Entries {
     }
 }
 
-/// How many verdicts of this method without a finding are on a shelf.
+/// Returns how many verdicts of this method on a shelf have no finding.
 fn clean_of(shelf: &Shelf, method: u32) -> u64 {
     let mut count = 0u64;
     for verdict in shelf.so_far() {
@@ -68,7 +68,7 @@ fn clean_of(shelf: &Shelf, method: u32) -> u64 {
     count
 }
 
-/// How many verdicts are on a shelf.
+/// Returns how many verdicts are on a shelf.
 fn all_on(shelf: &Shelf) -> u64 {
     let mut count = 0u64;
     for _ in shelf.so_far() {
@@ -107,7 +107,7 @@ struct SecondJudged<'a> {
 }
 
 impl SecondJudged<'_> {
-    /// Whether the verdict comes in time.
+    /// Returns whether the verdict comes in time.
     fn comes(&self) -> bool {
         for _ in 0..TURNS {
             if clean_of(self.shelf, 1) == 1 {
@@ -136,7 +136,7 @@ struct Holding<'a> {
 }
 
 impl Holding<'_> {
-    /// A gate that nothing has entered yet.
+    /// Returns a gate that nothing has entered yet.
     fn new<'a>(held: &'a [u32], awaited: u32) -> Holding<'a> {
         Holding {
             held,
@@ -146,7 +146,7 @@ impl Holding<'_> {
         }
     }
 
-    /// Whether the method that is awaited enters in time.
+    /// Returns whether the awaited method enters in time.
     fn enters(&self) -> bool {
         for _ in 0..TURNS {
             if self.entered.load(Ordering::SeqCst) == 1 {

@@ -1,4 +1,4 @@
-//! Tests of what no clause says, against the library that a user calls, and what threads share below it.
+//! Tests of what no clause states, against the library that a user calls, and what threads share below it.
 #![tactic(auto)]
 
 #[cfg(test)]

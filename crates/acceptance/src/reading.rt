@@ -1,4 +1,4 @@
-//! What is read from a device, and written to one, some bytes at a time.
+//! Reading from a device, and writing to one, some bytes at a time.
 
 use crate::failing_devices::{Page, Text};
 use devices::{Input, read_text, read_up_to, write_all};

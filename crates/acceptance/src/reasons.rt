@@ -39,7 +39,7 @@ const CUT_ELSEWHERE: &str = "1:10 S05 unexpected end\nfindings: 1\n";
 
 const NEVER: u64 = 0;
 
-/// This is run with each growth of memory refused in turn: the writer takes none.
+/// Runs with each allocation refused in turn. The writer allocates nothing.
 #[test]
 fn reasons_as_worked_out(rt: HostRuntime) {
     let there = Some(Place { line: 6, col: 1 });

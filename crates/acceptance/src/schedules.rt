@@ -21,7 +21,7 @@ block 0 D owner process 0\nblock 1 B owner process 0 holds [2]\nblock 2 D owner 
 
 const BACKWARDS: &str = "contract A { in message X(); state S: X! -> T; state T: ; }";
 
-/// What a replay of this schedule from `K.Main` answers, and what it writes.
+/// Returns the status of a replay of this schedule from `K.Main`, and what it writes.
 fn answer_to(alloc: Global, text: &str, schedule: &str) -> Result<(Status, Vec<u8>), Fail> {
     let mut reader = Counted::new(text.as_bytes());
     let mut events = Counted::new(schedule.as_bytes());
@@ -31,7 +31,7 @@ fn answer_to(alloc: Global, text: &str, schedule: &str) -> Result<(Status, Vec<u
     Ok((status, writer.device))
 }
 
-/// Why a replay of this schedule from this entry gives up, if it does so with memory left.
+/// Returns why a replay of this schedule from this entry gives up, if it does. It fails if it is out of memory.
 fn fault_of(alloc: Global, entry: &str, schedule: &str) -> Result<Option<RunFault>, Fail> {
     let mut reader = Counted::new(READS_WHAT_IT_SENT.as_bytes());
     let mut events = Counted::new(schedule.as_bytes());
@@ -73,7 +73,7 @@ fn entries_and_schedules_are_refused(rt: HostRuntime) -> Result<(), Fail> {
     Ok(())
 }
 
-/// This is run with each growth of memory refused in turn.
+/// Runs with each allocation refused in turn.
 #[test]
 fn replays_or_wants_memory(rt: HostRuntime) {
     let rows = [

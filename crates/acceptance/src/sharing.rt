@@ -19,13 +19,13 @@ const SEVEN: &str =
     "class K { static void A() { } static void B() { } static void C() { } static void D() { } \
 static void E() { } static void F() { } static void G() { } }";
 
-/// The number of none of their tasks.
+/// A number that none of their tasks has.
 const NONE: u32 = 7;
 
-/// How often a gate looks whether it may let a task through before it gives up: some seconds.
+/// How often a gate checks whether it may let a task pass before it gives up: some seconds.
 const TURNS: u64 = 5_000_000_000;
 
-/// The methods of that text.
+/// Returns the methods of that text.
 fn methods(alloc: Global) -> Result<Methods, Fail> {
     let tokens = lex(alloc, SEVEN.as_bytes())?;
     let tree = parse(alloc, &tokens)?;
@@ -36,7 +36,7 @@ fn methods(alloc: Global) -> Result<Methods, Fail> {
     Ok(well_formed_methods(alloc, &tree, SEVEN.as_bytes(), contracts)?)
 }
 
-/// Their tasks.
+/// Returns their tasks.
 fn seven(alloc: Global) -> Result<Vec<Task>, Fail> {
     let methods = methods(alloc)?;
     if !methods.contracts().contracts.is_empty() {
@@ -50,7 +50,7 @@ fn seven(alloc: Global) -> Result<Vec<Task>, Fail> {
     Ok(tasks(alloc, &program)?)
 }
 
-/// Answers the number of each task, but `Memory` for one. A seat counts the tasks that were run in it.
+/// Gives the number of each task, but `Memory` for one. A seat counts the tasks that were run in it.
 #[derive(Drop)]
 struct Numbers {
     refused: u32,
@@ -98,7 +98,7 @@ struct Third {
 }
 
 impl Third {
-    /// Whether task 3 enters in time.
+    /// Returns whether task 3 enters in time.
     fn enters(&self) -> bool {
         for _ in 0..TURNS {
             if self.entered.load(Ordering::SeqCst) == 1 {
@@ -123,7 +123,7 @@ impl Gate for Third {
     }
 }
 
-/// Whether each of the seven methods has one result, which is its number.
+/// Returns whether each of the seven methods has one result, which is its number.
 fn is_each_once(done: &[Done<u32>]) -> bool {
     let mut seen = [false; 7];
     for one in done {
@@ -136,7 +136,7 @@ fn is_each_once(done: &[Done<u32>]) -> bool {
     seen == [true; 7]
 }
 
-/// Seats that tell their indices: they count from a thousand times their index on.
+/// Returns seats that show their indices: each counts up from a thousand times its index.
 fn numbers_of_seats(alloc: Global, count: u64) -> Result<Vec<u64>, Fail> {
     let mut seats = Vec::new(alloc);
     for index in 0..count {
@@ -145,7 +145,7 @@ fn numbers_of_seats(alloc: Global, count: u64) -> Result<Vec<u64>, Fail> {
     Ok(seats)
 }
 
-/// How many tasks were run in such seats. There is no number if one of them is not at its index.
+/// Returns how many tasks were run in such seats; `None` if one of them is not at its index.
 fn run_in(seats: &[u64]) -> Option<u64> {
     let mut count = 0u64;
     for (index, seat) in seats.iter().enumerate() {

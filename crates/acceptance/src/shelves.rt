@@ -20,13 +20,13 @@ use std::thread;
 use syntax::parse;
 use wellformed::well_formed_methods;
 
-/// Three methods in which nothing is found.
+/// Three methods without findings.
 const THREE: &str = "class K { static void A() { } static void B() { } static void C() { } }";
 
 /// How often a thread looks at a shelf before it gives up.
 const TURNS: u64 = 10_000_000;
 
-/// The methods of that text.
+/// Returns the methods of that text.
 fn methods(alloc: Global) -> Result<Methods, Fail> {
     let tokens = lex(alloc, THREE.as_bytes())?;
     let tree = parse(alloc, &tokens)?;
@@ -37,7 +37,7 @@ fn methods(alloc: Global) -> Result<Methods, Fail> {
     Ok(well_formed_methods(alloc, &tree, THREE.as_bytes(), contracts)?)
 }
 
-/// The program of that text.
+/// Returns the program of that text.
 fn three(alloc: Global) -> Result<Program, Fail>
     ensures { IfOk result (λ p. length (model_of p).methods ≡ 3) }
 {
@@ -78,7 +78,7 @@ fn add(
     }
 }
 
-/// The verdicts of its methods, in order.
+/// Returns the verdicts of its methods, in order.
 fn verdicts_of(alloc: Global, program: &Program) -> Result<Vec<Verdict>, Fail>
     requires { length (model_of program.now).methods ≡ 3 }
 {
@@ -98,7 +98,7 @@ fn verdicts_of(alloc: Global, program: &Program) -> Result<Vec<Verdict>, Fail>
     Ok(verdicts)
 }
 
-/// Whether it is the verdict of this method, in which nothing is found.
+/// Returns whether it is the verdict of this method, without findings.
 fn is_clean(verdict: Option<&Verdict>, method: u32) -> bool {
     match verdict {
         Some(verdict) => verdict.method() == MethodId(method) && verdict.findings().is_empty(),
@@ -106,7 +106,7 @@ fn is_clean(verdict: Option<&Verdict>, method: u32) -> bool {
     }
 }
 
-/// How many verdicts are on the shelf so far. There is no number where one is of no method of the three, or where it has a finding.
+/// Returns how many verdicts are on the shelf so far; `None` if one is of no method of the three, or has a finding.
 fn clean_so_far(shelf: &Shelf) -> Option<u64> {
     let mut count = 0u64;
     for verdict in shelf.so_far() {
@@ -118,7 +118,7 @@ fn clean_so_far(shelf: &Shelf) -> Option<u64> {
     Some(count)
 }
 
-/// Puts them all, and says whether none came back.
+/// Puts all of them, and returns whether none came back.
 fn put_all<R: Wait>(rt: &R, shelf: &Shelf, verdicts: Vec<Verdict>) -> bool {
     let mut all = true;
     for verdict in verdicts {
@@ -127,7 +127,7 @@ fn put_all<R: Wait>(rt: &R, shelf: &Shelf, verdicts: Vec<Verdict>) -> bool {
     all
 }
 
-/// Looks at a shelf until so many verdicts are on it. It answers what it saw last.
+/// Looks at a shelf until `count` verdicts are on it. Returns what it saw last.
 fn watch(shelf: &Shelf, count: u64) -> Option<u64> {
     let mut seen = Some(0);
     for _ in 0..TURNS {

@@ -33,7 +33,7 @@ fn kinds_behind_a_front(rt: HostRuntime) -> Result<(), Fail> {
     Ok(())
 }
 
-/// A finding in its line, and under it the lines that show it.
+/// Returns a finding in its line, followed by the lines that show it.
 fn lines_of(alloc: Global, explained: &Explained) -> Result<String, Fail> {
     let Place { line, col } = explained.finding.place;
     let mut lines = format!(in alloc; "{line}:{col}\n")?;
@@ -45,7 +45,7 @@ fn lines_of(alloc: Global, explained: &Explained) -> Result<String, Fail> {
     Ok(lines)
 }
 
-/// What is shown of the findings of a text's contracts: a state with edges of both signs at this place.
+/// Returns what is shown of a finding in each of a text's contracts: a state with edges of both signs at this place.
 fn lines_for(
     alloc: Global,
     text: &str,

@@ -9,21 +9,21 @@ pub(crate) const HANDED_ON: &str =
     "rep struct D { int n; } class K { static void F([Claims] D* in ExHeap p) { D* in ExHeap q = p; q.n = 1; delete q; } \
         static void G() { } }";
 
-/// A block is freed on one way of an `if`.
+/// A block is freed on one branch of an `if`.
 pub(crate) const FREED_ON_ONE_WAY: &str =
     "rep struct D { int n; }\nclass K {\nstatic void F(bool b) {\nD* in ExHeap p = new[ExHeap] D();\nif (b) { delete p; }\n}\n}";
 
-/// A block is freed on both.
+/// A block is freed on both branches.
 pub(crate) const FREED_ON_BOTH_WAYS: &str =
     "rep struct D { int n; }\nclass K {\nstatic void F(bool b) {\nD* in ExHeap p = new[ExHeap] D();\n\
         if (b) { delete p; } else { delete p; }\n}\n}";
 
-/// A block is kept where a loop is left.
+/// A block is kept when a loop is left.
 pub(crate) const KEPT_AT_A_BREAK: &str =
     "rep struct D { int n; }\nclass K {\nstatic void F(bool b) {\nwhile (b) {\nD* in ExHeap p = new[ExHeap] D();\nif (b) { break; }\n\
         delete p;\n}\n}\n}";
 
-/// A block is freed each time a loop turns.
+/// A block is freed in each turn of a loop.
 pub(crate) const FREED_IN_A_LOOP: &str =
     "rep struct D { int n; }\nclass K {\nstatic void F(bool b) {\nD* in ExHeap p = new[ExHeap] D();\nwhile (b) { delete p; }\n}\n}";
 
@@ -32,11 +32,11 @@ pub(crate) const CLAIMED_TWICE: &str =
     "rep struct D { int n; }\nclass K {\nstatic void F([Claims] D* in ExHeap a, [Claims] D* in ExHeap b) { delete a; delete b; }\n\
         static void G([Claims] D* in ExHeap x) {\nF(x, x);\n}\n}";
 
-/// A method ends without giving what it owes, and its caller frees what it got.
+/// A method ends without giving what it owes, and its caller frees the result.
 pub(crate) const NOTHING_GIVEN: &str =
     "rep struct D { int n; }\nclass K {\nstatic D* in ExHeap H() { }\nstatic void F() {\nD* in ExHeap p = H();\ndelete p;\n}\n}";
 
-/// Two processes: one asks over a channel, and the other answers until the channel is closed.
+/// Two processes: one asks over a channel, and the other replies until the channel is closed.
 pub(crate) const ASKED: &str =
     "contract Ping { in message Req(); out message Rep(); state Start: Req? -> Pend; state Pend: Rep! -> Start; }
 class K {
@@ -82,7 +82,7 @@ delete e;
 }
 }";
 
-/// What is sent is read after the send.
+/// A block is read after it was sent.
 pub(crate) const READS_WHAT_IT_SENT: &str = "rep struct D { int n; }
 contract Put { out message X(D* in ExHeap d); state S: X! -> E; state E: ; }
 class K {
@@ -96,7 +96,7 @@ delete i; delete e;
 }
 }";
 
-/// What a field holds changes places with another block, which goes with the block of the field.
+/// The block in a field is exchanged with another one, which is then freed with the block around the field.
 pub(crate) const EXCHANGES: &str = "rep struct D { int n; }
 rep struct B { int n; D* in ExHeap d; }
 class K {

@@ -1,4 +1,4 @@
--- That program is well formed.
+-- The program of `Exchanges` is well formed.
 use Rattle.std.proofs.Common.{◌≡◌, ◌<◌, ◌∙◌, ℕ, zero, suc, false, true≢false, List, [], ◌∷◌, ◌++◌, Some, None, map, slice_get, refl, sym, ap, subst, arith}
 use Rattle.std.specs.Prelude.{IfSome}
 use Rattle.std.specs.Global.{Vec}
@@ -30,7 +30,7 @@ stays = record { count = 0; by = refl }
 abbrev program : ProgramModel
 program = record { contracts = []; messages = []; structs = structs; methods = method ∷ [] }
 
--- where the statements of the loop stand
+-- the setting of the statements in the loop
 abbrev inside : Setting
 inside = in_loop (with_last (setting program method None) (Some record { 0 = 1 }))
 
@@ -102,7 +102,7 @@ is_well_formed = record {
   );
 }
 
--- the same of what lies in memory
+-- the same for the program in memory
 pub made_well_formed : (contracts : List Contract) (messages fields : List (Vec HeapType)) (methods : List Method) → contracts ≡ [] → messages ≡ [] → type_lists fields ≡ structs
     → map method_model methods ≡ method ∷ [] → AreWellFormed (program_model (contracts, type_lists messages, type_lists fields, methods))
 made_well_formed contracts messages fields methods no_contract no_message told is =
@@ -111,6 +111,6 @@ made_well_formed contracts messages fields methods no_contract no_message told i
     (subst (λ (ks : List (List HeapType)). AreWellFormed (program_model ([], [], ks, methods))) (sym told)
     (subst (λ (ms : List MethodModel). AreWellFormed (record { contracts = []; messages = []; structs = structs; methods = ms })) (sym is) is_well_formed)))
 
--- it is the one method
+-- the list has the one method
 pub one_method : (old all : List Method) (m : Method) → old ≡ [] → all ≡ old ++ m ∷ [] → method_model m ≡ method → map method_model all ≡ method ∷ []
 one_method old all m none is seen = ap (map method_model) (is ∙ ap (λ l. l ++ m ∷ []) none) ∙ ap (λ s. s ∷ []) seen

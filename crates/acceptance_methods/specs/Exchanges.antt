@@ -13,14 +13,14 @@ use Rattle.program.specs.declared.statement.Effect.TheVariants as effects
 use Rattle.program.specs.declared.statement.Mention.{Mention}
 use Rattle.program.specs.declared.statement.Ways.TheVariants.{Either}
 
--- one place serves for all
+-- one place for everything
 abbrev pub at : Place
 at = record { line = 1; col = 1 }
 
 abbrev pub mention : ℕ → Mention
 mention v = record { variable = record { 0 = v }; place = at }
 
--- struct 0 has no fields that own, struct 1 one that holds a struct 0
+-- struct 0 has no owning fields, struct 1 has one that holds a struct 0
 abbrev pub structs : List (List HeapType)
 structs = [] ∷ (Struct record { 0 = 0 } ∷ []) ∷ []
 

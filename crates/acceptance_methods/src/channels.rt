@@ -29,7 +29,7 @@ fn sends_by_the_contract(rt: HostRuntime) -> Result<(), Fail> {
     Ok(())
 }
 
-/// Whether these are a way with the answer, behind which the end is in its first state, and one with the close of the end.
+/// Returns whether these are two ways: one with the reply, after which the end is in its first state, and one with its close.
 fn are_ways(ways: &[(usize, Row)]) -> bool {
     match (ways.get(0), ways.get(1)) {
         (Some((_, answered)), Some((_, closed))) => {

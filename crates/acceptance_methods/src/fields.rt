@@ -1,5 +1,5 @@
-//! A program in numbers whose struct has a field that owns, made by hand and proved to be well formed: in a loop a new block goes into the
-//! field, and the one that comes out of it is deleted.
+//! A program in numbers whose struct has an owning field, made by hand and proved to be well formed. In a loop a new
+//! block goes into the field, and the one that comes out of it is deleted.
 
 ghost use Rattle.std.specs.Prelude.{◌≡◌, [], ◌∷◌, IfOk, length, map};
 ghost use Rattle.program.specs.Methods.{method_model, variable_model};
@@ -22,10 +22,10 @@ use source::{Code, Memory, Place};
 use std::alloc::Global;
 use std::test::Fail;
 
-/// One place serves for all.
+/// One place for everything.
 const AT: Place = Place { line: 1, col: 1 };
 
-/// A variable where it is named.
+/// Returns a mention of a variable.
 fn mention(variable: usize) -> Mention
     ensures { result ≡ told.mention variable }
 {
@@ -35,7 +35,7 @@ fn mention(variable: usize) -> Mention
     }
 }
 
-/// What each struct has in its fields that own.
+/// Returns what each struct holds in its owning fields.
 fn structs(alloc: Global) -> Result<Vec<Vec<HeapType>>, Memory>
     ensures { IfOk result (λ structs. type_lists structs.items ≡ told.structs) }
 {
@@ -47,7 +47,7 @@ fn structs(alloc: Global) -> Result<Vec<Vec<HeapType>>, Memory>
     Ok(structs)
 }
 
-/// The two variables.
+/// Returns the two variables.
 fn variables(alloc: Global) -> Result<Vec<Variable>, Memory>
     ensures { IfOk result (λ variables. map variable_model variables.items ≡ told.method.variables) }
 {
@@ -57,7 +57,7 @@ fn variables(alloc: Global) -> Result<Vec<Variable>, Memory>
     Ok(variables)
 }
 
-/// A variable for a struct.
+/// Returns a variable for a struct.
 fn variable(alloc: Global, number: usize, outer: Option<VarId>) -> Variable
     ensures { variable_model result ≡ told.variable number outer }
 {
@@ -69,7 +69,7 @@ fn variable(alloc: Global, number: usize, outer: Option<VarId>) -> Variable
     }
 }
 
-/// A new block, without arguments.
+/// Returns a statement that makes a new block, without arguments.
 fn new(alloc: Global, target: usize) -> Statement
     ensures { statement_model result ≡ told.new target [] }
 {
@@ -80,7 +80,7 @@ fn new(alloc: Global, target: usize) -> Statement
     })
 }
 
-/// A new block that holds what the first variable has.
+/// Returns a statement that makes a new block, which holds what the first variable has.
 fn new_with_first(alloc: Global, target: usize) -> Result<Statement, Memory>
     ensures { IfOk result (λ made. statement_model made ≡ told.new target (told.mention 0 ∷ [])) }
 {
@@ -93,7 +93,7 @@ fn new_with_first(alloc: Global, target: usize) -> Result<Statement, Memory>
     }))
 }
 
-/// The loop.
+/// Returns the loop.
 fn turns(alloc: Global) -> Result<Statement, Memory>
     ensures { IfOk result (λ made. statement_model made ≡ told.turns) }
 {
@@ -120,7 +120,7 @@ fn turns(alloc: Global) -> Result<Statement, Memory>
     Ok(Statement::While(Box::new(alloc, test)?))
 }
 
-/// The method.
+/// Returns the method.
 fn method(alloc: Global) -> Result<Method, Memory>
     ensures { IfOk result (λ made. method_model made ≡ told.method) }
 {
@@ -141,7 +141,7 @@ fn method(alloc: Global) -> Result<Method, Memory>
     })
 }
 
-/// The methods of the program.
+/// Returns the methods of the program.
 fn methods_of_exchange(alloc: Global) -> Result<Methods, Memory>
     ensures contracts { IfOk result (λ made. contracts_model made ≡ []) }
     ensures structs { IfOk result (λ made. structs_model made ≡ told.structs) }
@@ -155,7 +155,7 @@ fn methods_of_exchange(alloc: Global) -> Result<Methods, Memory>
     Ok(Methods::new(contracts, Vec::new(alloc), structs(alloc)?, methods))
 }
 
-/// The program of these methods.
+/// Returns the program of these methods.
 fn program(alloc: Global) -> Result<Program, Fail>
     ensures { IfOk result (λ p. length (model_of p).methods ≡ 1) }
 {
@@ -175,7 +175,7 @@ fn add(events: &mut Vec<Event>, choices: &[u64]) -> Result<(), Memory> {
     Ok(())
 }
 
-/// What so many turns of the loop come to, behind the two blocks that are made first, and these events behind them.
+/// Replays `turns` turns of the loop, after the two blocks that are made first, and then events with these choices.
 fn after(alloc: Global, program: &Program, turns: usize, choices: &[u64]) -> Result<Replayed, Fail>
     requires { length (model_of program.now).methods ≡ 1 }
 {
@@ -202,7 +202,7 @@ fn nothing_is_found(rt: HostRuntime) -> Result<(), Fail> {
     Ok(())
 }
 
-/// No text puts an endpoint into a field, so the finding is made of its numbers.
+/// No text puts an endpoint into a field, so the finding is made from its numbers.
 #[test]
 fn a_wrong_state_for_a_field_is_told(rt: HostRuntime) -> Result<(), Fail> {
     let alloc = rt.alloc();

@@ -11,7 +11,7 @@ use std::test::Fail;
 use std::thread;
 use std::thread::Threads;
 
-/// One of three leaves.
+/// Returns one of three leaves.
 fn leaf(number: usize) -> Leaf {
     match number {
         0 => Leaf::Nothing,
@@ -20,7 +20,7 @@ fn leaf(number: usize) -> Leaf {
     }
 }
 
-/// One of the 81 rows of four such leaves.
+/// Returns one of the 81 rows of four such leaves.
 fn row_of_four(alloc: Global, number: usize) -> Option<Row> {
     let leaves = vec![in alloc;
         leaf(number % 3),
@@ -32,7 +32,7 @@ fn row_of_four(alloc: Global, number: usize) -> Option<Row> {
     Row::of(leaves)
 }
 
-/// A row of two leaves.
+/// Returns a row of two leaves.
 fn row_of_two(alloc: Global, first: Leaf, second: Leaf) -> Result<Row, Fail> {
     match Row::of(vec![in alloc; first, second]?) {
         Some(row) => Ok(row),
@@ -40,7 +40,7 @@ fn row_of_two(alloc: Global, first: Leaf, second: Leaf) -> Result<Row, Fail> {
     }
 }
 
-/// Interns all 81 rows, in an order of its own: first the row 0, then each row that is `by` further, in a ring.
+/// Interns all 81 rows, in an order of its own: first row 0, then each row that is `by` further, in a ring.
 fn intern_all(alloc: Global, rows: &Rows, mut seat: Seat, by: usize) -> Option<(Seat, Vec<RowId>)>
     requires { IsSeatOf rows.now seat }
     ensures { IfSome result (λ r. IsSeatOf rows.now r.0) }
@@ -65,7 +65,7 @@ fn intern_all(alloc: Global, rows: &Rows, mut seat: Seat, by: usize) -> Option<(
 /// A seat that knows what two threads know, and the ids that each gave.
 type OfTwo = (Seat, Vec<RowId>, Vec<RowId>);
 
-/// Two threads intern all rows, each in an order of its own.
+/// Interns all rows in two threads, each in an order of its own.
 fn in_two<R: Threads>(
     rt: &R,
     alloc: Global,
@@ -93,7 +93,7 @@ fn in_two<R: Threads>(
     Some((whole, first, second))
 }
 
-/// The ids that four threads give.
+/// Returns the ids that four threads give.
 fn in_four<R: Threads + Sync>(
     rt: &R,
     alloc: Global,
@@ -164,7 +164,7 @@ fn seats_that_are_joined_agree(rt: HostRuntime) -> Result<(), Fail> {
     Ok(())
 }
 
-/// A table of so many slots. Where a growth is refused, it is asked for once more.
+/// Returns a table of `slots` slots. If an allocation fails, it is asked for once more.
 fn table(alloc: Global, slots: usize) -> Result<(Rows, Seat), InternNew>
     ensures { IfOk result (λ made. IsSeatOf made.0 made.1) }
 {
@@ -183,7 +183,7 @@ fn a_table_has_its_limits(rt: HostRuntime) {
     assert!(rt; table(alloc, 1).is_ok());
 }
 
-/// This is run with each growth of memory refused in turn: an id stands as before, and its row is read once more.
+/// Runs with each allocation refused in turn: an id remains the same, and its row is read once more.
 #[test]
 fn a_row_is_read_again_where_memory_was_refused(rt: HostRuntime) -> Result<(), Fail> {
     let alloc = rt.alloc();

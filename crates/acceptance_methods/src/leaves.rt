@@ -1,4 +1,4 @@
-//! Rows, and what is kept to make more of them.
+//! Rows, and spares kept to make more of them.
 
 use program::VarId;
 use rows::{Leaf, Row, Spare};
@@ -9,7 +9,7 @@ const P: VarId = VarId(0);
 
 const Q: VarId = VarId(1);
 
-/// A row of two variables, of which the second has a block.
+/// Returns a row of two variables. The second one has a block.
 fn of_two(alloc: Global) -> Result<Row, Fail> {
     Ok(Row::from_leaves(vec![in alloc; Leaf::Nothing, Leaf::Block]?))
 }

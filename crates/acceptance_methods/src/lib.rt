@@ -1,4 +1,4 @@
-//! Tests of what no clause says, against the crates of steps, rows and runs.
+//! Tests of what no clause states, against the crates of steps, rows and runs.
 #![tactic(auto)]
 
 #[cfg(test)]

@@ -38,7 +38,7 @@ fn variable(
     })
 }
 
-/// The method of `FREED_AND_READ`, put together by hand.
+/// Returns the method of `FREED_AND_READ`, made by hand.
 fn freed_and_read(alloc: Global) -> Result<Method, Memory> {
     let mut variables = Vec::new(alloc);
     variables.push(variable(alloc, "p", Role::Claimed, None)?)?;
@@ -66,7 +66,7 @@ fn freed_and_read(alloc: Global) -> Result<Method, Memory> {
     })
 }
 
-/// An action without reads.
+/// Returns an action without reads.
 pub(crate) fn acts(alloc: Global, action: Action) -> Statement
     ensures { statement_model result ≡ told.acts action }
 {
@@ -76,14 +76,14 @@ pub(crate) fn acts(alloc: Global, action: Action) -> Statement
     })
 }
 
-/// What a variable has is freed.
+/// Returns a statement that frees what a variable has.
 pub(crate) fn frees(alloc: Global, at: Mention) -> Statement
     ensures { statement_model result ≡ told.acts (does.Delete at) }
 {
     acts(alloc, Action::Delete(at))
 }
 
-/// What it does with variables, and where it goes on behind that, if it does something with them.
+/// Returns the action of an instruction and where the method goes on after it, if it is one.
 fn action_of(instruction: Option<&Instr>) -> Option<(Action, usize)> {
     match instruction {
         Some(Instr::Act { action, next }) => Some((*action, *next)),
@@ -91,7 +91,7 @@ fn action_of(instruction: Option<&Instr>) -> Option<(Action, usize)> {
     }
 }
 
-/// Whether it reads what this variable has, and goes on there.
+/// Returns whether it reads what this variable has, and goes on at this point.
 fn is_use(instruction: Option<&Instr>, variable: usize, point: usize) -> bool {
     match action_of(instruction) {
         Some((Action::Use(at), next)) => at.variable == VarId(variable) && next == point,
@@ -99,7 +99,7 @@ fn is_use(instruction: Option<&Instr>, variable: usize, point: usize) -> bool {
     }
 }
 
-/// Whether it frees what this variable has, and goes on there.
+/// Returns whether it frees what this variable has, and goes on at this point.
 fn is_delete(instruction: Option<&Instr>, variable: usize, point: usize) -> bool {
     match action_of(instruction) {
         Some((Action::Delete(at), next)) => at.variable == VarId(variable) && next == point,
@@ -107,7 +107,7 @@ fn is_delete(instruction: Option<&Instr>, variable: usize, point: usize) -> bool
     }
 }
 
-/// Whether it takes what this variable has, and goes on there.
+/// Returns whether it takes what this variable has, and goes on at this point.
 fn is_move(instruction: Option<&Instr>, variable: usize, point: usize) -> bool {
     match action_of(instruction) {
         Some((Action::Move { source, .. }, next)) => {
@@ -117,7 +117,7 @@ fn is_move(instruction: Option<&Instr>, variable: usize, point: usize) -> bool {
     }
 }
 
-/// Whether it ends the method there, with this variable the last in scope.
+/// Returns whether it ends the method at this column, with this variable the last in scope.
 fn is_return(instruction: Option<&Instr>, col: u32, last: usize) -> bool {
     match instruction {
         Some(Instr::Return(end)) => {

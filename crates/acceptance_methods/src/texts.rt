@@ -19,7 +19,8 @@ int[] in ExHeap q; int n;
 q = p; delete q; n = q[0];
 } }";
 
-/// Each block is freed on one way of an `if`. So eight rows come to the end, and each block may be the first that is left there.
+/// Each block is freed on one branch of an `if`. So eight rows reach the end, and each block may be the first that is
+/// left there.
 pub(crate) const FREED_ON_ONE_WAY: &str = "rep struct D { int n; }
 class K {
 static void F(bool b) {
@@ -34,7 +35,7 @@ pub(crate) const ASKS: &str =
     "contract Ping { in message Req(); out message Rep(); state Start: Req? -> Pend; state Pend: Rep! -> Start; }
 class K { static void F([Claims] Ping.Imp i) { i.SendReq(); delete i; } }";
 
-/// A method that waits for the answer, or for the close of its end, and frees its end.
+/// A method that waits for the reply, or for the close of its end, and frees its end.
 pub(crate) const WAITS: &str =
     "contract Ping { in message Req(); out message Rep(); state Start: Req? -> Pend; state Pend: Rep! -> Start; }
 class K { static void F([Claims] Ping.Imp:Pend i) {
@@ -65,7 +66,7 @@ case e.ChannelClosed(): delete e; return;
 }
 }";
 
-/// A message comes for which there is no case.
+/// A message arrives for which there is no case.
 pub(crate) const ANSWERS_AN_ERROR: &str =
     "contract Q { in message Req(); out message Reply(); out message Error(); state S: Req? -> P; \
         state P: one { Reply! -> S; Error! -> S; } }
@@ -80,7 +81,7 @@ delete i; delete e;
 }
 }";
 
-/// The program of a text without contracts that has one method.
+/// Returns the program of a text without contracts that has one method.
 pub(crate) fn only(alloc: Global, text: &str) -> Result<Program, Fail>
     ensures { IfOk result (λ p. length (model_of p).methods ≡ 1) }
 {
@@ -102,7 +103,7 @@ pub(crate) fn only(alloc: Global, text: &str) -> Result<Program, Fail>
     Ok(program)
 }
 
-/// The program of a text with one contract and at least one method.
+/// Returns the program of a text with one contract and at least one method.
 pub(crate) fn with_one_contract(alloc: Global, text: &str) -> Result<Program, Fail>
     ensures contracts { IfOk result (λ p. length (model_of p).contracts ≡ 1) }
     ensures methods { IfOk result (λ p. 0 < length (model_of p).methods) }

@@ -30,7 +30,7 @@ fn each_transfer_stands_at_its_point(rt: HostRuntime) -> Result<(), Fail> {
     Ok(())
 }
 
-/// Whether a row of two allows a transfer, and has these leaves behind it.
+/// Returns whether a row of two allows a transfer, and has these leaves after it.
 fn becomes(
     alloc: Global,
     first: [Leaf; 2],

@@ -1,4 +1,4 @@
-//! Tasks that come back where a growth was refused, and are analysed again.
+//! Tasks that come back if an allocation fails, and are analysed again.
 
 ghost use Rattle.std.specs.Prelude.{◌≡◌, length};
 ghost use Rattle.rules.specs.Programs.{model_of};
@@ -14,7 +14,7 @@ use source::{Code, Finding, Place};
 use std::alloc::Global;
 use std::test::Fail;
 
-/// The verdict of a task. Where a growth is refused, the task comes back, and the same worker analyses it once more.
+/// Returns the verdict of a task. If an allocation fails, the task comes back, and the same worker analyses it once more.
 fn verdict_of_task(
     alloc: Global,
     task: Task,
@@ -38,7 +38,7 @@ fn verdict_of_task(
     }
 }
 
-/// The verdict of a program's only method.
+/// Returns the verdict of a program's only method.
 pub(crate) fn verdict_of(
     alloc: Global,
     program: &Program,
@@ -66,7 +66,7 @@ pub(crate) fn verdict_of(
     }
 }
 
-/// Whether these texts are found, each once or more, with this code and at this place, and nothing else is.
+/// Returns whether these texts are found, each once or more, with this code and at this place, and nothing else is.
 fn are(findings: &[Finding], code: Code, place: Place, texts: &[&str]) -> bool {
     let all = findings.iter().all(|finding| {
         finding.code == code
@@ -80,7 +80,7 @@ fn are(findings: &[Finding], code: Code, place: Place, texts: &[&str]) -> bool {
     })
 }
 
-/// This is run with each growth of memory refused in turn. In a table of one slot the worker keeps the rows itself.
+/// Runs with each allocation refused in turn. With a table of one slot the worker keeps the rows itself.
 #[test]
 fn a_task_that_comes_back_is_analysed_again(rt: HostRuntime) -> Result<(), Fail> {
     let alloc = rt.alloc();

@@ -11,7 +11,7 @@ use source::Place;
 use std::alloc::Global;
 use std::test::Fail;
 
-/// What events of these processes come to, each with the choice 0, from the beginning of the first method.
+/// Replays events of these processes, each with the choice 0, from the beginning of the first method.
 fn run_of(alloc: Global, program: &Program, processes: &[u64]) -> Result<Replayed, Fail>
     requires { 0 < length (model_of program.now).methods }
 {
@@ -26,7 +26,7 @@ fn run_of(alloc: Global, program: &Program, processes: &[u64]) -> Result<Replaye
     Ok(run)
 }
 
-/// Who owns each block.
+/// Returns the owner of each block.
 fn owners(alloc: Global, world: &World) -> Result<Vec<Owner>, Fail> {
     let mut owners = Vec::new(alloc);
     for block in world.blocks() {
@@ -35,7 +35,7 @@ fn owners(alloc: Global, world: &World) -> Result<Vec<Owner>, Fail> {
     Ok(owners)
 }
 
-/// The number of the state of each block, and how many messages are in its queue.
+/// Returns the number of the state of each block, and of the messages in its queue.
 fn states(alloc: Global, world: &World) -> Result<Vec<(u32, usize)>, Fail> {
     let mut states = Vec::new(alloc);
     for block in world.blocks() {
@@ -44,7 +44,7 @@ fn states(alloc: Global, world: &World) -> Result<Vec<(u32, usize)>, Fail> {
     Ok(states)
 }
 
-/// Where each process stands.
+/// Returns the place of each process.
 fn places(alloc: Global, program: &Program, world: &World) -> Result<Vec<Option<Place>>, Fail> {
     let mut places = Vec::new(alloc);
     for process in world.processes() {

@@ -1,4 +1,4 @@
-//! The worked contracts, by hand, and larger ones.
+//! Worked contracts, made by hand, and larger ones.
 
 ghost use Rattle.std.specs.Prelude.{IfOk};
 ghost use Rattle.contracts.specs.Parts.{IsWhole, contract_parts};
@@ -75,7 +75,7 @@ fn add_edge(
     Ok(())
 }
 
-/// The contract, once it is seen to be whole.
+/// Returns the contract after asserting that it is whole.
 pub(crate) fn whole(rt: &impl Abort, alloc: Global, contract: Contract) -> Result<Contract, Memory>
     ensures { IfOk result (λ contract. IsWhole (contract_parts contract)) }
 {
@@ -96,7 +96,7 @@ pub(crate) fn ping(alloc: Global) -> Result<Contract, AllocError> {
     Ok(ping)
 }
 
-/// Whether the findings have exactly these codes, columns and texts, each once.
+/// Returns whether the findings have exactly these codes, columns and texts, each once.
 fn are(findings: &[Finding], wanted: &[(Code, u32, &str)]) -> bool {
     findings.len() == wanted.len()
         && wanted.iter().all(|want| {
@@ -254,7 +254,7 @@ fn signs_count_as_written(rt: HostRuntime) -> Result<(), Fail> {
     Ok(())
 }
 
-/// A contract with one message, and edges from each state to the next; the last edge comes first.
+/// Returns a contract with one message, and edges from each state to the next. The last edge comes first.
 fn contract_with_path(alloc: Global, count: u32) -> Result<Contract, AllocError> {
     let mut path = empty(alloc, 0);
     add_message(alloc, &mut path, 0, "M", Direction::Out)?;

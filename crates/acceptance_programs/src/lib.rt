@@ -1,4 +1,4 @@
-//! Tests of what no clause says, against the crates of names, of contracts, of methods in numbers and of their graphs.
+//! Tests of what no clause states, against the crates of names, of contracts, of methods in numbers and of their graphs.
 #![tactic(auto)]
 
 #[cfg(test)]

@@ -4,7 +4,7 @@ use source::{Place, Span};
 use std::test::Fail;
 use tables::Table;
 
-/// The bytes of a text from one to another.
+/// Returns the bytes of a text from `start` to `end`.
 fn span(start: u32, end: u32) -> Span {
     let place = Place { line: 1, col: 1 };
     Span { start, end, place }

@@ -1,4 +1,4 @@
-//! What more is said of mistakes in names, and of faults of a text.
+//! Remarks on mistakes in names, and on faults of a text.
 
 use declarations::{Limit, Mistake, NameSort, add_twice, add_unknown, findings_of};
 use names::mistakes_of;
@@ -8,7 +8,7 @@ use std::alloc::Global;
 use std::test::Fail;
 use syntax::parse;
 
-/// The line of a remark; a dash where there is none.
+/// Returns the line of a remark; a dash if there is none.
 fn line_of(alloc: Global, said: Option<Remark>) -> Result<String, Fail> {
     match said {
         Some(said) => {
@@ -20,7 +20,7 @@ fn line_of(alloc: Global, said: Option<Remark>) -> Result<String, Fail> {
     }
 }
 
-/// What more is said of each mistake in the names of a text, a line each, in the order in which they are judged.
+/// Returns the remarks on the mistakes in the names of a text, a line each, in the order in which the mistakes are judged.
 fn remarks_in(alloc: Global, text: &str) -> Result<String, Fail> {
     let tokens = lex(alloc, text.as_bytes())?;
     let tree = parse(alloc, &tokens)?;
@@ -56,7 +56,7 @@ class K { static void F(D* in ExHeap p, C.Exp e) {
     Ok(())
 }
 
-/// Each name has a nearest one of its sort, where that is declared.
+/// Each unknown name gets the nearest one of its sort, at the place where that is declared.
 #[test]
 fn nearest_names(rt: HostRuntime) -> Result<(), Fail> {
     let text = "contract Bell { in message Ring(); state Wait: Rang? -> Wit; }
@@ -82,7 +82,7 @@ class Reader { static void Read(Page* in ExHeap page, Bel.Imp:Wait bell) {
     Ok(())
 }
 
-/// A name that is known is added at no place; one that an earlier name has is told with that.
+/// A name is declared twice only if an earlier one is given.
 #[test]
 fn added_mistakes(rt: HostRuntime) -> Result<(), Fail> {
     let name = Span {

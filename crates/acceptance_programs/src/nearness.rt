@@ -7,7 +7,7 @@ use std::test::Fail;
 use syntax::parse;
 use tree::{Definition, Method, Tree};
 
-/// The bytes of a text from one to another.
+/// Returns the bytes of a text from `start` to `end`.
 fn span(start: u32, end: u32) -> Span {
     let place = Place { line: 1, col: 1 };
     Span { start, end, place }
@@ -22,14 +22,14 @@ fn words_and_names(rt: HostRuntime) -> Result<(), Fail> {
     assert!(rt; nearest(text, b"countss", &names) == Some(span(6, 12)));
     assert!(rt; nearest(text, b"totl", &names) == Some(span(13, 18)));
     assert!(rt; nearest(text, b"tale", &names) == None);
-    // A letter more is near, a letter for another one is not where the word has no other.
+    // One letter more is near; one letter exchanged is not, if the word has no other letter.
     assert!(rt; nearest(text, b"ab", &names) == Some(span(19, 20)));
     assert!(rt; nearest(text, b"b", &names) == None);
     assert!(rt; nearest(text, b"", &names) == None);
     Ok(())
 }
 
-/// The first method of the first class in a tree.
+/// Returns the first method of the first class in a tree.
 fn first_method(tree: &Tree) -> Result<&Method, Fail> {
     for item in &tree.items {
         if let Definition::Class(class) = &item.definition {
@@ -42,7 +42,7 @@ fn first_method(tree: &Tree) -> Result<&Method, Fail> {
     Err(Fail::from("no class"))
 }
 
-/// The names that the first method of a text declares before a place in the blocks around that.
+/// Returns the names that the first method of a text declares before a place in the blocks around it.
 fn before(alloc: Global, text: &str, line: u32, col: u32) -> Result<String, Fail> {
     let tokens = lex(alloc, text.as_bytes())?;
     let tree = parse(alloc, &tokens)?;

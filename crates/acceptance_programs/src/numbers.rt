@@ -25,7 +25,7 @@ case i.ChannelClosed(): delete i;
 }
 } }";
 
-/// The methods of a text, its contracts and what its messages bring.
+/// Returns the methods of a text, its contracts and what its messages bring.
 fn methods_of(alloc: Global, text: &str) -> Result<Methods, Fail> {
     let tokens = lex(alloc, text.as_bytes())?;
     let tree = parse(alloc, &tokens)?;
@@ -36,7 +36,7 @@ fn methods_of(alloc: Global, text: &str) -> Result<Methods, Fail> {
     Ok(well_formed_methods(alloc, &tree, text.as_bytes(), resolved)?)
 }
 
-/// Variables by their numbers.
+/// Writes variables as their numbers.
 fn variable_list(alloc: Global, variables: &[VarId]) -> Result<String, Memory> {
     let mut line = String::new(alloc);
     for variable in variables {
@@ -45,7 +45,7 @@ fn variable_list(alloc: Global, variables: &[VarId]) -> Result<String, Memory> {
     Ok(line)
 }
 
-/// The same of mentions.
+/// Writes mentions as the numbers of their variables.
 fn mention_list(alloc: Global, mentions: &[Mention]) -> Result<String, Memory> {
     let mut line = String::new(alloc);
     for mention in mentions {
@@ -54,7 +54,7 @@ fn mention_list(alloc: Global, mentions: &[Mention]) -> Result<String, Memory> {
     Ok(line)
 }
 
-/// A case of a switch.
+/// Writes a case of a switch.
 fn case_line(alloc: Global, case: &Entrance) -> Result<String, Memory> {
     let endpoint = case.endpoint.variable.0;
     let bound = variable_list(alloc, &case.targets)?;
@@ -67,7 +67,7 @@ fn case_line(alloc: Global, case: &Entrance) -> Result<String, Memory> {
     }
 }
 
-/// An instruction in a line: its place where it has one of its own, what it is about, and where the method goes on.
+/// Writes an instruction in a line: its place if it has one of its own, what it is about, and where the method goes on.
 fn line_of(alloc: Global, instruction: &Instr) -> Result<String, Memory> {
     match instruction {
         Instr::Send(sending) => {
@@ -95,7 +95,7 @@ fn line_of(alloc: Global, instruction: &Instr) -> Result<String, Memory> {
     }
 }
 
-/// An action: its place where it has one of its own, and what it is about.
+/// Writes an action: its place if it has one of its own, and what it is about.
 fn action_line(alloc: Global, action: Action) -> Result<String, Memory> {
     match action {
         Action::NewChannel(channel) => channel_line(alloc, channel),
@@ -123,13 +123,13 @@ fn switch_line(alloc: Global, place: Place, cases: &[Entrance]) -> Result<String
     Ok(text)
 }
 
-/// A variable in a line.
+/// Writes a variable in a line.
 fn variable_line(alloc: Global, variable: &Variable) -> Result<String, Memory> {
     let name = String::from_utf8_lossy(alloc, &variable.name)?;
     Ok(format!(in alloc; "{name} {:?} {:?}", variable.role, variable.ty)?)
 }
 
-/// The variables of a method and its instructions, in lines.
+/// Writes the variables of a method and its instructions, in lines.
 fn method_lines(alloc: Global, method: &Method) -> Result<String, Memory> {
     let mut lines = String::new(alloc);
     for variable in &method.variables {

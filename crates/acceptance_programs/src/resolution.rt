@@ -7,7 +7,7 @@ use std::alloc::Global;
 use std::test::Fail;
 use syntax::parse;
 
-/// What a text declares.
+/// Resolves a text.
 fn resolve_text(alloc: Global, text: &str) -> Result<Resolved, Fail> {
     let tokens = lex(alloc, text.as_bytes())?;
     let tree = parse(alloc, &tokens)?;
@@ -15,7 +15,7 @@ fn resolve_text(alloc: Global, text: &str) -> Result<Resolved, Fail> {
     Ok(resolved)
 }
 
-/// The findings of an answer; none where it is a program.
+/// Returns the findings of a result; none if it is a program.
 fn findings_in(alloc: Global, answer: Result<Resolved, NameFaults>) -> Result<Vec<Finding>, Fail> {
     match answer {
         Ok(_program) => Ok(Vec::new(alloc)),
@@ -26,7 +26,7 @@ fn findings_in(alloc: Global, answer: Result<Resolved, NameFaults>) -> Result<Ve
     }
 }
 
-/// What is wrong with the names of a text, a line a finding, in the order of a report; nothing where it is resolved.
+/// Returns the findings about the names of a text, a line each, in the order of a report; nothing if it is resolved.
 fn wrong(alloc: Global, text: &str) -> Result<String, Fail> {
     let tokens = lex(alloc, text.as_bytes())?;
     let tree = parse(alloc, &tokens)?;
@@ -42,7 +42,7 @@ fn wrong(alloc: Global, text: &str) -> Result<String, Fail> {
     Ok(lines)
 }
 
-/// A contract in lines: its name and first state, then its states, messages and edges, each with its number.
+/// Writes a contract in lines: its name and first state, then its states, messages and edges, each with its number.
 fn contract_lines(alloc: Global, contract: &Contract) -> Result<String, Fail> {
     let mut lines = format!(in alloc; "{} begins in {}\n", contract.name, contract.first.0)?;
     for state in &contract.states {
@@ -68,7 +68,7 @@ fn contract_lines(alloc: Global, contract: &Contract) -> Result<String, Fail> {
     Ok(lines)
 }
 
-/// The contracts of a text, in lines.
+/// Writes the contracts of a text, in lines.
 fn all_contract_lines(alloc: Global, text: &str) -> Result<String, Fail> {
     let mut lines = String::new(alloc);
     for contract in &resolve_text(alloc, text)?.contracts {
@@ -112,8 +112,8 @@ message 2 K In
     Ok(())
 }
 
-/// Numbers go on from contract to contract; a message may stand behind a state; equal names of two contracts are two
-/// things; and the unnamed states of a state's second path stand behind those of its first.
+/// Numbers continue from contract to contract; a message may come after a state; equal names in two contracts are two
+/// things; and the unnamed states of a state's second path come after those of its first.
 #[test]
 fn two_contracts(rt: HostRuntime) -> Result<(), Fail> {
     let text = "contract D {
@@ -175,7 +175,7 @@ message 1 A Out
     Ok(())
 }
 
-/// Texts, and what is wrong with their names.
+/// Texts, and the findings about their names.
 const FINDINGS: [(&str, &str); 14] = [
     ("", ""),
     (

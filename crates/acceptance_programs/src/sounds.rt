@@ -17,7 +17,7 @@ const REQUEST: MessageId = MessageId(3);
 
 const REPLY: MessageId = MessageId(4);
 
-/// Whether this is the one edge, of this message to this state.
+/// Returns whether this is the only edge, with this message to this state.
 fn is_only(edges: &[Edge], message: MessageId, to: StateId) -> bool {
     match edges {
         [edge] => edge.message == message && edge.to == to,
@@ -50,7 +50,7 @@ fn ends_of_ping(rt: HostRuntime) -> Result<(), Fail> {
     Ok(())
 }
 
-/// A case for what comes at that variable, named in that column.
+/// Returns a case for what comes at that variable, named in that column.
 fn case(alloc: Global, variable: usize, col: u32, message: Option<u32>, next: usize) -> Entrance {
     Entrance {
         endpoint: Mention {
@@ -66,14 +66,14 @@ fn case(alloc: Global, variable: usize, col: u32, message: Option<u32>, next: us
     }
 }
 
-/// Where a switch with these cases goes on.
+/// Returns where a switch with these cases goes on.
 fn goes_to(cases: &Cases, variable: usize, message: Option<u32>) -> Option<usize> {
     let number = message?;
     let found = cases.find(VarId(variable), Some(MessageId(number)))?;
     Some(found.next)
 }
 
-/// Cases for messages 7 and 0 at the first variable, with its close between them, and for the close of the second.
+/// Returns cases for messages 7 and 0 at the first variable, with its close between them, and for the close of the second.
 fn four_cases(alloc: Global) -> Result<Cases, Memory> {
     let mut list = Vec::new(alloc);
     list.push(case(alloc, 1, 10, Some(7), 41))?;

@@ -1,4 +1,4 @@
-//! What types mean as a text writes them.
+//! What written types mean.
 
 use declarations::{Scope, ValueType};
 use program::{Scalar, Side};

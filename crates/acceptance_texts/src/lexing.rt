@@ -1,4 +1,4 @@
-//! Worked examples of the language's tokens, and of what a report says.
+//! Worked examples of the tokens of the language, and of what a report prints.
 
 mod findings;
 mod slow;
@@ -12,14 +12,14 @@ fn at(line: u32, col: u32) -> Place {
     Place { line, col }
 }
 
-/// The kinds of a text's tokens.
+/// Returns the kinds of a text's tokens.
 fn kinds(alloc: Global, text: &[u8]) -> Result<Vec<Kind>, Fail> {
     let tokens = lex(alloc, text)?;
     let kinds = tokens.list.iter().map(|token| token.kind).collect(alloc)?;
     Ok(kinds)
 }
 
-/// The fault of a text; none where it has tokens.
+/// Returns the fault of a text; none if it has tokens.
 fn fault(alloc: Global, text: &[u8]) -> Option<TextFault> {
     lex(alloc, text).err()
 }
@@ -123,7 +123,7 @@ fn reserved_words(rt: HostRuntime) -> Result<(), Fail> {
         false if Imp in int internal message new NewChannel one out private public receive rep return start \
         state static struct switch true void while";
     let words = kinds(rt.alloc(), text)?;
-    // Behind names and numbers, the list of all kinds has the reserved words in order of the alphabet.
+    // After names and numbers, the list of all kinds has the reserved words in order of the alphabet.
     assert_eq!(rt; words.as_slice(), &ALL_KINDS[2..40]);
     let text =
         b"Bool breaks channelClosed exheap In i iff _in internall Case rece NewChannels exchanged Exchange";

@@ -1,4 +1,4 @@
-//! Tests of what no clause says, against the crates from the bytes of a text to its tree.
+//! Tests of what no clause states, against the crates from the bytes of a text to its tree.
 #![tactic(auto)]
 
 #[cfg(test)]

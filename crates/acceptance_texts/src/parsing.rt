@@ -78,7 +78,7 @@ const TEXTS: [&str; 4] = [
         ID . Imp ID , ID . Exp : ID ! in ExHeap ID , ID . Imp in ExHeap ID , ID . Exp : ID ID , ID . Imp ! ID ) ; state ID : ; }",
 ];
 
-/// The kind of a word.
+/// Returns the kind of a word.
 fn kind_of(word: &str) -> Kind {
     for (name, kind) in WORDS.iter() {
         if *name == word {
@@ -88,7 +88,7 @@ fn kind_of(word: &str) -> Kind {
     Kind::While
 }
 
-/// The tokens that these words are.
+/// Returns the tokens of these words.
 fn tokens_of(alloc: Global, words: &[&str]) -> Result<Tokens, AllocError> {
     let place = Place { line: 1, col: 1 };
     let mut list = Vec::new(alloc);
@@ -106,8 +106,8 @@ fn tokens_of(alloc: Global, words: &[&str]) -> Result<Tokens, AllocError> {
     Ok(Tokens { list, end: place })
 }
 
-/// What a slow reading says of these words: the number of the first with which no text goes on, that of the words for the
-/// end, and none for a program. The words before `from` have led to `rests`.
+/// Returns the number of the first word with which no text goes on, by a slow reading. At the end of the text it is
+/// the number of words, and for a program there is none. The words before `from` have led to `rests`.
 fn first_wrong(
     alloc: Global,
     mut rests: Rests,
@@ -130,7 +130,7 @@ fn first_wrong(
     })
 }
 
-/// Whether the parser answers that for these tokens.
+/// Returns whether the parser finds this first wrong token, or none, in these tokens.
 fn answers(alloc: Global, tokens: &Tokens, wanted: Option<usize>) -> bool {
     match parse(alloc, tokens) {
         Ok(_) => wanted.is_none(),
@@ -183,7 +183,7 @@ fn every_word_at_every_index(rt: HostRuntime) -> Result<(), Fail> {
     Ok(())
 }
 
-/// Whether the parser agrees with the slow reading on each beginning of this text.
+/// Returns whether the parser agrees with the slow reading on each beginning of this text.
 fn agrees(alloc: Global, text: &str) -> Result<bool, AllocError> {
     let words: Vec<&str> = text.split_whitespace().collect(alloc)?;
     let mut same = true;
@@ -226,7 +226,7 @@ fn first_wrong_tokens(rt: HostRuntime) -> Result<(), Fail> {
         ("class ID { static void ID ( ) { ID . ID . ID = 7 ; } }", 12),
         ("class ID { static void ID ( ) { ID = 7 + ID ( ) ; } }", 14),
         ("class ID { static void ID ( ) { ID ( ) = 7 ; } }", 12),
-        // A body without braces, and `else` behind a statement that is no `if`.
+        // A body without braces, and `else` after a statement that is no `if`.
         (
             "class ID { static void ID ( ) { while ( ID ) ID = 7 ; } }",
             13,
@@ -235,12 +235,12 @@ fn first_wrong_tokens(rt: HostRuntime) -> Result<(), Fail> {
             "class ID { static void ID ( ) { if ( ID ) { } ID = 7 ; else { } } }",
             19,
         ),
-        // No case in a switch, a trailing comma, and a rest behind the last brace.
+        // No case in a switch, a trailing comma, and a rest after the last brace.
         ("class ID { static void ID ( ) { switch receive { } } }", 12),
         ("class ID { static void ID ( int ID , ) { } }", 10),
         ("class ID { static void ID ( ) { ID ( ID , ) ; } }", 13),
         ("class ID { } }", 4),
-        // A field of no type, one whose type goes on behind its end, and a method that is not static.
+        // A field of no type, one whose type goes on after its end, and a method that is not static.
         ("rep struct ID { void ID ; }", 4),
         ("rep struct ID { ID . Imp : ID * in ExHeap ID ; }", 9),
         ("class ID { public void ID ( ) { } }", 4),

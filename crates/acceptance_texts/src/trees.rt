@@ -1,11 +1,11 @@
-//! What is asked of a tree: the names that its items declare, and which expressions are an atom or a name alone.
+//! The names that the items of a tree declare, and which expressions are just an atom or a name.
 
 use source::lex;
 use std::test::Fail;
 use syntax::parse;
 use tree::{Definition, Expression, Plain, Statement, Tree, Value, atom_alone, name_alone};
 
-/// The expression that the first statement of a class assigns, if there is one.
+/// Returns the expression that the first statement of a class assigns, if there is one.
 fn value_in(tree: &Tree) -> Option<&Expression> {
     let Definition::Class(class) = &tree.items.first()?.definition else {
         return None;

@@ -1,4 +1,4 @@
--- Lists without doubles.
+-- Lists without duplicates.
 use Rattle.std.proofs.Common.{◌≡◌, ℕ, ◌<◌, ◌≤◌, ◌⊎◌, inl, inr, List, [], ◌∷◌, ◌++◌, length, map, get_or, Contains, sym, ap, subst, ◌∙◌, arith, length-append}
 use Rattle.std.proofs.lemmas.List.{get_or-map, length-map}
 use Rattle.std.proofs.lemmas.List.Elements.{Contains-append_left, Contains-append_right, Contains-push, Contains-push_cases, Contains-append_cases}
@@ -31,7 +31,7 @@ module _ {X : Type 0} where
   differ_push (y ∷ ys) x d n =
       (λ h. elim (Contains-push_cases ys x y h) [ inl k ↦ d.0 k | inr e ↦ n (subst (λ z. Contains (z ∷ ys) x) e (has_here x ys)) ], differ_push ys x d.1 (λ h. n (has_later y ys x h)))
 
-  -- a list with x in it, without x
+  -- a list without one occurrence of x
   pub record Without (xs : List X) (x : X) : Type 0 where
     pub front : List X
     pub back : List X
@@ -44,7 +44,7 @@ module _ {X : Type 0} where
     | inr k ↦ let w = without ys x k in record { front = y ∷ w.front; back = w.back; whole = ap (λ zs. y ∷ zs) w.whole }
   ]
 
-  -- different elements of a list are no more than it has
+  -- a list without duplicates is no longer than a list that contains its elements
   pub no_more : (xs ys : List X) → Differ xs → ((x : X) → Contains xs x → Contains ys x) → length xs ≤ length ys
   no_more [] ys d h = omega arith
   no_more (x ∷ xs) ys d h =

@@ -1,4 +1,4 @@
--- Two lists whose items belong together place by place.
+-- Two lists whose items correspond by index.
 use Rattle.std.proofs.Common.{◌≡◌, ℕ, zero, suc, List, [], ◌∷◌, ◌++◌, length, Some, None, inl, inr, slice_get, Contains, refl, ap, subst}
 use Rattle.std.specs.List.{AllZip}
 use Rattle.analyse.proofs.ListLemmas.{has_cases, none_in}
@@ -23,7 +23,7 @@ module _ {A B : Type 0} where
     zip_long (x ∷ xs) [] h = absurd h
     zip_long (x ∷ xs) (y ∷ ys) h = ap suc (zip_long xs ys h.1)
 
-    -- what belongs to the item at a place
+    -- the item that corresponds to the one at an index
     pub zip_at : (xs : List A) (ys : List B) (n : ℕ) (x : A) → AllZip R xs ys → slice_get xs n ≡ Some x → (y : B) × (slice_get ys n ≡ Some y) × R x y
     zip_at [] [] n x h e = cc
     zip_at [] (b ∷ ys) n x h e = absurd h
@@ -31,7 +31,7 @@ module _ {A B : Type 0} where
     zip_at (a ∷ xs) (b ∷ ys) zero x h e = let same : a ≡ x = cc in (b, refl, subst (λ z. R z b) same h.0)
     zip_at (a ∷ xs) (b ∷ ys) (suc n) x h e = zip_at xs ys n x h.1 e
 
-    -- nothing stands at a place behind the end
+    -- the other list ends at the same index
     pub zip_past : (xs : List A) (ys : List B) (n : ℕ) → AllZip R xs ys → None ≡ slice_get xs n → None ≡ slice_get ys n
     zip_past [] [] n h e = refl
     zip_past [] (b ∷ ys) n h e = absurd h
@@ -39,7 +39,7 @@ module _ {A B : Type 0} where
     zip_past (a ∷ xs) (b ∷ ys) zero h e = cc
     zip_past (a ∷ xs) (b ∷ ys) (suc n) h e = zip_past xs ys n h.1 e
 
-    -- some item belongs to each
+    -- each item has one that corresponds
     pub zip_has : (xs : List A) (ys : List B) (y : B) → AllZip R xs ys → Contains ys y → (x : A) × R x y
     zip_has [] [] y h k = absurd (none_in y k)
     zip_has [] (b ∷ ys) y h k = absurd h

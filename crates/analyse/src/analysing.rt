@@ -1,4 +1,4 @@
-//! The search over pairs of a point and a row.
+//! The analysis of a method.
 
 ghost use Rattle.std.specs.Prelude.{◌≡◌, IfOk, IfErr, map};
 ghost use Rattle.std.specs.List.Sorted.{IsStrictlySortedBy};
@@ -23,14 +23,15 @@ use tasks::Task;
 /// The most pairs of a point and a row that may be reached in a method.
 pub const MOST_PAIRS: usize = 20_000;
 
-/// The verdict of the method of a task of this program: what is found at the pairs that can be reached from its entry, or, if more
-/// than `MOST_PAIRS` can, that alone. All pairs are looked at, and no two rows are joined. Each finding comes once, in the order of a
-/// report.
+/// Returns the verdict of the method of a task of this program: the findings at the pairs that can be reached from
+/// its entry, or, if there are more than `MOST_PAIRS`, that finding alone. All pairs are examined, and no two rows
+/// are joined. Each finding occurs once, in the order of a report.
 ///
-/// Rows are kept in the table of all. Once that has no place near for a row, the worker leaves the table: it keeps all rows of this
-/// method and of each later one itself. The verdict is the same.
+/// Rows are kept in the shared table. Once that has no near slot for a row, the worker leaves the table: it keeps all
+/// rows of this method and of each later one itself. The verdict is the same.
 ///
-/// `Memory` is answered where a growth was refused, and gives the task back. The worker's seat knows all that it had seen, also then.
+/// # Errors
+/// `Memory` if out of memory, with the task. The worker's seat still knows all that the worker has seen.
 pub fn analyse(
     alloc: Global,
     task: Task,

@@ -8,17 +8,17 @@ use rules::laws::equal_breaches_are_one;
 use source::Memory;
 use std::alloc::Global;
 
-/// Fewer late breaches than these are not put among the others before the search ends.
+/// Late breaches are merged during a search only if there are at least this many.
 const FEW_BREACHES: usize = 64;
 
-/// The breaches that a search found in a method so far, each at least once.
+/// The breaches that a search has found in a method so far, each at least once.
 ///
 /// Most come in ascending order, and then a list costs less than a sorted set.
 #[derive(Drop)]
 pub(crate) struct Breaches {
     /// In ascending order, each once.
     ascending: Vec<Breach>,
-    /// Those that were not in `ascending`, but less than its last one; perhaps more than once.
+    /// Those that were less than the last one of `ascending` and not in it; perhaps more than once.
     late: Vec<Breach>,
 }
 
@@ -26,7 +26,7 @@ impl Breaches {
     ghost use Rattle.analyse.specs.Found.{breaches_of};
     ghost use Rattle.analyse.specs.Searches.{Gains};
 
-    /// No breaches. It takes no memory.
+    /// Returns an empty list of breaches, without allocating.
     pub(crate) fn new(alloc: Global) -> Breaches
         ensures { breaches_of result ≡ [] }
     {
@@ -36,10 +36,12 @@ impl Breaches {
         }
     }
 
-    /// Adds a breach. If it is late, and there are as many late ones as others and 64 or more, these are merged first. So the lists have at
-    /// most twice as many breaches as are different, or 64 more, and adding one takes logarithmic time on average.
+    /// Adds a breach. If it is late, and there are at least as many late ones as others and at least 64, these are
+    /// merged first. So the lists have at most twice as many breaches as are different, or 64 more, and adding one
+    /// takes logarithmic time on average.
     ///
-    /// Returns `Memory` if a growth was refused.
+    /// # Errors
+    /// `Memory` if out of memory.
     pub(crate) fn note(&mut self, breach: Breach) -> Result<(), Memory>
         ensures gains { OnOk result (Gains (breaches_of self.old) breach (breaches_of self.new)) }
     {
@@ -62,9 +64,10 @@ impl Breaches {
         Ok(())
     }
 
-    /// Puts the late breaches among the others.
+    /// Merges the late breaches into the others.
     ///
-    /// Returns `Memory` if a growth was refused.
+    /// # Errors
+    /// `Memory` if out of memory.
     fn merge(&mut self) -> Result<(), Memory>
         ensures same { OnOk result ((b : BreachModel) → Contains (breaches_of self.new) b ↔ Contains (breaches_of self.old) b) }
         ensures none_late { OnOk result (self.new.late.items ≡ []) }
@@ -79,9 +82,10 @@ impl Breaches {
         Ok(())
     }
 
-    /// The breaches in ascending order, each once.
+    /// Returns the breaches in ascending order, each once.
     ///
-    /// Returns `Memory` if a growth was refused.
+    /// # Errors
+    /// `Memory` if out of memory.
     pub(crate) fn into_different(mut self) -> Result<Vec<Breach>, Memory>
         ensures same { IfOk result (λ breaches. (b : BreachModel) → Contains breaches.items b ↔ Contains (breaches_of self) b) }
     {

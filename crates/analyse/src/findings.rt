@@ -16,9 +16,10 @@ use rules::Program;
 use source::{Finding, Memory, Place, texts};
 use std::alloc::Global;
 
-/// The findings of these breaches in a method, in the order of a report, each once.
+/// Returns the findings of these breaches in a method, in the order of a report, each once.
 ///
-/// `Memory` is returned if a growth was refused.
+/// # Errors
+/// `Memory` if out of memory.
 pub(crate) fn findings_of(
     alloc: Global,
     program: &Program,
@@ -37,7 +38,7 @@ pub(crate) fn findings_of(
     in_report_order(findings)
 }
 
-/// The one finding of a method in which too many pairs are reached, at its name.
+/// Returns the one finding of a method in which too many pairs are reached, at the method's name.
 pub(crate) fn too_many(
     alloc: Global,
     program: &Program,
@@ -52,7 +53,7 @@ pub(crate) fn too_many(
     Ok(alone)
 }
 
-/// Where the name of a method stands.
+/// Returns the place of the name of a method.
 fn place_of(program: &Program, method: MethodId) -> Place
     requires there { method.0 < length (model_of program.now).methods }
     ensures { result ≡ place_of_method (model_of program.now) method.0 }

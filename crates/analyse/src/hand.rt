@@ -3,8 +3,8 @@
 use intern::RowId;
 use rules::Row;
 
-/// The row that a search works on, and its name while it is known. The next pair has the same row more often than not, and then
-/// nobody reads it from the table.
+/// The row that a search works on, and its name while that is known. The next pair usually has the same row, which is
+/// then not read from the table.
 #[derive(Drop)]
 pub(crate) struct RowInHand {
     pub(crate) row: Row,

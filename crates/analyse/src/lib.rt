@@ -1,4 +1,4 @@
-//! The verdict of a method: what is found at the pairs of a point and a row that can be reached.
+//! The verdict of a method: the findings at the pairs of a point and a row that can be reached.
 #![tactic(auto)]
 
 mod analysing;

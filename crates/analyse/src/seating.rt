@@ -1,4 +1,4 @@
-//! A seat taken by a worker, and given back.
+//! How a worker takes a seat and gives it back.
 
 ghost use Rattle.std.specs.Prelude.{◌≡◌};
 ghost use Rattle.intern.specs.Seats.{IsSeatOf};
@@ -14,7 +14,7 @@ use rules::Spare;
 use std::alloc::Global;
 
 impl Worker {
-    /// A worker with this seat. It takes no memory before it analyses something.
+    /// Returns a worker with this seat. It allocates nothing before it analyses something.
     pub fn new(alloc: Global, seat: Seat) -> Worker
         ensures seat { seat_of result ≡ seat }
         ensures table { IsAtTable result }
@@ -30,7 +30,7 @@ impl Worker {
         }
     }
 
-    /// Its seat, which knows all that the worker has seen.
+    /// Returns the worker's seat, which knows all that the worker has seen.
     pub fn into_seat(self) -> Seat
         ensures { result ≡ seat_of self }
     {

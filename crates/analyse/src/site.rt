@@ -1,11 +1,11 @@
-//! Where a search goes on.
+//! The site of a search.
 
 use intern::Rows;
 use program::MethodId;
 use rules::Program;
 use std::alloc::Global;
 
-/// Where a search goes on: the memory, the program, the method, and the table of all rows.
+/// What a search is about: the allocator, the program, the method, and the shared table of rows.
 #[derive(Clone, Copy)]
 pub(crate) struct SearchSite<'a> {
     pub(crate) alloc: Global,

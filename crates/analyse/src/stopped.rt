@@ -1,13 +1,13 @@
-//! Why a search did not come to its end.
+//! Why a search stopped early.
 
 use source::Memory;
 use std::alloc::{AllocError, AllocFailed};
 
-/// Why a search did not come to its end.
+/// Why a search stopped early.
 pub(crate) enum Stopped {
-    /// The table of all has no place near for a row: the search for one of its words passed as many slots as it may, or all.
+    /// The shared table has no near slot for a row: the search for one of its words passed as many slots as it may, or all.
     Far,
-    /// A growth of memory was refused.
+    /// Out of memory.
     Memory,
 }
 

@@ -1,4 +1,4 @@
-//! What is found in a method.
+//! Verdicts of methods.
 
 ghost use Rattle.std.specs.Prelude.{◌≡◌, map};
 ghost use Rattle.std.specs.List.Sorted.{IsStrictlySortedBy};
@@ -12,8 +12,8 @@ use rules::Program;
 use source::Finding;
 use std::snapshot::Snapshot;
 
-/// What is found in a method: all that a step finds at the pairs that can be reached from its entry, or that they are too many. The
-/// method is one of the program that is remembered.
+/// The verdict of a method: all findings of steps at the pairs that can be reached from its entry, or that these are
+/// too many. It remembers the program of the method.
 #[derive(Drop)]
 pub struct Verdict {
     pub(crate) method: MethodId,
@@ -26,14 +26,14 @@ pub struct Verdict {
 impl Verdict {
     ghost use Rattle.analyse.specs.VerdictParts.{findings_of, program_of, verdict_number};
 
-    /// The method.
+    /// Returns the method.
     pub fn method(&self) -> MethodId
         ensures { result.0 ≡ verdict_number self.now }
     {
         self.method
     }
 
-    /// What is found in it, each finding once, in the order of a report.
+    /// Returns the findings, each once, in the order of a report.
     pub fn findings(&self) -> &[Finding]
         ensures findings { result.now ≡ findings_of self.now }
         ensures judged { ∥ IsMethodVerdict (model_of (program_of self.now)) (verdict_number self.now) (map finding_model result.now) ∥₁ }
@@ -42,7 +42,7 @@ impl Verdict {
         &self.findings
     }
 
-    /// What is found in it, each finding once, in the order of a report.
+    /// Returns the findings, each once, in the order of a report.
     pub fn into_findings(self) -> Vec<Finding>
         ensures findings { result.items ≡ findings_of self }
         ensures judged { ∥ IsMethodVerdict (model_of (program_of self)) (verdict_number self) (map finding_model result.items) ∥₁ }

@@ -1,4 +1,4 @@
--- What a parse found, as what the words ask for.
+-- The result of a parse is what the words ask for.
 use Rattle.std.proofs.Common.{◌≡◌, List, Option, Some, None, true, codes, option_map, refl, sym, ap, ◌∙◌}
 use Rattle.std.specs.Prelude.{Box}
 use Rattle.std.specs.Box.{box_value}
@@ -30,11 +30,11 @@ asks_of words m inner subcommand command Holds is has name rows holds = record {
   given = holds;
 }
 
--- the first text of a name
+-- the first text that a name has
 pub gives : (inner : ArgMatches) (name text : Text) → first_value (found_of inner) name ≡ Some text → Gives (rows_of (found_of inner)) name text
 gives inner name text first = sym (first_value-rows (found_of inner) name) ∙ first
 
--- a question why that the arguments give is one that the words ask
+-- a `why` that the arguments give is one that the words ask for
 pub asks_why : (words : List Text) (m inner : ArgMatches) (command : App) (asked : Ask) → command ≡ whole_command → HasMatchesOf command words m → subcommand_name_of m ≡ Some (codes "why")
     → option_map (λ p. p.1) (subcommand_rows (out-ArgMatches m).subcommand) ≡ Some (rows_of (found_of inner)) → IsWhyOf (rows_of (found_of inner)) asked → Asks words asked
 asks_why words m inner command (Why file named) is has name rows holds = asks_of words m inner (codes "why") command (λ rows. Gives rows (codes "FILE") file.now × NamesPlace rows named) is has name rows holds
@@ -42,7 +42,7 @@ asks_why words m inner command (Bounds file) is has name rows holds = absurd hol
 asks_why words m inner command (Check file workers slots) is has name rows holds = absurd holds
 asks_why words m inner command (Replay file entry schedule) is has name rows holds = absurd holds
 
--- no text of a name
+-- a name that has no text
 pub gives_none : (inner : ArgMatches) (name : Text) → first_value (found_of inner) name ≡ None → first_of name (rows_of (found_of inner)) ≡ None
 gives_none inner name none = sym (first_value-rows (found_of inner) name) ∙ none
 

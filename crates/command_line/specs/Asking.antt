@@ -1,4 +1,4 @@
--- What the words of a command line ask for, by what `clap` says of a simple command.
+-- What the words of a command line ask for, by what `clap` specifies of a simple command.
 use Rattle.std.specs.Prelude.{◌≡◌, ◌++◌, List, Option, Some, None, true, false, codes}
 use Rattle.std.specs.Str.Parse.{digits_value, without_leading_plus}
 use Rattle.clap.specs.Words.{App, Row, Rule, Text, app_of, first_of, new_app, new_rule, subcommand_of, with_rule, with_subcommand}
@@ -9,15 +9,15 @@ use Rattle.source.specs.declared.place.Place.{Place}
 use Rattle.command_line.specs.declared.request.Ask.{Ask}
 use Rattle.command_line.specs.declared.request.Ask.TheVariants.{Bounds, Check, Replay, Why}
 
--- a text that has to be given
+-- a required text
 abbrev pub text_rule : Text → Rule
 text_rule name = record (new_rule name) { required = true; action = Some Set }
 
--- a text that need not be given
+-- an optional text
 abbrev pub optional_rule : Text → Rule
 optional_rule name = record (new_rule name) { action = Some Set }
 
--- an option with a number, which need not be given
+-- an optional number
 abbrev pub number_rule : Text → Rule
 number_rule name = record (new_rule name) { long = Some name; value_names = 1; action = Some Set }
 
@@ -41,7 +41,7 @@ replay_command = with_rule (with_rule (file_command (codes "replay")) (text_rule
 abbrev pub why_command : App
 why_command = with_rule (file_command (codes "why")) (optional_rule (codes "LINE:COL"))
 
--- `singcheck` with nothing yet, where a subcommand has to be given; it has a version
+-- `singcheck` without its subcommands, of which one is required; it has a version
 abbrev pub bare_command : App
 bare_command = record (new_app (codes "singcheck")) {
   top = record (new_app (codes "singcheck")).top { has_version = true; subcommand_required = true; arg_required_else_help = true };
@@ -73,7 +73,7 @@ abbrev pub GivesReplay : (file entry schedule : Text) → List Row → Type 0
 GivesReplay file entry schedule rows =
     Gives rows (codes "FILE") file × Gives rows (codes "ENTRY") entry × Gives rows (codes "SCHEDULE") schedule
 
--- a text is this place: a line and a column with a colon between them
+-- the text spells this place: a line and a column with a colon between them
 pub record IsPlaceText (text : Text) (place : Place) : Type 0 where
   pub line : Text
   pub col : Text
@@ -86,7 +86,7 @@ abbrev pub NamesPlace : List Row → Option Place → Type 0
 NamesPlace rows None = first_of (codes "LINE:COL") rows ≡ None
 NamesPlace rows (Some place) = (text : Text) × Gives rows (codes "LINE:COL") text × IsPlaceText text place
 
--- this is what the words ask for; of the numbers of workers and slots nothing is said
+-- this is what the words ask for; the numbers of workers and slots are not specified
 abbrev pub Asks : List Text → Ask → Type 0
 Asks words (Bounds file) = AsksOf words (codes "bounds") (λ rows. Gives rows (codes "FILE") file.now)
 Asks words (Check file workers slots) = AsksOf words (codes "check") (λ rows. Gives rows (codes "FILE") file.now)

@@ -11,15 +11,16 @@ use clap::{ArgMatches, Error};
 use source::Place;
 use std::alloc::Global;
 
-/// How many workers there are where the command line does not say.
+/// The default number of workers.
 const WORKERS: usize = 4;
 
-/// How many slots there are where the command line does not say.
+/// The default number of slots.
 const SLOTS: usize = 65_536;
 
-/// What the words of a command line ask for, the program's name first among them.
+/// Returns what the words of a command line ask for. The first word is the program's name.
 ///
-/// An `Err` has the text to show, which is the refusal, or help where that was asked for.
+/// # Errors
+/// The text to show: the refusal, or the help or version if that was asked for.
 pub fn ask<'a>(alloc: Global, words: &'a [&'a str]) -> Result<Ask<'a>, Error>
     ensures { IfOk result (Asks (map (λ w. w.now) words.entry.now)) }
 {
@@ -61,7 +62,7 @@ pub fn ask<'a>(alloc: Global, words: &'a [&'a str]) -> Result<Ask<'a>, Error>
     Err(command.error(ErrorKind::MissingSubcommand, "a subcommand is required")?)
 }
 
-/// What the arguments of `replay` ask for.
+/// Returns what the arguments of `replay` ask for.
 fn replay_asked<'a>(inner: &ArgMatches<'a>) -> Option<Ask<'a>>
     ensures { IfSome result (IsReplayOf (rows_of (found_of inner.now))) }
 {
@@ -75,7 +76,7 @@ fn replay_asked<'a>(inner: &ArgMatches<'a>) -> Option<Ask<'a>>
     })
 }
 
-/// What the arguments of `why` ask for, if the place among them is one.
+/// Returns what the arguments of `why` ask for. `None` if they name a place that is malformed.
 fn why_asked<'a>(inner: &ArgMatches<'a>) -> Option<Ask<'a>>
     ensures { IfSome result (IsWhyOf (rows_of (found_of inner.now))) }
 {
@@ -84,7 +85,7 @@ fn why_asked<'a>(inner: &ArgMatches<'a>) -> Option<Ask<'a>>
     Some(Ask::Why { file, named })
 }
 
-/// The place that the arguments of `why` name, if they name one. None where what they name is no place.
+/// Returns the place that the arguments of `why` name, if they name one. The outer `None` means that it is malformed.
 fn asked_place(inner: &ArgMatches<'_>) -> Option<Option<Place>>
     ensures { IfSome result (NamesPlace (rows_of (found_of inner.now))) }
 {
@@ -94,7 +95,7 @@ fn asked_place(inner: &ArgMatches<'_>) -> Option<Option<Place>>
     }
 }
 
-/// The place that a text names: `LINE:COL`.
+/// Parses a place: `LINE:COL`. `None` if the text is not of that form.
 fn place_of(text: &str) -> Option<Place>
     ensures { IfSome result (IsPlaceText text.now) }
 {
@@ -104,7 +105,7 @@ fn place_of(text: &str) -> Option<Place>
     Some(Place { line, col })
 }
 
-/// The number that an option has, or this one where the option is not given. None where it is no number that fits.
+/// Returns the number of an option, or `other` if the option is not given. `None` if it is not a number that fits.
 fn number(given: Option<&str>, other: usize) -> Option<usize> {
     match given {
         Some(text) => text.parse().ok(),

@@ -1,4 +1,4 @@
-//! The command line, as `clap` is told of it.
+//! The command line, as a `clap` command.
 
 ghost use Rattle.std.specs.Prelude.{◌≡◌, codes, false, IfOk};
 ghost use Rattle.clap.specs.Words.{rule_of};
@@ -11,7 +11,7 @@ use std::alloc::{AllocError, Global};
 /// The version that `--version` prints.
 const VERSION: &str = "0.1.0";
 
-/// What help says behind the commands.
+/// The help text after the commands.
 const STATUSES: &str = "\
 Exit status:
   0  nothing found, or each event of the schedule was a step
@@ -22,20 +22,20 @@ Exit status:
 
 Example: singcheck check examples/shop.sg";
 
-/// What help says behind the arguments of `bounds`.
+/// The help text after the arguments of `bounds`.
 const BOUNDS_EXAMPLE: &str = "Example: singcheck bounds examples/shop.sg";
 
-/// What help says behind the arguments of `check`.
+/// The help text after the arguments of `check`.
 const CHECK_EXAMPLE: &str = "Example: singcheck check --workers 8 examples/shop.sg";
 
-/// What help says behind the arguments of `replay`.
+/// The help text after the arguments of `replay`.
 const REPLAY_EXAMPLE: &str =
     "Example: singcheck replay examples/shop.sg Street.Main examples/shop.schedule";
 
-/// What help says behind the arguments of `why`.
+/// The help text after the arguments of `why`.
 const WHY_EXAMPLE: &str = "Example: singcheck why examples/note.sg 7:5";
 
-/// A text that has to be given.
+/// Returns a required text argument.
 fn text_of<'a>(alloc: Global, name: &'a str, help: &'a str) -> Arg<'a>
     ensures rule { rule_of result ≡ text_rule name.now }
     ensures local { result.global ≡ false }
@@ -46,7 +46,7 @@ fn text_of<'a>(alloc: Global, name: &'a str, help: &'a str) -> Arg<'a>
         .action(ArgAction::Set)
 }
 
-/// A text that need not be given.
+/// Returns an optional text argument.
 fn optional_of<'a>(alloc: Global, name: &'a str, help: &'a str) -> Arg<'a>
     ensures rule { rule_of result ≡ optional_rule name.now }
     ensures local { result.global ≡ false }
@@ -54,7 +54,7 @@ fn optional_of<'a>(alloc: Global, name: &'a str, help: &'a str) -> Arg<'a>
     Arg::new(alloc, name).help(help).action(ArgAction::Set)
 }
 
-/// FILE, which has to be given.
+/// Returns the required argument `FILE`.
 fn file_of<'a>(alloc: Global) -> Arg<'a>
     ensures rule { rule_of result ≡ text_rule (codes "FILE") }
     ensures local { result.global ≡ false }
@@ -62,7 +62,7 @@ fn file_of<'a>(alloc: Global) -> Arg<'a>
     text_of(alloc, "FILE", "The file with the program's text")
 }
 
-/// An option with a number.
+/// Returns an option with a number.
 fn number_of<'a>(alloc: Global, name: &'a str, help: &'a str) -> Arg<'a>
     ensures rule { rule_of result ≡ number_rule name.now }
     ensures local { result.global ≡ false }
@@ -74,7 +74,7 @@ fn number_of<'a>(alloc: Global, name: &'a str, help: &'a str) -> Arg<'a>
         .action(ArgAction::Set)
 }
 
-/// `bounds FILE`.
+/// Returns the subcommand `bounds FILE`.
 fn bounds_of<'a>(alloc: Global) -> Result<Command<'a>, AllocError>
     ensures { IfOk result (IsCommand bounds_command) }
 {
@@ -84,7 +84,7 @@ fn bounds_of<'a>(alloc: Global) -> Result<Command<'a>, AllocError>
         .arg(file_of(alloc))
 }
 
-/// `check FILE [--workers N] [--slots N]`.
+/// Returns the subcommand `check FILE [--workers N] [--slots N]`.
 fn check_of<'a>(alloc: Global) -> Result<Command<'a>, AllocError>
     ensures { IfOk result (IsCommand check_command) }
 {
@@ -104,7 +104,7 @@ fn check_of<'a>(alloc: Global) -> Result<Command<'a>, AllocError>
         ))
 }
 
-/// `replay FILE ENTRY SCHEDULE`.
+/// Returns the subcommand `replay FILE ENTRY SCHEDULE`.
 fn replay_of<'a>(alloc: Global) -> Result<Command<'a>, AllocError>
     ensures { IfOk result (IsCommand replay_command) }
 {
@@ -124,7 +124,7 @@ fn replay_of<'a>(alloc: Global) -> Result<Command<'a>, AllocError>
         ))
 }
 
-/// `why FILE [LINE:COL]`.
+/// Returns the subcommand `why FILE [LINE:COL]`.
 fn why_of<'a>(alloc: Global) -> Result<Command<'a>, AllocError>
     ensures { IfOk result (IsCommand why_command) }
 {
@@ -139,7 +139,7 @@ fn why_of<'a>(alloc: Global) -> Result<Command<'a>, AllocError>
         ))
 }
 
-/// The whole command line.
+/// Returns the whole command line.
 pub(crate) fn whole_of<'a>(alloc: Global) -> Result<Command<'a>, AllocError>
     ensures { IfOk result (IsCommand whole_command) }
 {

@@ -1,4 +1,4 @@
--- Arcs, their ends, and the graph that they are.
+-- Arcs, their ends, and the graph that they form.
 use Rattle.std.proofs.Common.{◌≡◌, ℕ, ◌<◌, List, [], ◌∷◌, ◌++◌, length, sym, ap, ◌∙◌, subst, arith, ⊎_elim}
 use Rattle.std.specs.Prelude.{Contains, All}
 use Rattle.std.proofs.lemmas.List.Elements.{All-weaker, Contains-push_cases, Contains-append_left, Contains-push}
@@ -46,7 +46,7 @@ arcs_same numbers edges sign arcs e other h = record {
 pub arcs_within : (numbers : List ℕ) (edges : List Edge) (sign : Sign) (arcs : List Arc) → AreArcs numbers edges sign arcs → AllWithin (length numbers) arcs
 arcs_within numbers edges sign arcs h = all_from (λ a. (a.from < length numbers) × (a.to < length numbers)) arcs (λ a c. let j = (h.right a c).3 in (j.v_in, j.w_in))
 
--- the rows of such arcs are the graph of the edges
+-- the groups of such arcs are the graph of the edges
 pub drawn : (numbers : List ℕ) (edges : List Edge) (sign : Sign) (arcs : List Arc) (graph : List (List ℕ)) → AreArcs numbers edges sign arcs → AreGroups (length numbers) arcs graph → IsDrawn numbers edges (λ e. e.sign ≡ sign) graph
 drawn numbers edges sign arcs graph h groups = record {
   long = groups.long;
@@ -54,7 +54,7 @@ drawn numbers edges sign arcs graph h groups = record {
   all = λ e c s. let r = h.all e c s in (r.0.from, (r.0.to, groups.all r.0.from r.0.to r.1, r.2));
 }
 
--- rows that have arcs of so many vertices have those of the edges
+-- a graph made from these arcs has exactly the arcs of the edges
 pub arcs_made : (numbers : List ℕ) (edges : List Edge) (sign : Sign) (arcs seen : List Arc) (count : ℕ) (graph : List (List ℕ)) → AreArcs numbers edges sign arcs → seen ≡ arcs → count ≡ length numbers
     → (AllWithin count seen → AreGroups count seen graph) → AreGroups (length numbers) arcs graph
 arcs_made numbers edges sign arcs seen count graph are same long made =

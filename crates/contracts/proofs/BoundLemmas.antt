@@ -40,7 +40,7 @@ any_drawn numbers edges sends receives drawn_a drawn_b = record {
 any_all : (walk : List Edge) → All Any walk
 any_all walk = λ k d lt. tt
 
--- what the longest walk of a graph says of the contract
+-- the longest walk of a sign's graph is as long as the bound of that sign
 pub bound_is : (numbers : List ℕ) (edges : List Edge) (sign : Sign) (sends receives graph : List (List ℕ)) (marks : List Bool) (first : StateId) (v n : ℕ)
     → IsOnce numbers → v < length numbers → get_or numbers v 0 ≡ first.0
     → IsDrawn numbers edges (λ e. e.sign ≡ Send) sends → IsDrawn numbers edges (λ e. e.sign ≡ Receive) receives

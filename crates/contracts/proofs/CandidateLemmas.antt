@@ -1,4 +1,4 @@
--- What is wrong with a contract stands in a list that is made from its edges, messages and states.
+-- All flaws of a contract are in one list, made from its edges, messages and states.
 use Rattle.std.proofs.Common.{◌≡◌, ℕ, List, [], ◌∷◌, ◌++◌, Some, sym, subst, inl, inr}
 use Rattle.std.specs.Prelude.{Contains, slice_get}
 use Rattle.std.specs.List.{flat_map}
@@ -13,8 +13,9 @@ use Rattle.contracts.proofs.ConditionLemmas.{against, twice, both}
 use Rattle.contracts.proofs.ListLemmas.{contains_head, contains_tail, contains_either}
 use Rattle.contracts.proofs.RoundLemmas.{round}
 
--- It can't be that no list has exactly those elements of a list of which P holds, though nothing tells of which it holds. Did
--- it hold of the first one, that one and those of the others would be such a list. So it doesn't, and those of the others are one.
+-- It cannot be that no list has exactly the elements for which P holds, although nothing decides P. If P held for the
+-- first element, that one and those of the others would be such a list. So it does not, and those of the others are
+-- one.
 chosen : {X : Type 0} (P : X → Type 0) (from : List X)
     → ((found : List X) → ((x : X) → Contains found x → P x) → ((x : X) → P x → Contains from x → Contains found x) → ⊥) → ⊥
 chosen {X} P [] none = none [] (λ x c. absurd (none_in x c)) (λ x holds c. c)

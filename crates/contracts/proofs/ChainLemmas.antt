@@ -1,4 +1,4 @@
--- Arcs linked from the last to the first, and rows that are made by following the links.
+-- Arcs linked from the last to the first, and groups made by following the links.
 use Rattle.std.proofs.Common.{◌≡◌, ◌==◌, ℕ, zero, suc, ◌+◌, ◌<◌, ◌≤◌, List, [], ◌∷◌, ◌++◌, length, map, get_or, take, drop, sym, refl, ap, ◌∙◌, subst, arith, ⊎_elim}
 use Rattle.std.specs.Prelude.{Contains, All, filter}
 use Rattle.std.proofs.Math.ListN.{set, replicate, length-set, length-append}
@@ -18,7 +18,7 @@ use Rattle.contracts.proofs.SpanLemmas.{closed_more, cut_more, within_more}
 none : Arc
 none = arc 0 0
 
--- an arc that begins there is the first from its place on
+-- an arc that begins at the vertex is the first from its own index on
 first_here : (arcs : List Arc) (v k : ℕ) → start_at arcs k ≡ v → IsFirstArc arcs v k k
 first_here arcs v k is = record { behind = omega arith; none = refl; here = λ _. is }
 
@@ -47,7 +47,7 @@ chained_end arcs count = record {
   next = λ i from lt. absurd (omega (arith, from, lt));
 }
 
--- one arc more, linked to what was first for its vertex, and then the first itself
+-- one arc more: it is linked to the first one of its vertex, and becomes the first itself
 pub chained_more : (arcs : List Arc) (k : ℕ) (firsts nexts : List ℕ) → k < length arcs → start_at arcs k < length firsts → AreChained arcs (k + 1) firsts nexts
     → AreChained arcs k (set firsts (start_at arcs k) k) (set nexts k (get_or firsts (start_at arcs k) 0))
 chained_more arcs k firsts nexts lt within h = record {
@@ -66,7 +66,7 @@ chained_more arcs k firsts nexts lt within h = record {
       (cases_eq i k);
 }
 
--- an arc of a vertex is followed by those behind its link
+-- the ends from an arc of a vertex on: its own, then those from its link on
 pub ends_more : (arcs : List Arc) (v k j : ℕ) → k < length arcs → start_at arcs k ≡ v → IsFirstArc arcs (start_at arcs k) (k + 1) j → ends_from (drop k arcs) v ≡ (get_or arcs k (arc 0 0)).to ∷ ends_from (drop j arcs) v
 ends_more arcs v k j lt is h =
     let a = get_or arcs k (arc 0 0) in
@@ -84,7 +84,7 @@ ends_first arcs v j h = ap (map (λ (x : Arc). x.to)) (sym h.none)
 pub linked : (arcs : List Arc) (firsts nexts : List ℕ) → AreChained arcs 0 firsts nexts → AreChained arcs 0 [] nexts
 linked arcs firsts nexts h = record { long = h.long; first = λ v lt. absurd (omega (arith, lt)); next = h.next }
 
--- the rows of the first n vertices, which are all that the items are
+-- the groups of the first n vertices, which are all of the items
 pub record AreFilled (arcs : List Arc) (n : ℕ) (items ends : List ℕ) : Type 0 where
   pub within : AreWithin items ends
   pub closed : start_of 0 ends (length ends) ≡ length items
@@ -132,7 +132,7 @@ filled_more arcs n items ends end is h = record {
     before (x ∷ lists) l zero lt = refl
     before (x ∷ lists) l (suc v) lt = before lists l v (omega (arith, lt))
 
--- one row more, whose end is put in its place
+-- one group more, whose end is written in its place
 pub filled_put : (arcs : List Arc) (n : ℕ) (items all ends : List ℕ) (end : ℕ) → n < length ends → all ≡ items ++ ends_from arcs n → end ≡ length all → AreFilled arcs n items (take n ends) → AreFilled arcs (n + 1) all (take (n + 1) (set ends n end))
 filled_put arcs n items all ends end lt is to h =
     subst (AreFilled arcs (n + 1) all) (sym (take_more_set ends n end lt))
@@ -144,7 +144,7 @@ filled_all arcs n items ends long h = subst (AreFilled arcs n items) (take_all n
 arc_is : (a : Arc) (v w : ℕ) → a.from ≡ v → a.to ≡ w → a ≡ arc v w
 arc_is a v w from to = ap (λ x. arc x a.to) from ∙ ap (arc v) to
 
--- such rows have exactly the arcs
+-- such groups have exactly the arcs
 pub rows_are : (arcs : List Arc) (n : ℕ) (graph : List (List ℕ)) → AllWithin n arcs → AreEnds arcs n graph → AreGroups n arcs graph
 rows_are arcs n graph range h = record {
   long = h.long;

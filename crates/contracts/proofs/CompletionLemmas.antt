@@ -23,13 +23,13 @@ contains_take xs ys x i le in_i (k, lt, e) =
     let size = length-take-le i (xs ++ ys) in_i in
     (k, omega (arith, lt, le, size), get_or-take i (xs ++ ys) k x (omega (arith, lt, le)) ∙ get_or_append_left xs ys x k lt ∙ e)
 
--- a walk there and another one back make a ring
+-- a walk to another vertex and one back make a ring
 ring_of : (graph : List (List ℕ)) (v w : ℕ) → (v ≡ w → ⊥) → CanReach graph v w → CanReach graph w v → OnRing graph v
 ring_of graph v w differ (zero, walk) back = absurd (differ walk)
 ring_of graph v w differ (suc n, walk) back =
     (n + back.0, subst (λ k. Walk graph v v k) (let e : suc n + back.0 ≡ suc (n + back.0) = omega arith in e) (walk_on graph (suc n) back.0 v w v walk back.1))
 
--- the last component begins at a place, and no arc from there on is left
+-- the last component begins at this index, and no arc from there on is left
 module _ (graph : List (List ℕ)) (statuses : List VertexStatus) (pending rest : List ℕ) (arcs : List Arc) (rings : List Bool) (order : List ℕ) (index : ℕ) (on_ring : Bool)
     (none : (a : Arc) → Contains arcs a → a.from < index)
     (told : TellsComponent graph (drop index pending) on_ring)
@@ -113,7 +113,7 @@ module _ (graph : List (List ℕ)) (statuses : List VertexStatus) (pending rest 
       done)
       (s.followed p w lt edge)
 
-  -- each leads to each
+  -- each vertex of the component reaches each
   together : (i j : ℕ) → i < length pending → index ≤ j → j < length pending → CanReach graph (get_or pending i 0) (get_or pending j 0)
   together i j in_i le in_j = s.joined i j in_i in_j (λ b c _. let last = rising_last rest index b s.bounds_rise c in omega (arith, last, le))
 
@@ -155,7 +155,7 @@ module _ (graph : List (List ℕ)) (statuses : List VertexStatus) (pending rest 
   closed_walk zero u v is walk = sym (ap (status_at statuses) walk) ∙ is
   closed_walk (suc n) u v is walk = closed_walk n walk.0 v (f.closed u walk.0 is walk.1) walk.2
 
-  -- of two places of the component the vertices differ
+  -- different indices of the component have different vertices
   differ : (i j : ℕ) → i < length pending → j < length pending → (i ≡ j → ⊥) → get_or pending i 0 ≡ get_or pending j 0 → ⊥
   differ i j in_i in_j other same = other (pending_same i j (sym (s.held i in_i) ∙ ap (status_at statuses) same ∙ s.held j in_j))
 
@@ -193,7 +193,7 @@ module _ (graph : List (List ℕ)) (statuses : List VertexStatus) (pending rest 
           ∙ ap (λ l. get_or pending index 0 ∷ l) (drop_all (index + 1) pending (omega (arith, few, long)))
           ∙ ap (λ k. get_or pending k 0 ∷ []) (sym first)
 
-  -- the vertices of the component come after what they lead to
+  -- the vertices of the component come after their successors, except those that lead back
   listed_after : (i w : ℕ) → i < length (order ++ drop index pending) → HasEdge graph (get_or (order ++ drop index pending) i 0) w
       → Contains (take i (order ++ drop index pending)) w ⊎ CanReach graph w (get_or (order ++ drop index pending) i 0)
   listed_after i w in_i edge = ⊎_elim
@@ -239,7 +239,7 @@ module _ (graph : List (List ℕ)) (statuses : List VertexStatus) (pending rest 
     after = listed_after;
   }
 
-  -- as many vertices are new
+  -- the number of new vertices is the same
   pub completed_new : count_by is_new more ≡ count_by is_new statuses
   completed_new = written_new statuses (drop index pending) Complete refl
       (λ v c. let r = in_part v c in ap is_new (ap (status_at statuses) (sym r.3) ∙ s.held r.0 r.2))

@@ -45,7 +45,7 @@ room_same n statuses new pending more order list a b c room =
     let f = ap length c in
     omega (arith, d, e, f, room)
 
--- an arc is taken off whose end is settled
+-- an arc with a settled end is taken off
 pub arc_off : (graph : List (List ℕ)) (statuses : List VertexStatus) (pending bounds : List ℕ) (rest : List Arc) (from end : ℕ) → IsFollowed statuses bounds from end
     → IsSearch graph statuses pending bounds (rest ++ arc from end ∷ []) → IsSearch graph statuses pending bounds rest
 arc_off graph statuses pending bounds rest from end is s = record {
@@ -96,7 +96,7 @@ joined_to graph statuses pending bounds new arcs from index in_from in_place edg
   first = λ some. kept.all 0 (s.first some) (omega arith);
 }
 
--- where no component is begun, each vertex that was met is in a complete one
+-- if no component is begun, each vertex that was met is in a complete one
 pub all_complete : (graph : List (List ℕ)) (statuses : List VertexStatus) (pending bounds : List ℕ) (arcs : List Arc) → IsSearch graph statuses pending bounds arcs → pending ≡ [] → (v : ℕ) → (status_at statuses v ≡ New → ⊥) → status_at statuses v ≡ Complete
 all_complete graph statuses pending bounds arcs s idle v met = ⊎_elim
     (λ new. absurd (met new))
@@ -106,7 +106,7 @@ all_complete graph statuses pending bounds arcs s idle v met = ⊎_elim
     other)
     (status_cases (status_at statuses v))
 
--- the last arc that is left, from the last component
+-- the last arc that is left, which begins in the last component
 module _ (graph : List (List ℕ)) (statuses : List VertexStatus) (pending bounds : List ℕ) (arcs : List Arc) (end : ℕ) (s : IsSearch graph statuses pending bounds arcs) (next : IsNextEnd arcs bounds end) where
   edge : (next.1.0 < length pending) × HasEdge graph (get_or pending next.1.0 0) end
   edge = s.left (arc next.1.0 end) (subst (λ l. Contains l (arc next.1.0 end)) (sym next.1.1) (Contains-push next.0 (arc next.1.0 end)))

@@ -23,7 +23,7 @@ use Rattle.contracts.specs.Found.{FoundBelow}
 use Rattle.contracts.proofs.FoundLemmas.{found_same, found_more}
 use Rattle.contracts.proofs.PartLemmas.{get_again}
 
--- of two elements with one key, where each key stands once
+-- two elements with one key are one, if each key occurs once
 pub once : {A B : Type 0} (key : A → B) (xs : List A) → AllPairs (λ x y. x ≢ y) (map key xs) → (x y : A) → Contains xs x → Contains xs y → key x ≡ key y → x ≡ y
 once key xs apart x y c d same =
     let size = length-map xs key in
@@ -89,7 +89,7 @@ keys_same d e state message = ap (λ (x : StateId). pair x.0 d.message.0) state 
     pair : ℕ → ℕ → ℕ × ℕ
     pair a b = (a, b)
 
--- what is to be found at the edge at the index k of the order
+-- the finding at the edge with index k in the order
 abbrev pub TwiceAt : List MessageModel → List Edge → List ℕ → ℕ → FindingModel → Type 0
 TwiceAt messages edges order k = IsTwice messages edges (get_or order k 0)
 

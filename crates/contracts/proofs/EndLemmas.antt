@@ -51,7 +51,7 @@ head_is m n ms ns e = cc
 tail_is : (m n : MessageId) (ms ns : List MessageId) → m ∷ ms ≡ n ∷ ns → ms ≡ ns
 tail_is m n ms ns e = cc
 
--- the front of a walk is taken
+-- the first message of a path is taken
 path_tail : (edges : List Edge) (s : Sign) (p : StateId) (m : MessageId) (q u : StateId) (ms rest : List MessageId) → IsDirected edges → Path edges s p ms q → ms ≡ m ∷ rest → Leads edges p m s u → Path edges s u rest q
 path_tail edges s p m q u [] rest sound walk is edge = absurd (nil_cons m rest is)
 path_tail edges s p m q u (n ∷ ms) rest sound walk is edge =
@@ -65,12 +65,12 @@ takes_front edges s old new sound h m = record {
       (path_tail edges s (old.state (opposite s)) m.message (old.state s) (new.state (opposite s)) (old.queue s) (new.queue s) sound h.walk m.taken m.edge);
 }
 
--- where a state has an edge of the other sign, the walk from it is empty
+-- if a state has an edge of the other sign, the walk from it is empty
 walk_none : (edges : List Edge) (s t : Sign) (p : StateId) (m : MessageId) (q u : StateId) (ms : List MessageId) → IsDirected edges → (s ≡ t → ⊥) → Path edges s p ms q → Leads edges p m t u → (ms ≡ []) × (p ≡ q)
 walk_none edges s t p m q u [] sound differ walk edge = (refl, walk)
 walk_none edges s t p m q u (n ∷ ms) sound differ walk edge = absurd (differ (sound.one_way p n m s t walk.0 u walk.1 edge))
 
--- what is held by the one side and sent by the other
+-- a send by the peer swaps the roles of the two sides
 turns : (edges : List Edge) (s t : Sign) (old new : Ends) → IsDirected edges → opposite t ≡ s → opposite s ≡ t → (s ≡ t → ⊥) → Holds edges s old → Sends edges t old new → Holds edges t new
 turns edges s t old new sound nt ns differ h m =
     let at : Path edges s (old.state t) (old.queue s) (old.state s) = subst (λ x. Path edges s (old.state x) (old.queue s) (old.state s)) ns h.walk in
@@ -88,7 +88,7 @@ turns edges s t old new sound nt ns differ h m =
 none_taken : (edges : List Edge) (s t : Sign) (old new : Ends) → opposite s ≡ t → Holds edges s old → TakesFront edges t old new → ⊥
 none_taken edges s t old new ns h m = nil_cons m.message (new.queue t) (sym (sym (ap old.queue ns) ∙ h.empty) ∙ m.taken)
 
--- the four moves of one that is held
+-- `Holds` for one of the signs, which each of the four moves keeps
 abbrev Held : List Edge → Ends → Type 0
 Held edges ends = Holds edges Send ends ⊎ Holds edges Receive ends
 
@@ -111,7 +111,7 @@ walk_path : (edges : List Edge) (s : Sign) (walk : List Edge) (p q : StateId) �
 walk_path edges s [] p q leads signs = leads
 walk_path edges s (e ∷ walk) p q leads signs = (e.to, (e, leads.0, leads.1, refl, All-head (λ (x : Edge). x.sign ≡ s) e walk signs, refl), walk_path edges s walk e.to q leads.2 (All-tail (λ (x : Edge). x.sign ≡ s) e walk signs))
 
--- and a walk a path
+-- and a walk is a path
 record Walked (edges : List Edge) (s : Sign) (p : StateId) (ms : List MessageId) (q : StateId) : Type 0 where
   walk : List Edge
   leads : IsWalk edges p walk q
@@ -189,14 +189,14 @@ never_longer parts n ends s bound whole sound b moves = within parts.edges parts
     (moves_reached parts.edges parts.first n (ends_at_start parts.first) ends (λ _. ([], refl)) moves)
     (held_always parts n ends whole sound moves)
 
--- what the side s has, and its peer
+-- what the side s has, and what its peer has
 pick : {X : Type 0} → Sign → X → X → Sign → X
 pick Send a b Send = a
 pick Send a b Receive = b
 pick Receive a b Send = b
 pick Receive a b Receive = a
 
--- the side s has gone on to q and sent these, and its peer is at p
+-- the side s is in q and has sent these messages, and its peer is in p
 far : Sign → StateId → StateId → List MessageId → Ends
 far s p q ms = record { state = pick s q p; queue = pick s ms [] }
 

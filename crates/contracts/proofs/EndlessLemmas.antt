@@ -1,4 +1,4 @@
--- Vertices from which walks can be as long as one likes, and heights that wait for them.
+-- Vertices from which walks can be arbitrarily long, and heights that wait for them.
 use Rattle.std.proofs.Common.{◌≡◌, ℕ, suc, ◌+◌, ◌<◌, ◌≤◌, List, length, take, get_or, Option, Some, None, sym, refl, ◌∙◌, subst, arith, ⊎_elim, true}
 use Rattle.std.specs.Prelude.{All, Contains, IsTrue, is_some}
 use Rattle.std.proofs.lemmas.Bool.{true≢false}
@@ -20,11 +20,11 @@ edge_endless graph v w edge more n = let r = more n in let le = r.1 in (suc r.0,
 no_height : (graph : List (List ℕ)) (v n : ℕ) → IsHeight graph v n → Endless graph v → ⊥
 no_height graph v n h more = let r = more (suc n) in let le = r.1 in let most = h.most r.2.0 r.0 r.2.1 in absurd (omega (arith, le, most))
 
--- if the height is not known, there is none, and an edge shows why
+-- if the height is unknown, there is none, and an edge shows why
 abbrev pub Waits : List (List ℕ) → List (Option ℕ) → ℕ → Type 0
 Waits graph heights v = height_at heights v ≡ None → (w : ℕ) × HasEdge graph v w × Endless graph w
 
--- a vertex waits once it was looked at, since its successors either were before it or lead back
+-- a vertex that was looked at waits, since its successors were looked at before it or lead back
 pub waits_next : (graph : List (List ℕ)) (order : List ℕ) (heights : List (Option ℕ)) (i : ℕ) → ComeAfter graph order → i < length order
     → ((k : ℕ) → k < i → Waits graph heights (get_or order k 0)) → IsHeightSettled graph heights (get_or order i 0) → Waits graph heights (get_or order i 0)
 waits_next graph order heights i after lt before settled none =
@@ -68,7 +68,7 @@ heights_all graph order heights p f waits = record {
         let more = waits k lt (subst (λ x. height_at heights x ≡ None) (sym at) none) in
         record { to = more.0; edge = subst (λ x. HasEdge graph x more.0) at more.1; none = still_none more.0 more.2 (height_at heights more.0) refl }
 
--- where all heights are known, they are all there are
+-- if all heights are known, they are the heights of the graph
 pub heights_known : (graph : List (List ℕ)) (heights : List (Option ℕ)) → IsPeeled graph heights → All (λ h. IsTrue (is_some h)) heights → AreHeights graph heights
 heights_known graph heights p known = record {
   long = p.long;

@@ -18,7 +18,7 @@ use Rattle.contracts.proofs.RisingLemmas.{rising_append, only, one_rises}
 use Rattle.contracts.proofs.StatusLemmas.{pending_same}
 use Rattle.contracts.proofs.ComponentLemmas.{leads_here}
 
--- a new vertex is entered to which all pending ones lead
+-- a new vertex is entered, and all pending ones lead to it
 module _ (graph : List (List ℕ)) (statuses : List VertexStatus) (pending bounds : List ℕ) (arcs : List Arc) (v : ℕ) (in_v : v < length graph)
     (new : status_at statuses v ≡ New) (leads : (i : ℕ) → i < length pending → CanReach graph (get_or pending i 0) v) (s : IsSearch graph statuses pending bounds arcs) where
   abbrev more : List VertexStatus
@@ -42,7 +42,7 @@ module _ (graph : List (List ℕ)) (statuses : List VertexStatus) (pending bound
   abbrev ends : List Arc
   ends = map (arc (length pending)) (group_at graph v)
 
-  -- it leads to what follows in its own component
+  -- each pending vertex leads to all that are not before its component
   met_leads : (i j : ℕ) → i < length (pending ++ v ∷ []) → j < length (pending ++ v ∷ []) → NotBefore (bounds ++ length pending ∷ []) i j
       → CanReach graph (get_or (pending ++ v ∷ []) i 0) (get_or (pending ++ v ∷ []) j 0)
   met_leads i j in_i in_j h = ⊎_elim

@@ -12,14 +12,14 @@ use Rattle.contracts.specs.Arcs.{IsDrawn}
 use Rattle.contracts.specs.Graphs.{HasEdge, group_at}
 use Rattle.contracts.proofs.PartLemmas.{IsOnce, at_place}
 
--- where a row isn't empty, an edge begins at its state
+-- if a group is not empty, an edge begins at its state
 pub leaves : (numbers : List ℕ) (edges : List Edge) (Has : Edge → Type 0) (graph : List (List ℕ)) (v : ℕ) → IsDrawn numbers edges Has graph → (length (group_at graph v) ≡ 0 → ⊥) → (e : Edge) × Contains edges e × (e.from.0 ≡ get_or numbers v 0) × Has e
 leaves numbers edges Has graph v h some =
     let lt : 0 < length (group_at graph v) = grind (arith, some) in
     let r = h.right v (get_or (group_at graph v) 0 0) (at_place (group_at graph v) 0 0 lt) in
     (r.0, r.1, sym r.3.from, r.2)
 
--- where it is, none does
+-- if it is empty, no edge does
 pub none_leave : (numbers : List ℕ) (edges : List Edge) (Has : Edge → Type 0) (graph : List (List ℕ)) (v : ℕ) → IsOnce numbers → IsDrawn numbers edges Has graph → v < length numbers → length (group_at graph v) ≡ 0 → (e : Edge) → Contains edges e → Has e → e.from.0 ≡ get_or numbers v 0 → ⊥
 none_leave numbers edges Has graph v once h lt none e c has from =
     let r = h.all e c has in
@@ -31,7 +31,7 @@ none_leave numbers edges Has graph v once h lt none e c has from =
 abbrev id_of : ℕ → StateId
 id_of n = record { 0 = n }
 
--- the number at a state's place
+-- the number of the state at an index
 pub state_number : (names : List ℕ) (states : List State) (i : ℕ) (s : StateModel) → slice_get (map (state_model names) states) i ≡ Some s → get_or (map (λ (x : State). x.id.0) states) i 0 ≡ s.id.0
 state_number names states i s at = walk states i (let lt = slice_get_within (map (state_model names) states) i s at in let size = length-map states (state_model names) in omega (arith, lt, size)) (get_or_from_slice_get (map (state_model names) states) i s s at)
   where
@@ -40,7 +40,7 @@ state_number names states i s at = walk states i (let lt = slice_get_within (map
     walk (x ∷ xs) zero lt e = ap (λ (y : StateModel). y.id.0) e
     walk (x ∷ xs) (suc i) lt e = walk xs i (omega (arith, lt)) e
 
--- the same of a state by its number
+-- the same for a state by its number
 pub leaves_state : (numbers : List ℕ) (edges : List Edge) (Has : Edge → Type 0) (graph : List (List ℕ)) (v : ℕ) (q : StateId) → IsDrawn numbers edges Has graph → get_or numbers v 0 ≡ q.0 → not (length (group_at graph v) == 0) ≡ true → (e : Edge) × Contains edges e × (e.from ≡ q) × Has e
 leaves_state numbers edges Has graph v q h at some =
     let r = leaves numbers edges Has graph v h (λ none. true≢false (sym some ∙ ap not (eq-eqb (length (group_at graph v)) 0 none))) in
@@ -52,7 +52,7 @@ none_leave_state numbers edges Has graph v q once h lt at none e c has from =
     (⊎_elim (λ zero'. eqb-true (length (group_at graph v)) 0 zero') (λ more. absurd (true≢false (sym (ap not more) ∙ none))) (cases_Bool (length (group_at graph v) == 0)))
     e c has (ap (λ (x : StateId). x.0) from ∙ sym at)
 
--- the mark of a vertex is whether its row has something
+-- a vertex is marked exactly if its group has an element
 pub marked_leaves : (graph : List (List ℕ)) (marks : List Bool) (v : ℕ) (mark : Bool) → marks ≡ map (λ group. not (length group == 0)) graph → v < length graph → mark ≡ get_or marks v mark → mark ≡ not (length (group_at graph v) == 0)
 marked_leaves graph marks v mark is lt at =
     at ∙ ap (λ l. get_or l v mark) is ∙ get_or-map (λ group. not (length group == 0)) graph v [] mark lt

@@ -22,23 +22,24 @@ use Rattle.contracts.proofs.PartLemmas.{all_from, contains_map}
 use Rattle.contracts.proofs.ListLemmas.{made_from}
 use Rattle.contracts.proofs.RoundLemmas.{round}
 
--- Where none is the greatest, each has one above it, and so on past the limit. The rest up to there becomes less each time.
+-- If no number is the greatest, each has one above it, and so on past the limit. The distance to the limit falls each
+-- time.
 above : (P : ℕ → Type 0) (limit : ℕ) → ((n : ℕ) → P n → n ≤ limit) → ((n : ℕ) → P n → ((m : ℕ) → P m → m ≤ n) → ⊥)
     → (rest n : ℕ) → limit < n + rest → P n → ⊥
 above P limit within none zero n far is = let le = within n is in omega (arith, far, le)
 above P limit within none (suc rest) n far is = none n is
     (λ m more. ⊎_elim (λ less. absurd (above P limit within none rest m (omega (arith, less, far)) more)) (λ le. le) (cases_lt n m))
 
--- It can't be that of some numbers up to a limit none is the greatest.
+-- It cannot be that numbers up to a limit have no greatest one.
 greatest : (P : ℕ → Type 0) (limit n : ℕ) → ((m : ℕ) → P m → m ≤ limit) → P n → ((m : ℕ) → P m → ((k : ℕ) → P k → k ≤ m) → ⊥) → ⊥
 greatest P limit n within is none = above P limit within none (suc limit) n (omega arith) is
 
--- numbers that differ and stand in a list are no more than it has
+-- different numbers of a list are no more than the list has
 no_more : (xs ys : List ℕ) → AllPairs (λ x y. x ≢ y) xs → ((x : ℕ) → Contains xs x → Contains ys x) → length xs ≤ length ys
 no_more xs ys apart stands = length-le_from_is_member nat_eq_equiv xs ys (IsDistinct-from_AllPairs Decides-eqb xs apart)
     (λ q is. list_any-from_Contains nat_eq_equiv q ys (stands q (Contains-from_any eqb-true q xs is)))
 
--- what comes of a walk before one of its edges, and that this edge stands in the list
+-- the part of a walk before one of its edges; that edge is in the list
 record Until (edges : List Edge) (sign : Sign) (p : StateId) (e : Edge) : Type 0 where
   before : List Edge
   leads : IsWalk edges p before e.from
@@ -85,7 +86,7 @@ comes_back edges sign e d walk p q leads signs c same =
       one_sign = All-cons Signed e u.before (All-head Signed e walk signs) u.one_sign;
     }
 
--- where no edges of a sign lead round, a walk of it leaves no state twice
+-- if edges of a sign lead round no state, a walk of that sign leaves no state twice
 left_once : (edges : List Edge) (sign : Sign) → ((e : Edge) → Contains edges e → IsRoundBy edges sign e.from → ⊥)
     → (walk : List Edge) (p q : StateId) → IsWalk edges p walk q → HasSign sign walk → AllPairs (λ x y. x ≢ y) (map left_number walk)
 left_once edges sign quiet [] p q leads signs = λ i j d less lt same. absurd (omega (arith, lt))
@@ -96,7 +97,7 @@ left_once edges sign quiet (e ∷ walk) p q leads signs = AllPairs-cons (λ x y.
     differs : (d : Edge) → Contains walk d → left_number e ≢ left_number d
     differs d c same = quiet e leads.0 (comes_back edges sign e d walk p q leads signs c same)
 
--- the state that an edge leaves is listed, so no edges of one sign lead round it in a sound contract
+-- in a sound contract, edges of one sign do not lead round a state that an edge leaves, since that state is listed
 sound_quiet : (parts : Parts) → IsWhole parts → IsSound parts → (sign : Sign) (e : Edge) → Contains parts.edges e
     → IsRoundBy parts.edges sign e.from → ⊥
 sound_quiet parts whole sound sign e c by =
@@ -105,7 +106,7 @@ sound_quiet parts whole sound sign e c by =
     let by_state : IsRoundBy parts.edges sign s.0.id = subst (IsRoundBy parts.edges sign) (sym s.2) by in
     sound (round s.0) (s.1.0, inr (inr (inr (record { state = s.0; at = at; sign = sign; round = by_state; is = refl }))))
 
--- a walk of one sign is no longer than there are states
+-- a walk of one sign has no more edges than there are states
 walk_short : (parts : Parts) → IsWhole parts → IsSound parts → (sign : Sign) (walk : List Edge) (p q : StateId)
     → IsWalk parts.edges p walk q → HasSign sign walk → length walk ≤ length parts.states
 walk_short parts whole sound sign walk p q leads signs =
@@ -125,7 +126,7 @@ walk_short parts whole sound sign walk p q leads signs =
         let u = until parts.edges sign walk p q e.0 leads signs e.1 in
         subst (Contains (map number (state_ids parts))) e.2 (contains_map number (state_ids parts) e.0.from (whole.from e.0 u.listed))
 
--- a walk of the sign from a state that can be reached has this length
+-- a walk of this sign and length begins at a state that can be reached
 record HasWalk (edges : List Edge) (first : StateId) (sign : Sign) (n : ℕ) : Type 0 where
   from : StateId
   to : StateId
@@ -136,7 +137,7 @@ record HasWalk (edges : List Edge) (first : StateId) (sign : Sign) (n : ℕ) : T
   one_sign : HasSign sign walk
   long : length walk ≡ n
 
--- It can't be that a sound contract has no bound.
+-- It cannot be that a sound contract has no bound.
 pub bound_there : (parts : Parts) → IsWhole parts → IsSound parts → (sign : Sign)
     → ((n : ℕ) → IsBound parts.edges parts.first sign n → ⊥) → ⊥
 bound_there parts whole sound sign none = greatest (HasWalk edges first sign) (length parts.states) 0 short empty longest

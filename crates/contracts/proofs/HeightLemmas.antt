@@ -1,4 +1,4 @@
--- Where no vertex lies on a ring, each height is known.
+-- If no vertex is on a ring, each height is known.
 use Rattle.std.proofs.Common.{◌≡◌, ℕ, zero, suc, ◌+◌, ◌<◌, ◌≤◌, List, [], ◌∷◌, length, get_or, Option, Some, None, Bool, true, false, sym, refl, ap, ◌∙◌, subst, arith, ⊎_elim}
 use Rattle.std.specs.Prelude.{All, Contains, IsTrue, ◌⊎◌, is_some, unwrap_or}
 use Rattle.std.proofs.Math.ListN.{set, length-set, replicate}
@@ -13,7 +13,7 @@ use Rattle.contracts.specs.Reached.{IsLongest, counted_height}
 use Rattle.contracts.proofs.MarkLemmas.{unmarked_set, marked_in}
 use Rattle.contracts.proofs.Rings.{in_row, no_ring, walk_on}
 
--- from a vertex without a height one comes to a ring; the marked ones were passed
+-- walks from a vertex without a height arrive at a ring; the marked vertices were passed
 ring_from : (graph : List (List ℕ)) (heights : List (Option ℕ)) → InRange graph → ((v : ℕ) → v < length graph → IsHeightSettled graph heights v)
     → (fuel : ℕ) (marks : List Bool) (v : ℕ) → length marks ≡ length graph → count_of_unmarked marks ≡ fuel → v < length graph → height_at heights v ≡ None
     → ((u : ℕ) → IsMarked marks u → (n : ℕ) × Walk graph u v (suc n)) → (u : ℕ) × OnRing graph u
@@ -89,7 +89,7 @@ pub counted_le : (o : Option ℕ) (k : ℕ) (mark : Bool) → o ≡ Some k → c
 counted_le o k true is = let e = ap (λ x. unwrap_or x 0) is in omega (arith, e)
 counted_le o k false is = omega arith
 
--- a height that is counted is less than a number below which all known heights are
+-- a counted height is below any number that all known heights are below
 pub counted_below : (o : Option ℕ) (mark : Bool) (count : ℕ) → 0 < count → ((n : ℕ) → o ≡ Some n → n < count) → counted_height o mark < count
 counted_below o false count some all = some
 counted_below (Some n) true count some all = all n refl
@@ -99,7 +99,7 @@ pub only_one : (x s : ℕ) → Contains (x ∷ []) s → x ≡ s
 only_one x s (zero, lt, e) = e
 only_one x s (suc k, lt, e) = absurd (omega (arith, lt))
 
--- where each vertex has a longest walk, none lies on a ring: from a ring, its longest walk could be made longer
+-- if each vertex has a longest walk, none is on a ring: going round would make that walk longer
 pub quiet : (graph : List (List ℕ)) (heights : List (Option ℕ)) → AreHeights graph heights → All (λ h. IsTrue (is_some h)) heights → (v : ℕ) → OnRing graph v → ⊥
 quiet graph heights h known v ring =
     let lt = in_row graph v ring.1.0 ring.1.1 in
@@ -111,7 +111,7 @@ quiet graph heights h known v ring =
     some_there None is = absurd (true≢false (sym is))
     some_there (Some n) is = (n, refl)
 
--- and so none is marked
+-- so no vertex is marked
 pub quiet_rings : (graph : List (List ℕ)) (heights : List (Option ℕ)) (marks : List Bool) → AreHeights graph heights → All (λ h. IsTrue (is_some h)) heights → marks ≡ replicate (length graph) false → AreRings graph marks
 quiet_rings graph heights marks h known is = record {
   long = ap length is ∙ length-replicate (length graph) false;

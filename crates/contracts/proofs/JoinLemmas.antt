@@ -17,7 +17,7 @@ joined_length [] b same = same
 joined_length (r ∷ rs) [] same = refl
 joined_length (r ∷ rs) (o ∷ os) same = ap suc (joined_length rs os (omega (arith, same)))
 
--- the rows of one of them stay within both
+-- a group of one of them stays within both
 pub row_within : (graph : List (List ℕ)) (group : List ℕ) (n v : ℕ) → InRange graph → length graph ≡ n → group ≡ group_at graph v → All (λ w. w < n) group
 row_within graph group n v range same is =
     subst (All (λ w. w < n)) (sym is) (subst (λ k. All (λ w. w < k) (group_at graph v)) same (range v))

@@ -43,14 +43,14 @@ is_same Receive Receive h = refl
 is_same Send Receive h = cc
 is_same Receive Send h = cc
 
--- tests that agree on a list keep the same of it
+-- tests that agree on a list keep the same elements of it
 filter_same : {A : Type 0} (p r : A → Bool) (xs : List A) → ((x : A) → Contains xs x → p x ≡ r x) → filter p xs ≡ filter r xs
 filter_same p r [] each = refl
 filter_same p r (x ∷ xs) each =
     ap (λ l. cond (p x) (x ∷ l) l) (filter_same p r xs (λ y c. each y (contains_tail x y xs c)))
     ∙ ap (λ b. cond b (x ∷ filter r xs) (filter r xs)) (each x (contains_head x xs))
 
--- where nothing in a list passes, nothing is kept
+-- if nothing in a list passes, nothing is kept
 pub none_pass : {A : Type 0} (p : A → Bool) (xs : List A) → ((x : A) → Contains xs x → p x ≡ true → ⊥) → filter p xs ≡ []
 none_pass p [] each = refl
 none_pass p (x ∷ xs) each = cond-false (p x) (x ∷ filter p xs) (filter p xs) (false_from_ne_true (p x) (each x (contains_head x xs))) ∙ none_pass p xs (λ y c. each y (contains_tail x y xs c))
@@ -59,7 +59,7 @@ from_same : (e d : Edge) (q : ℕ) → (e.from.0 == q) ≡ true → (d.from.0 ==
 unfolding state_of
 from_same e d q here there = ap state_of (eqb-true e.from.0 q here ∙ sym (eqb-true d.from.0 q there))
 
--- where one edge from a state of a sound contract has the sign, all have
+-- if one edge from a state of a sound contract has the sign, all have
 pub all_of_sign : (parts : Parts) → ∥ IsWhole parts ∥₁ → IsSound parts → (s : Sign) (q : ℕ) (d : Edge) → Contains (all_from parts.edges q) d → d.sign ≡ s → all_from parts.edges q ≡ edges_from parts.edges s q
 all_of_sign parts whole sound s q d c is = ∥∥₁_elim whole (Prim.hlevel props) (λ w.
     let kept = kept_in (λ (x : Edge). x.from.0 == q) parts.edges d c in
@@ -68,7 +68,7 @@ all_of_sign parts whole sound s q d c is = ∥∥₁_elim whole (Prim.hlevel pro
     (λ other. other ∙ sym (false_from_ne_true (leaves s q e) (λ both. true≢false (sym (and_parts (e.from.0 == q) (same_sign e.sign s) both).0 ∙ other))))
     (cases_Bool (e.from.0 == q))))
 
--- and where one has the other sign, none has it
+-- if one has the other sign, none has it
 pub none_of_sign : (parts : Parts) → ∥ IsWhole parts ∥₁ → IsSound parts → (s : Sign) (q : ℕ) (d : Edge) → Contains (all_from parts.edges q) d → (d.sign ≡ s → ⊥) → [] ≡ edges_from parts.edges s q
 none_of_sign parts whole sound s q d c other =
     let kept = kept_in (λ (x : Edge). x.from.0 == q) parts.edges d c in
@@ -89,7 +89,7 @@ pub none_first : (edges : List Edge) → slice_get edges 0 ≡ None → edges �
 none_first [] is = refl
 none_first (e ∷ edges) is = cc
 
--- where no edge leaves a state, none of the sign does
+-- if no edge leaves a state, none of the sign does
 pub none_from : (edges : List Edge) (s : Sign) (q : ℕ) → all_from edges q ≡ [] → [] ≡ edges_from edges s q
 none_from edges s q none = sym (none_pass (leaves s q) edges (λ e there passes.
     none_in e (subst (λ l. Contains l e) none (in_kept (λ (x : Edge). x.from.0 == q) edges e there (and_parts (e.from.0 == q) (same_sign e.sign s) passes).0))))
@@ -140,23 +140,23 @@ end_some edges s q m e h one = ⊎_elim
     (λ some. sym (some.3 ∙ ap (λ (x : Edge). Some x.to.0) (one some.0 (on_from edges s q m some.0 some.1 some.2))))
     (ended (edges_from edges s q.0) m.0)
 
--- where the state has no edge on the message, none leads anywhere
+-- if the state has no edge on the message, the message leads nowhere
 pub no_end : (edges : List Edge) (s : Sign) (q : StateId) (m : MessageId) → IsNext edges q m None → None ≡ end_on (edges_from edges s q.0) m.0
 no_end edges s q m none = end_none edges s q m (λ d h. none d h.listed h.from h.on)
 
--- where its edge on the message has the sign, the message leads to the end of that edge
+-- if its edge on the message has the sign, the message leads to the end of that edge
 pub end_there : (parts : Parts) → ∥ IsWhole parts ∥₁ → IsSound parts → (s : Sign) (q : StateId) (m : MessageId) (e : Edge) → Contains parts.edges e → e.from ≡ q → e.message ≡ m → e.sign ≡ s → Some e.to.0 ≡ end_on (edges_from parts.edges s q.0) m.0
 end_there parts whole sound s q m e c from on sign = ∥∥₁_elim whole (Prim.hlevel props) (λ w.
     end_some parts.edges s q m e (record { listed = c; from = from; on = on; sign = sign })
     (λ d h. same_edge parts w sound d e h.listed c (h.from ∙ sym from) (h.on ∙ sym on)))
 
--- and where it has the other sign, nowhere
+-- if it has the other sign, the message leads nowhere
 pub end_elsewhere : (parts : Parts) → ∥ IsWhole parts ∥₁ → IsSound parts → (s : Sign) (q : StateId) (m : MessageId) (e : Edge) → Contains parts.edges e → e.from ≡ q → e.message ≡ m → (e.sign ≡ s → ⊥) → None ≡ end_on (edges_from parts.edges s q.0) m.0
 end_elsewhere parts whole sound s q m e c from on other = ∥∥₁_elim whole (Prim.hlevel props) (λ w.
     end_none parts.edges s q m
     (λ d h. other (sym (ap (λ (x : Edge). x.sign) (same_edge parts w sound d e h.listed c (h.from ∙ sym from) (h.on ∙ sym on))) ∙ h.sign)))
 
--- an edge of a contract ends in a state with a number that a state may have
+-- an edge of a contract ends in a state with an allowed number
 pub to_numbered : (parts : Parts) → ∥ IsWhole parts ∥₁ → (e : Edge) → Contains parts.edges e → e.to.0 < MOST_STATES
 to_numbered parts whole e c = ∥∥₁_elim whole (Prim.hlevel props) (λ w.
     All-contains (λ (q : StateId). q.0 < MOST_STATES) (state_ids parts) e.to w.numbered (w.to e c))
@@ -179,7 +179,7 @@ name_nowhere (m ∷ messages) x none =
     name_nowhere messages x (λ n c. none n (contains_tail m n messages c))
     ∙ sym (cond-false (m.id.0 == x) (string_bytes m.name) (name_among (map message_model messages) x) (false_from_ne_true (m.id.0 == x) (λ e. none m (contains_head m messages) (eqb-true m.id.0 x e))))
 
--- at the position of a number stands the first message that has it
+-- the first message with a number is at the position of that number
 pub name_there : (messages : List Message) (numbers : Listing) (x i : ℕ) (d : Message) → numbers_of numbers ≡ map (λ (m : Message). m.id.0) messages → i < length (numbers_of numbers) → get_or (numbers_of numbers) i 0 ≡ x → string_bytes (get_or messages i d).name ≡ name_among (map message_model messages) x
 name_there messages numbers x i d named lt is = name_first messages x i d (below i lt) (at i lt ∙ is) (λ k less same.
     let a = group k (omega (arith, less, lt)) in
@@ -196,7 +196,7 @@ name_there messages numbers x i d named lt is = name_first messages x i d (below
     at : (k : ℕ) → k < length (numbers_of numbers) → (get_or messages k d).id.0 ≡ get_or (numbers_of numbers) k 0
     at k less = sym (ap (λ l. get_or l k 0) named ∙ get_or-map (λ (m : Message). m.id.0) messages k d 0 (below k less))
 
--- where a number is not listed, no message has it
+-- if a number is not listed, no message has it
 pub no_name : (messages : List Message) (numbers : List ℕ) (x : ℕ) → numbers ≡ map (λ (m : Message). m.id.0) messages → (Contains numbers x → ⊥) → [] ≡ name_among (map message_model messages) x
 no_name messages numbers x named other = name_nowhere messages x (λ m c is.
     other (subst (λ l. Contains l x) (sym named) (subst (Contains (map (λ (m : Message). m.id.0) messages)) is (contains_map (λ (m : Message). m.id.0) messages m c))))

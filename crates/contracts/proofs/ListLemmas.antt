@@ -1,4 +1,4 @@
--- What a list contains, and what a filter and a map make of it.
+-- The elements of a list, of a filtered list and of a mapped one.
 use Rattle.std.proofs.Common.{◌≡◌, zero, suc, List, [], ◌∷◌, map, true, Bool, sym, refl, ap, ◌∙◌, subst, arith, ⊎_elim}
 use Rattle.std.specs.Prelude.{Contains, filter}
 use Rattle.std.proofs.lemmas.Bool.{true≢false, cases_Bool, cond-true, cond-false}
@@ -14,7 +14,7 @@ pub contains_either : {A : Type 0} (P : Type 0) (y x : A) (xs : List A) → Cont
 contains_either P y x xs (zero, lt, e) first rest = first e
 contains_either P y x xs (suc k, lt, e) first rest = rest (k, omega (arith, lt), e)
 
--- what a filter keeps
+-- what a filter keeps is in the list and passes
 pub kept_in : {A : Type 0} (p : A → Bool) (xs : List A) (x : A) → Contains (filter p xs) x → Contains xs x × (p x ≡ true)
 kept_in p [] x c = absurd (none_in x c)
 kept_in p (y ∷ ys) x c = ⊎_elim
@@ -37,7 +37,7 @@ in_kept p (y ∷ ys) x c passes = ⊎_elim
     (λ later. in_kept p ys x later passes)))
     (cases_Bool (p y))
 
--- what a map makes comes from something
+-- each element of a mapped list comes from one of the list
 pub made_from : {A B : Type 0} (f : A → B) (xs : List A) (y : B) → Contains (map f xs) y → (x : A) × Contains xs x × (f x ≡ y)
 made_from {A} {B} f [] y c = absurd (none_in y c)
 made_from {A} {B} f (x ∷ xs) y c = contains_either ((z : A) × Contains (x ∷ xs) z × (f z ≡ y)) (f x) y (map f xs) c

@@ -32,7 +32,7 @@ next_none edges q m none = λ e c from on.
     let there = position_there (λ x. is_eq (pair_cmp (key q m) x)) (map key_of edges) (key_of e) (contains_map key_of edges e c) (equal_pair (key q m) (key_of e) same) in
     some_none there.at _ there.is none
 
--- what stands at the position
+-- the edge at the position
 pub record Found (edges : List Edge) (q : StateId) (m : MessageId) (i : ℕ) (e : Edge) : Type 0 where
   pub within : i < length edges
   pub from : get_or edges i e ≡ e → e.from ≡ q

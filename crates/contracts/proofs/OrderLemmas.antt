@@ -14,7 +14,7 @@ use Rattle.contracts.specs.Positions.{first_with, key_of, pair_cmp}
 use Rattle.contracts.proofs.PartLemmas.{get_again}
 use Rattle.contracts.proofs.PositionLemmas.{is_first, pair_equal, equal_pair}
 
--- the key of an edge at its place
+-- the key at an index is that of the edge there
 pub key_here : (edges : List Edge) (i : ℕ) (d : Edge) → i < length edges → key_at edges i ≡ key_of (get_or edges i d)
 key_here edges i d lt = get_or-map key_of edges i d (0, 0) lt
 
@@ -25,7 +25,7 @@ pub pairs_equal : (x y : ℕ × ℕ) → x.0 ≡ y.0 → x.1 ≡ y.1 → x ≡ y
 unfolding pair
 pairs_equal x y first second = ap (λ n. pair n x.1) first ∙ ap (pair y.0) second
 
--- what a comparison of keys tells
+-- keys that compare as equal are equal
 pub keys_equal : (x y : ℕ × ℕ) → (eqb x.0 y.0 && eqb x.1 y.1) ≡ true → x ≡ y
 keys_equal x y e = let two = and_parts (eqb x.0 y.0) (eqb x.1 y.1) e in pairs_equal x y (eqb-true x.0 y.0 two.0) (eqb-true x.1 y.1 two.1)
 
@@ -55,26 +55,26 @@ no_higher : (edges : List Edge) (i j : ℕ) → ComesBefore edges i j → IsLowe
 no_higher edges i j (inl low) = inl low
 no_higher edges i j (inr tie) = inr tie.0
 
--- of two edges with one key the one that comes before stands before
+-- of two edges with one key, the one that comes first in the order has the lower index
 stands_before : (edges : List Edge) (i j : ℕ) → key_at edges i ≡ key_at edges j → ComesBefore edges i j → i < j
 stands_before edges i j same (inl low) = absurd (not_itself _ _ same low)
 stands_before edges i j same (inr tie) = tie.1
 
--- where the place of an edge stands in the order
+-- the index of each edge is in the order
 pub place_of : (edges : List Edge) (order : List ℕ) → IsOrder edges order → (i : ℕ) → i < length edges → (a : ℕ) × (a < length order) × (get_or order a 0 ≡ i)
 place_of edges order is i lt = let c = is.all i lt in (c.0, c.1, get_again order c.0 i 0 c.1 ∙ c.2)
 
 pub order_within : (edges : List Edge) (order : List ℕ) → IsOrder edges order → (a : ℕ) → a < length order → get_or order a 0 < length edges
 order_within edges order is a lt = All-get_or (λ i. i < length edges) order a 0 lt is.within
 
--- what has the key of the one before it in the order has an earlier edge
+-- if an edge has the key of the one before it in the order, an earlier edge has that key
 pub after_its_like : (edges : List Edge) (order : List ℕ) (k : ℕ) → IsOrder edges order → 0 < k → k < length order
     → key_at edges (get_or order (k - 1) 0) ≡ key_at edges (get_or order k 0) → HasEarlier edges (get_or order k 0)
 after_its_like edges order k is some lt same =
     let before = stands_before edges (get_or order (k - 1) 0) (get_or order k 0) same (is.rises (k - 1) k (omega (arith, some)) lt) in
     (get_or order (k - 1) 0, before, same)
 
--- and only that has one
+-- and only then
 pub its_like_before : (edges : List Edge) (order : List ℕ) (k : ℕ) → IsOrder edges order → k < length order → HasEarlier edges (get_or order k 0)
     → (0 < k) × (key_at edges (get_or order (k - 1) 0) ≡ key_at edges (get_or order k 0))
 its_like_before edges order k is lt (j, less, same) = ⊎_elim
@@ -100,7 +100,7 @@ its_like_before edges order k is lt (j, less, same) = ⊎_elim
     key_a : key_at edges (get_or order at.0 0) ≡ key_at edges (get_or order k 0)
     key_a = ap (key_at edges) at.2 ∙ same
 
--- what is_below tells
+-- if `is_below` is true, the key is lower
 below_is : (edges : List Edge) (i : ℕ) (key : ℕ × ℕ) → is_below edges i key ≡ true → IsLower (key_at edges i) key
 below_is edges i key low = grind (arith, nat_tests, low)
 
@@ -129,7 +129,7 @@ pub record IsParted (edges : List Edge) (order : List ℕ) (key : ℕ × ℕ) (t
   pub low : (k : ℕ) → k < t → is_below edges (get_or order k 0) key ≡ true
   pub high : (k : ℕ) → t ≤ k → k < length order → is_below edges (get_or order k 0) key ≡ false
 
--- what has the key stands from there on
+-- an edge with the key is at t or later
 from_there : (edges : List Edge) (order : List ℕ) (key : ℕ × ℕ) (t a : ℕ) → IsParted edges order key t → key_at edges (get_or order a 0) ≡ key → t ≤ a
 from_there edges order key t a h same = ⊎_elim
     (λ less. absurd (not_itself _ _ same (below_is edges _ key (h.low a less))))

@@ -24,7 +24,7 @@ use Rattle.contracts.proofs.PartLemmas.{contains_map, get_again}
 abbrev pub Entry : Type 0
 Entry = (ℕ × ℕ) × ℕ
 
--- the place in an entry
+-- the index in an entry
 abbrev pub place : Entry → ℕ
 place e = e.1
 
@@ -51,7 +51,7 @@ entries_more edges n entries h = record {
     made : List Edge → ℕ → Entry
     made edges k = (key_at edges k, k)
 
--- an entry that isn't lower than another comes behind it
+-- an entry that is not lower than another is equal to it or comes after it
 not_lower : (x y : Entry) → is_lt (entry_cmp y x) ≡ false → IsLower x.0 y.0 ⊎ ((x.0 ≡ y.0) × (x.1 ≤ y.1))
 not_lower x y up = ⊎_elim
     (λ less. inl (inl less))
@@ -65,7 +65,7 @@ not_lower x y up = ⊎_elim
         → (a < d) ⊎ ((a ≡ d) × ((b < e) ⊎ ((b ≡ e) × (c ≤ f))))
     numbers a b c d e f h = grind (arith, nat_tests, h)
 
--- an entry has the key of its place
+-- an entry has the key of the edge at its index
 abbrev IsRight : List Edge → Entry → Type 0
 IsRight edges e = (e.1 < length edges) × (e.0 ≡ key_at edges e.1)
 
@@ -76,7 +76,7 @@ all_right edges entries h = λ i d lt.
     let is : get_or entries i d ≡ (key_at edges i, i) = get_again entries i ((0, 0), 0) d lt ∙ h.each i below in
     subst (IsRight edges) (sym is) (below, refl)
 
--- each entry is at one place
+-- each index is in one entry
 all_once : (edges : List Edge) (entries : List Entry) → AreEntries edges (length edges) entries → AllPairs (λ x y. x ≢ y) (map place entries)
 all_once edges entries h = λ i j d less lt same.
     let size = length-map entries place in

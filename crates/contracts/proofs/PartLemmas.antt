@@ -18,11 +18,11 @@ get_again [] k d e lt = absurd (omega (arith, lt))
 get_again (x ∷ xs) zero d e lt = refl
 get_again (x ∷ xs) (suc k) d e lt = get_again xs k d e (omega (arith, lt))
 
--- what stands at a place is in the list
+-- the element at an index is in the list
 pub at_place : {A : Type 0} (xs : List A) (k : ℕ) (d : A) → k < length xs → Contains xs (get_or xs k d)
 at_place xs k d lt = (k, lt, get_again xs k d (get_or xs k d) lt)
 
--- what holds of each that is in the list holds at each place
+-- what holds of each element of a list holds at each index
 pub all_from : {A : Type 0} (P : A → Type 0) (xs : List A) → ((x : A) → Contains xs x → P x) → All P xs
 all_from P xs each = λ k d lt. each (get_or xs k d) (at_place xs k d lt)
 
@@ -40,15 +40,15 @@ pub message_numbers_are : (messages : List Message) → map (λ (i : MessageId).
 message_numbers_are [] = refl
 message_numbers_are (m ∷ rest) = ap (λ l. m.id.0 ∷ l) (message_numbers_are rest)
 
--- a state's number stands among the numbers
+-- a state's number is among the numbers
 pub state_number_in : (names : List ℕ) (states : List State) (id : StateId) → Contains (map (λ (s : StateModel). s.id) (map (state_model names) states)) id → Contains (map (λ (s : State). s.id.0) states) id.0
 state_number_in names states id c = subst (λ l. Contains l id.0) (state_numbers_are names states) (contains_map (λ (i : StateId). i.0) (map (λ (s : StateModel). s.id) (map (state_model names) states)) id c)
 
--- a message's number stands among the numbers
+-- a message's number is among the numbers
 pub message_number_in : (messages : List Message) (id : MessageId) → Contains (map (λ (m : MessageModel). m.id) (map message_model messages)) id → Contains (map (λ (m : Message). m.id.0) messages) id.0
 message_number_in messages id c = subst (λ l. Contains l id.0) (message_numbers_are messages) (contains_map (λ (i : MessageId). i.0) (map (λ (m : MessageModel). m.id) (map message_model messages)) id c)
 
--- each number stands at one place
+-- each number occurs at one index
 pub record IsOnce (numbers : List ℕ) : Type 0 where
   pub same : (v w : ℕ) → v < length numbers → w < length numbers → get_or numbers v 0 ≡ get_or numbers w 0 → v ≡ w
 
@@ -82,14 +82,14 @@ numbers_once names states apart = record {
     at : (k : ℕ) → k < length numbers → (get_or ids k (id_of 0)).0 ≡ get_or numbers k 0
     at k lt = sym (get_or-map (λ (i : StateId). i.0) ids k (id_of 0) 0 (below k lt)) ∙ ap (λ l. get_or l k 0) (state_numbers_are names states)
 
--- the states of the edges of a contract stand among the numbers
+-- the states of a contract's edges are among the numbers
 pub ends_listed : (e : Contract) (numbers : List ℕ) → IsWhole (contract_parts e) → numbers ≡ map (λ (s : State). s.id.0) e.states.items → EndsListed numbers e.edges.items
 ends_listed e numbers whole is x c = (
   subst (λ l. Contains l x.from.0) (sym is) (state_number_in (string_bytes e.state_names) e.states.items x.from (whole.from x c)),
   subst (λ l. Contains l x.to.0) (sym is) (state_number_in (string_bytes e.state_names) e.states.items x.to (whole.to x c)),
 )
 
--- there are no more states than numbers that a state may have
+-- there are no more states than allowed numbers
 pub few_numbers : (e : Contract) → IsWhole (contract_parts e) → length e.states.items ≤ MOST_STATES
 few_numbers e whole = walk e.states.items refl
   where

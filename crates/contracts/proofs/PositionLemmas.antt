@@ -14,7 +14,7 @@ use Rattle.contracts.specs.declared.positions.Listing.{Listing}
 use Rattle.contracts.specs.Positions.{numbers_of, pair_cmp}
 use Rattle.contracts.proofs.PartLemmas.{IsOnce, get_again}
 
--- numbers that go up by one are known by the first and their count
+-- consecutive numbers are known by the first and their count
 pub row_is : (first : ℕ) (numbers : List ℕ) → AreConsecutive first numbers → range_with_len first (length numbers) ≡ numbers
 row_is first [] group = refl
 row_is first (n ∷ ns) group =
@@ -22,7 +22,7 @@ row_is first (n ∷ ns) group =
     let rest = row_is (first + 1) ns (λ i lt. let e = group (suc i) (omega (arith, lt)) in omega (arith, e)) in
     ap (λ l. first ∷ l) rest ∙ ap (λ k. k ∷ ns) (omega (arith, head))
 
--- the numbers of a row
+-- the numbers of a range
 pub from_row : (first count n : ℕ) → Contains (range_with_len first count) n → (first ≤ n) × (n < first + count)
 from_row first count n c =
     let size = length-range_with_len first count in
@@ -36,7 +36,7 @@ in_row first count n low high =
     let size = length-range_with_len first count in
     (n - first, omega (arith, low, high, size), get_or-range_with_len first count (n - first) n (omega (arith, low, high)) ∙ omega (arith, low))
 
--- each number of a listing stands at one place
+-- each number of a listing occurs at one index
 pub listed_once : (l : Listing) → IsOnce (numbers_of l)
 listed_once l = record {
   same = λ v w lt_v lt_w same.
@@ -46,7 +46,7 @@ listed_once l = record {
       omega (arith, a, b, same);
 }
 
--- whether a number is in a row, by its distance from the first
+-- whether a number is in a range, by its distance from the first
 pub has_row : (first count n : ℕ) → first ≤ n → IsTrue (nat_lt (n - first) count) ↔ Contains (range_with_len first count) n
 has_row first count n low = (
   λ yes. in_row first count n low (let lt = ltb-true (n - first) count yes in omega (arith, lt, low)),
@@ -56,7 +56,7 @@ has_row first count n low = (
 pub before_row : (first count n : ℕ) → n < first → IsTrue (leb first n) ↔ Contains (range_with_len first count) n
 before_row first count n less = (λ yes. let low = leb-true first n yes in absurd (omega (arith, low, less)), λ c. let group = from_row first count n c in absurd (omega (arith, group.0, less)))
 
--- an element that passes, where none before it does, is the first
+-- an element that passes is the first if none before it does
 pub is_first : {X : Type 0} (p : X → Bool) (xs : List X) (i : ℕ) (d : X) → i < length xs → p (get_or xs i d) ≡ true → ((j : ℕ) → j < i → p (get_or xs j d) ≡ true → ⊥) → position p xs ≡ Some i
 is_first {X} p xs i d lt passes none =
     let x = get_or xs i d in

@@ -8,7 +8,7 @@ use Rattle.contracts.specs.declared.arcs.Arc.{Arc}
 use Rattle.contracts.specs.Searches.{AreRising}
 use Rattle.contracts.proofs.PartLemmas.{contains_map}
 
--- of two lists that rise the second goes on where the first ends
+-- two rising lists in a row rise, if no number of the second is below one of the first
 pub rising_append : (xs ys : List ℕ) → AreRising xs → AreRising ys → ((j k : ℕ) → j < length xs → k < length ys → get_or xs j 0 ≤ get_or ys k 0) → AreRising (xs ++ ys)
 rising_append xs ys first second between j k le lt =
     let size = length-append xs ys in
@@ -36,7 +36,7 @@ rising_prefix xs ys rise j k le lt =
     let c = rise j k le (omega (arith, size, lt)) in
     omega (arith, a, b, c)
 
--- the last of a list that rises is the greatest
+-- the last number of a rising list is the greatest
 pub rising_last : (rest : List ℕ) (last x : ℕ) → AreRising (rest ++ last ∷ []) → Contains (rest ++ last ∷ []) x → x ≤ last
 rising_last rest last x rise (k, lt, e) =
     let size = length_push rest last in
@@ -55,7 +55,7 @@ pub none_in_end : (xs : List ℕ) → slice_get xs (length xs - 1) ≡ None → 
 none_in_end [] none = refl
 none_in_end (x ∷ xs) none = let there = slice_get-get_or (x ∷ xs) (length (x ∷ xs) - 1) 0 (omega arith) in absurd (cc)
 
--- without its last one
+-- a list without its last element
 pub but_last : {A : Type 0} (xs rest new : List A) (x : A) → xs ≡ rest ++ x ∷ [] → new ≡ take (length xs - 1) xs → new ≡ rest
 but_last xs rest new x is taken =
     let size = length_push rest x in
@@ -65,7 +65,7 @@ but_last xs rest new x is taken =
 pub push_back : {A : Type 0} (xs rest new : List A) (x : A) → xs ≡ rest ++ x ∷ [] → new ≡ take (length xs - 1) xs → xs ≡ new ++ x ∷ []
 push_back xs rest new x is taken = is ∙ ap (λ l. l ++ x ∷ []) (sym (but_last xs rest new x is taken))
 
--- all arcs begin before a place where the last one does
+-- if the last arc begins before an index, all arcs do
 pub all_before : (arcs rest : List Arc) (last : Arc) (index : ℕ) → arcs ≡ rest ++ last ∷ [] → AreRising (map (λ (a : Arc). a.from) arcs) → last.from < index → (a : Arc) → Contains arcs a → a.from < index
 all_before arcs rest last index is rise lt a c =
     let from : Arc → ℕ = λ x. x.from in

@@ -1,4 +1,4 @@
--- States from which edges of one sign lead back, and all that is found.
+-- States from which edges of one sign lead back, and all findings together.
 use Rattle.std.proofs.Common.{◌≡◌, ℕ, ◌+◌, List, [], ◌∷◌, ◌++◌, length, map, Some, sym, refl, ap, ◌∙◌, ⊎_elim, inl, inr, arith}
 use Rattle.std.specs.Prelude.{slice_get, codes, string_bytes}
 use Rattle.std.specs.Str.Lossy.{utf8_lossy}
@@ -37,7 +37,7 @@ pub round_same : (states : List StateModel) (edges : List Edge) (i : ℕ) (found
     → FoundBelow (IsRound states edges) i found → FoundBelow (IsRound states edges) (i + 1) found
 round_same states edges i found none h = found_same (IsRound states edges) i found h (λ f is. none is.state is.sign is.at is.round)
 
--- the four together
+-- the findings of the four conditions together
 pub all_found : (parts : Parts) (a b c d : List FindingModel)
     → FoundBelow (IsAgainst parts.messages parts.edges) (length parts.edges) a
     → FoundBelow (IsTwice parts.messages parts.edges) (length parts.edges) b
@@ -67,7 +67,7 @@ all_found parts a b c d in_a in_b in_c in_d = record {
       fault.1;
 }
 
--- in a sound contract no vertex of a sign's graph lies on a ring
+-- in a sound contract no vertex of a sign's graph is on a ring
 pub no_rings : (e : Contract) (sign : Sign) (graph : List (List ℕ)) → IsSound (contract_parts e) → IsDrawn (map (λ (s : State). s.id.0) e.states.items) e.edges.items (λ x. x.sign ≡ sign) graph → (v : ℕ) → OnRing graph v → ⊥
 no_rings e sign graph sound drawn v ring =
     let names = string_bytes e.state_names in

@@ -1,4 +1,4 @@
--- What soundness says of two edges of a state.
+-- What soundness implies for two edges of a state.
 use Rattle.std.proofs.Common.{◌≡◌, ℕ, ◌<◌, List, length, get_or, Some, sym, refl, ap, ◌∙◌, inl, inr, ⊎_elim}
 use Rattle.std.specs.Prelude.{Contains, slice_get}
 use Rattle.std.proofs.lemmas.Bool.{cases_order}
@@ -19,13 +19,13 @@ pub record IsDirected (edges : List Edge) : Type 0 where
   pub one_way : (q : StateId) (m n : MessageId) (s t : Sign) (u v : StateId) → Leads edges q m s u → Leads edges q n t v → s ≡ t
   pub one_end : (q : StateId) (m : MessageId) (s : Sign) (u v : StateId) → Leads edges q m s u → Leads edges q m s v → u ≡ v
 
--- an edge before another with its state and its message
+-- no edge is before another with its state and its message
 repeats : (parts : Parts) → IsWhole parts → IsSound parts → (i j : ℕ) (d e : Edge) → i < j → slice_get parts.edges i ≡ Some d → slice_get parts.edges j ≡ Some e → Contains parts.edges e → d.from ≡ e.from → d.message ≡ e.message → ⊥
 repeats parts whole sound i j d e less at_d at_e c from message =
     let m = made_from (λ (x : MessageModel). x.id) parts.messages e.message (whole.message e c) in
     sound (twice e m.0) (j, inr (inl (record { edge = e; at = at_e; index = i; before = less; earlier = d; there = at_d; state = from; same = message; message = m.0; listed = m.1; its = m.2; is = refl })))
 
--- a state with edges of both signs
+-- no state has edges of both signs
 mixed : (parts : Parts) → IsWhole parts → IsSound parts → (d e : Edge) → Contains parts.edges d → Contains parts.edges e → d.from ≡ e.from → d.sign ≡ Send → e.sign ≡ Receive → ⊥
 mixed parts whole sound d e in_d in_e from send receive =
     let s = made_from (λ (x : StateModel). x.id) parts.states e.from (whole.from e in_e) in

@@ -45,7 +45,7 @@ sources_more numbers edges n p arcs once lt within at h = record {
 pub sources_start : (numbers : List ℕ) (edges : List Edge) (n : ℕ) (arcs : List Arc) → AreSources numbers edges n arcs → All (λ (a : Arc). a.from < length numbers) arcs
 sources_start numbers edges n arcs h = All-weaker (λ (a : Arc). (a.from < length numbers) × (a.to < length edges)) (λ (a : Arc). a.from < length numbers) (λ a both. both.0) arcs h.within
 
--- the rows of such arcs, with each place made an edge
+-- the groups of such arcs, with each index replaced by its edge
 pub leaving_is : (numbers : List ℕ) (edges : List Edge) (arcs : List Arc) (graph : List (List ℕ)) (lists : List (List Edge)) → EndsListed numbers edges → AreSources numbers edges (length edges) arcs → AreEnds arcs (length numbers) graph
     → lists ≡ map (map (edge_at edges)) graph → AreLeaving numbers edges lists
 leaving_is numbers edges arcs graph lists ends h are is = (

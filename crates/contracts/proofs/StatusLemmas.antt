@@ -1,4 +1,4 @@
--- How far a search has come with vertices.
+-- The statuses of vertices in a search.
 use Rattle.std.proofs.Common.{◌≡◌, ℕ, suc, ◌+◌, ◌<◌, List, [], ◌∷◌, length, cond, refl, ap, ◌∙◌, arith, inl, inr, ⊎_elim, false}
 use Rattle.std.specs.Prelude.{◌⊎◌, Contains, count_by}
 use Rattle.std.proofs.Math.ListN.{set}
@@ -24,7 +24,7 @@ pending_there statuses v p is = ⊎_elim
 pub pending_same : (p q : ℕ) → Pending p ≡ Pending q → p ≡ q
 pending_same p q same = cc
 
--- as many vertices are new, if none was at these places
+-- the number of new vertices stays the same, if none was new at these indices
 pub written_new : (statuses : List VertexStatus) (vs : List ℕ) (x : VertexStatus) → is_new x ≡ false → ((v : ℕ) → Contains vs v → is_new (status_at statuses v) ≡ false) → count_by is_new (set_at_each statuses vs x) ≡ count_by is_new statuses
 written_new statuses [] x old met = refl
 written_new statuses (v ∷ vs) x old met = ⊎_elim
@@ -43,7 +43,7 @@ written_new statuses (v ∷ vs) x old met = ⊎_elim
     f : VertexStatus → ℕ
     f s = cond (is_new s) 1 0
 
--- no vertex is new
+-- if no vertex is new, their number is 0
 pub none_new : (statuses : List VertexStatus) → ((v : ℕ) → v < length statuses → is_new (status_at statuses v) ≡ false) → count_by is_new statuses ≡ 0
 none_new [] all = refl
 none_new (x ∷ xs) all =

@@ -7,7 +7,7 @@ use Rattle.contracts.specs.Spans.{start_of}
 use Rattle.contracts.specs.declared.groups.Groups.{Groups}
 use Rattle.contracts.proofs.SpanLemmas.{cut_at, cut_long}
 
--- a row is no longer than all items
+-- a group has no more elements than all items
 pub row_short : (graph : Groups ℕ) (v : ℕ) → v < length (groups graph) → length (group_at (groups graph) v) ≤ length graph.items.items
 row_short graph v lt =
     let items = graph.items.items in
@@ -20,7 +20,7 @@ row_short graph v lt =
     let b = length-take end items in
     omega (arith, at, a, b)
 
--- to enter a vertex is worth more steps than its row has
+-- entering a vertex saves more steps than its group adds
 pub enter_fewer : (before after size arcs bounds group : ℕ) → after + 1 ≡ before → group ≤ size → after * (size + 2) + (arcs + group) + (bounds + 1) < before * (size + 2) + arcs + bounds
 enter_fewer before after size arcs bounds group one short =
     let e : before * (size + 2) ≡ (after + 1) * (size + 2) = ap (λ n. n * (size + 2)) (sym one) in

@@ -6,7 +6,7 @@ use Rattle.contracts.specs.Parts.{AreConsecutive}
 use Rattle.contracts.proofs.PartLemmas.{get_again, contains_map}
 use Rattle.contracts.proofs.ListLemmas.{made_from}
 
--- numbers that go up by one differ
+-- consecutive numbers differ
 pub row_once : (first : ℕ) (numbers : List ℕ) → AreConsecutive first numbers → AllPairs (λ x y. x ≢ y) numbers
 row_once first numbers group = λ i j d less lt same.
     let before : i < length numbers = omega (arith, less, lt) in
@@ -16,7 +16,7 @@ row_once first numbers group = λ i j d less lt same.
     let b = group j lt in
     absurd (omega (arith, less, same, at_i, at_j, a, b))
 
--- what is told apart by numbers that differ differs
+-- elements with different numbers differ
 pub ids_once : {A : Type 0} (number : A → ℕ) (ids : List A) → AllPairs (λ x y. x ≢ y) (map number ids) → AllPairs (λ x y. x ≢ y) ids
 ids_once number ids apart = λ i j d less lt same.
     let size = length-map ids number in
@@ -29,6 +29,6 @@ id_in number ids x one c = let m = made_from number ids (number x) c in subst (C
 pub in_numbers : {A : Type 0} (number : A → ℕ) (ids : List A) (x : A) → Contains ids x → Contains (map number ids) (number x)
 in_numbers number ids x c = contains_map number ids x c
 
--- what holds of all numbers holds of what has them
+-- what holds of all numbers holds of the elements that have them
 pub unmapped : {A : Type 0} (P : ℕ → Type 0) (number : A → ℕ) (ids : List A) → All P (map number ids) → All (λ x. P (number x)) ids
 unmapped P number ids all = λ k d lt. subst P (get_or-map number ids k d (number d) lt) (all k (number d) (let size = length-map ids number in omega (arith, size, lt)))

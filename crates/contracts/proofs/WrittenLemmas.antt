@@ -1,4 +1,4 @@
--- A list in which an item was written at each of some places.
+-- A list in which an item was written at each of some indices.
 use Rattle.std.proofs.Common.{◌≡◌, ℕ, suc, ◌<◌, List, [], ◌∷◌, length, get_or, sym, refl, ap, ◌∙◌, subst, arith, ⊎_elim}
 use Rattle.std.specs.Prelude.{Contains}
 use Rattle.std.specs.Global.{Vec}
@@ -13,7 +13,7 @@ pub written_length : {A : Type 0} (xs : List A) (vs : List ℕ) (x : A) → leng
 written_length xs [] x = refl
 written_length xs (v ∷ vs) x = written_length (set xs v x) vs x ∙ length-set xs v x
 
--- what is written at a place stays there
+-- what is written at an index stays there
 written_stays : {A : Type 0} (xs : List A) (vs : List ℕ) (x d : A) (v : ℕ) → v < length xs → get_or xs v d ≡ x → get_or (set_at_each xs vs x) v d ≡ x
 written_stays xs [] x d v lt is = is
 written_stays xs (u ∷ us) x d v lt is = written_stays (set xs u x) us x d v (let e = length-set xs u x in omega (arith, lt, e))
@@ -34,7 +34,7 @@ written_other xs (u ∷ us) x d v none =
     written_other (set xs u x) us x d v (λ later. none (let lt = later.1 in (suc later.0, omega (arith, lt), later.2)))
     ∙ get_or-set_other xs u v x d (λ same. none (0, omega arith, sym same))
 
--- a vector in which an item was written at each of the places
+-- a vector in which an item was written at each of the indices
 pub vec_written : {A : Type 0} (v : Vec A) (now ws : List A) (indices part : List ℕ) (x : A) → ws ≡ set_at_each now indices x → now ≡ v.items → indices ≡ part → (with_items v ws).items ≡ set_at_each v.items part x
 vec_written v now ws indices part x is same parts =
     with_items_is v ws (ap length is ∙ written_length now indices x ∙ ap length same ∙ sym v.ok.0) ∙ is

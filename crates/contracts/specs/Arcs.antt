@@ -15,11 +15,11 @@ begins v a = a.from == v
 abbrev pub ends_from : List Arc → ℕ → List ℕ
 ends_from arcs v = map (λ a. a.to) (filter (begins v) arcs)
 
--- both ends stand below the count
+-- both ends of each arc are below the count
 abbrev pub AllWithin : ℕ → List Arc → Type 0
 AllWithin count arcs = All (λ a. (a.from < count) × (a.to < count)) arcs
 
--- the groups have exactly the arcs
+-- the graph has exactly these arcs
 pub record AreGroups (count : ℕ) (arcs : List Arc) (graph : List (List ℕ)) : Type 0 where
   pub long : length graph ≡ count
   pub range : InRange graph
@@ -38,12 +38,12 @@ pub record AreArcs (numbers : List ℕ) (edges : List Edge) (sign : Sign) (arcs 
   pub right : (a : Arc) → Contains arcs a → (e : Edge) × Contains edges e × (e.sign ≡ sign) × Joins numbers e a.from a.to
   pub all : (e : Edge) → Contains edges e → e.sign ≡ sign → (a : Arc) × Contains arcs a × Joins numbers e a.from a.to
 
--- the graph has exactly the edges of which something holds
+-- the graph has exactly the edges for which `Has` holds
 pub record IsDrawn (numbers : List ℕ) (edges : List Edge) (Has : Edge → Type 0) (graph : List (List ℕ)) : Type 0 where
   pub long : length graph ≡ length numbers
   pub right : (v w : ℕ) → HasEdge graph v w → (e : Edge) × Contains edges e × Has e × Joins numbers e v w
   pub all : (e : Edge) → Contains edges e → Has e → (v : ℕ) × ((w : ℕ) × HasEdge graph v w × Joins numbers e v w)
 
--- the states of the edges stand in the list
+-- the states of the edges are in the list
 abbrev pub EndsListed : List ℕ → List Edge → Type 0
 EndsListed numbers edges = (e : Edge) → Contains edges e → Contains numbers e.from.0 × Contains numbers e.to.0

@@ -1,4 +1,4 @@
--- Where numbers and keys stand in a list.
+-- Positions of numbers and keys in lists.
 use Rattle.std.specs.Prelude.{ℕ, List, Option, Contains, map}
 use Rattle.std.specs.List.{range_with_len}
 use Rattle.std.specs.declared.cmp.Ordering.{Ordering}
@@ -7,15 +7,15 @@ use Rattle.lemmas.specs.Places.{first_position}
 use Rattle.program.specs.declared.contract.Edge.{Edge}
 use Rattle.contracts.specs.declared.positions.Listing.{Listing}
 
--- the numbers of a listing, each one more than the one before it
+-- the numbers of a listing, each one more than the previous one
 abbrev pub numbers_of : Listing → List ℕ
 numbers_of l = range_with_len l.first l.count
 
--- how pairs of numbers are compared
+-- the order of pairs of numbers
 abbrev pub pair_cmp : ℕ × ℕ → ℕ × ℕ → Ordering
 pair_cmp x y = ordering_then (nat_cmp x.0 y.0) (nat_cmp x.1 y.1)
 
--- what tells the edges of a contract apart: the numbers of the state and of the message
+-- the key that tells the edges of a contract apart: the numbers of the state and of the message
 abbrev pub key_of : Edge → ℕ × ℕ
 key_of e = (e.from.0, e.message.0)
 

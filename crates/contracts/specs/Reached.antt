@@ -3,18 +3,18 @@ use Rattle.std.specs.Prelude.{ℕ, ◌≤◌, List, [], ◌∷◌, ◌++◌, Boo
 use Rattle.contracts.specs.Graphs.{Walk}
 use Rattle.contracts.specs.Marking.{IsMarked}
 
--- each vertex leads where it does in the one graph and in the other
+-- the graph in which each vertex has its edges of both graphs
 abbrev pub union : List (List ℕ) → List (List ℕ) → List (List ℕ)
 union [] more = more
 union (group ∷ groups) [] = group ∷ groups
 union (group ∷ groups) (other ∷ others) = (group ++ other) ∷ union groups others
 
--- exactly what can be reached from the first vertex along edges of both graphs is marked
+-- exactly the vertices that can be reached from the first one along edges of both graphs are marked
 pub record AreReached (sends receives : List (List ℕ)) (first : ℕ) (marks : List Bool) : Type 0 where
   pub right : (v : ℕ) → IsMarked marks v → (n : ℕ) × Walk (union sends receives) first v n
   pub all : (v n : ℕ) → Walk (union sends receives) first v n → IsMarked marks v
 
--- the greatest length of a walk from a marked vertex
+-- n is the greatest length of a walk from a marked vertex
 pub record IsLongest (graph : List (List ℕ)) (marks : List Bool) (n : ℕ) : Type 0 where
   pub most : (v w m : ℕ) → IsMarked marks v → Walk graph v w m → m ≤ n
   pub from : ℕ
@@ -22,6 +22,6 @@ pub record IsLongest (graph : List (List ℕ)) (marks : List Bool) (n : ℕ) : T
   pub marked : IsMarked marks from
   pub walk : Walk graph from to n
 
--- the height of a marked vertex, and 0 for the others
+-- the height of a marked vertex; 0 for any other, or if the height is unknown
 abbrev pub counted_height : Option ℕ → Bool → ℕ
 counted_height height mark = if mark then unwrap_or height 0 else 0

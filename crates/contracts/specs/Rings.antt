@@ -1,8 +1,8 @@
--- Which vertices lie on a ring.
+-- Which vertices are on a ring.
 use Rattle.std.specs.Prelude.{◌≡◌, ℕ, ◌<◌, List, length, Bool, true, get_or}
 use Rattle.contracts.specs.Graphs.{OnRing}
 
--- the answer is whether the vertex lies on a ring
+-- `on` is true exactly if the vertex is on a ring
 pub record TellsRings (graph : List (List ℕ)) (v : ℕ) (on : Bool) : Type 0 where
   pub yes : on ≡ true → OnRing graph v
   pub no : OnRing graph v → on ≡ true

@@ -18,7 +18,7 @@ is_new New = true
 is_new (Pending index) = false
 is_new Complete = false
 
--- the numbers do not fall along the list
+-- the numbers never fall along the list
 abbrev pub AreRising : List ℕ → Type 0
 AreRising xs = (j k : ℕ) → j ≤ k → k < length xs → get_or xs j 0 ≤ get_or xs k 0
 
@@ -34,8 +34,8 @@ abbrev pub IsFollowed : List VertexStatus → List ℕ → ℕ → ℕ → Type 
 IsFollowed statuses bounds i w = (status_at statuses w ≡ Complete)
     ⊎ ((j : ℕ) × (status_at statuses w ≡ Pending j) × NotBefore bounds i j)
 
--- The pending vertices have their indices, and each leads to all that are not before its component. Their arcs were followed but
--- for those that are left.
+-- Each pending vertex is at its index and leads to all that are not before its component. Its arcs were followed, except those that
+-- are left.
 pub record IsSearch (graph : List (List ℕ)) (statuses : List VertexStatus) (pending bounds : List ℕ) (arcs : List Arc) : Type 0 where
   pub long : length statuses ≡ length graph
   pub placed : (v p : ℕ) → status_at statuses v ≡ Pending p → (p < length pending) × (get_or pending p 0 ≡ v)
@@ -50,12 +50,12 @@ pub record IsSearch (graph : List (List ℕ)) (statuses : List VertexStatus) (pe
   pub within : (b : ℕ) → Contains bounds b → b ≤ length pending
   pub first : 0 < length pending → Contains bounds 0
 
--- each vertex of the list has its successors before it, but for those that lead back to it
+-- each vertex of the list comes after its successors, except those that lead back to it
 abbrev pub ComeAfter : List (List ℕ) → List ℕ → Type 0
 ComeAfter graph order = (i w : ℕ) → i < length order → HasEdge graph (get_or order i 0) w
     → Contains (take i order) w ⊎ CanReach graph w (get_or order i 0)
 
--- No arc leaves the complete components, it is known which of their vertices lie on a ring, and all are listed.
+-- No arc leaves the complete components, the ring marks of their vertices are right, and all of them are listed.
 pub record AreFound (graph : List (List ℕ)) (statuses : List VertexStatus) (rings : List Bool) (order : List ℕ) : Type 0 where
   pub long : length rings ≡ length graph
   pub closed : (v w : ℕ) → status_at statuses v ≡ Complete → HasEdge graph v w → status_at statuses w ≡ Complete
@@ -64,13 +64,13 @@ pub record AreFound (graph : List (List ℕ)) (statuses : List VertexStatus) (ri
   pub within : All (λ v. v < length graph) order
   pub after : ComeAfter graph order
 
--- what the search keeps; each vertex is new, pending or listed
+-- the invariant of the search; each vertex is new, pending or listed
 pub record IsKept (graph : List (List ℕ)) (s : Search) : Type 0 where
   pub search : IsSearch graph s.statuses.items s.pending.items s.bounds.items s.arcs.items
   pub found : AreFound graph s.statuses.items s.rings.items s.order.items
   pub room : count_by is_new s.statuses.items + length s.pending.items + length s.order.items ≡ length graph
 
--- no component is begun
+-- no component has been begun
 abbrev pub IsIdle : Search → Type 0
 IsIdle s = s.pending.items ≡ []
 
@@ -81,23 +81,23 @@ IsMet s v = status_at s.statuses.items v ≡ New → ⊥
 abbrev pub StayMet : Search → Search → Type 0
 StayMet old new = (v : ℕ) → IsMet old v → IsMet new v
 
--- a bound of the steps that are left: to meet a vertex, to follow an arc, to complete a component
+-- an upper bound on the steps left: to meet a vertex, to follow an arc, to complete a component
 abbrev pub steps_left : Groups ℕ → Search → ℕ
 steps_left graph s = count_by is_new s.statuses.items * (length graph.items.items + 2) + length s.arcs.items + length s.bounds.items
 
--- the last arc that is left leads here, and from the last component
+-- the last arc that is left leads to `end`, and begins in the last component
 abbrev pub IsNextEnd : List Arc → List ℕ → ℕ → Type 0
 IsNextEnd arcs bounds end = (rest : List Arc) × ((from : ℕ) × (arcs ≡ rest ++ arc from end ∷ [])
     × ((b : ℕ) → Contains bounds b → b ≤ from))
 
--- the bounds up to an index
+-- `new` has exactly the bounds up to an index
 pub record AreBoundsTo (index : ℕ) (old new : List ℕ) : Type 0 where
   pub right : (b : ℕ) → Contains new b → Contains old b × (b ≤ index)
   pub all : (b : ℕ) → Contains old b → b ≤ index → Contains new b
   pub rise : AreRising new
   pub fewer : length new ≤ length old
 
--- several vertices of a component lie on a ring, and one does if an edge leads from it to itself
+-- several vertices of a component are on a ring; a single one is if an edge leads from it to itself
 pub record TellsComponent (graph : List (List ℕ)) (component : List ℕ) (on_ring : Bool) : Type 0 where
   pub several : 1 < length component → on_ring ≡ true
   pub yes : (v : ℕ) → component ≡ v ∷ [] → on_ring ≡ true → HasEdge graph v v
@@ -108,7 +108,7 @@ abbrev pub set_at_each : {A : Type 0} → List A → List ℕ → A → List A
 set_at_each xs [] x = xs
 set_at_each xs (v ∷ vs) x = set_at_each (slice_set xs v x) vs x
 
--- all vertices, each once, and with its successors before it but for those that lead back to it
+-- all vertices, each once and after its successors, except those that lead back to it
 pub record IsFinishing (graph : List (List ℕ)) (order : List ℕ) : Type 0 where
   pub long : length order ≡ length graph
   pub all : (v : ℕ) → v < length graph → Contains order v

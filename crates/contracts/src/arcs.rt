@@ -16,15 +16,15 @@ use crate::ringing::{nonempty_groups, rings};
 use program::{Edge, Sign};
 use std::alloc::{AllocError, Global};
 
-/// From one position to another.
+/// An arc from one position to another.
 #[derive(Clone, Copy, PartialEq, Eq)]
 pub struct Arc {
     pub from: usize,
     pub to: usize,
 }
 
-/// The edges of one sign between the positions of their states, as groups of their ends: how long walks along them can be from each
-/// position, where there is a longest one, and whether one leads from there back to it.
+/// The edges of one sign as a graph of the positions of states: for each position the ends of its edges, the greatest length of a
+/// walk from there if there is one, and whether it is on a ring.
 #[derive(Drop)]
 pub struct SignGraph {
     pub groups: Groups<usize>,
@@ -32,7 +32,7 @@ pub struct SignGraph {
     pub rings: Vec<bool>,
 }
 
-/// Whether an edge of the sign begins at each position, and whether edges of the sign lead from there back to it.
+/// For each position, whether an edge of the sign begins there and whether edges of the sign lead from there back to it.
 #[derive(Drop)]
 pub struct Marks {
     pub leaves: Vec<bool>,
@@ -40,7 +40,7 @@ pub struct Marks {
 }
 
 impl SignGraph {
-    /// The graph of the edges that have the sign.
+    /// Builds the graph of the edges that have the sign.
     pub fn new(
         alloc: Global,
         edges: &[Edge],
@@ -57,7 +57,7 @@ impl SignGraph {
     {
         let arcs = arcs_of(alloc, edges, states, sign)?;
         let groups = groups_of(alloc, states.len(), &arcs)?;
-        drop(arcs); // a large contract takes less memory so
+        drop(arcs); // freed early, so that a large contract takes less memory
         let mut heights = first_heights(alloc, &groups)?;
         let rings = rings(alloc, &groups, &mut heights)?;
         Ok(SignGraph {
@@ -67,7 +67,7 @@ impl SignGraph {
         })
     }
 
-    /// What is asked of it once the bounds are known. The rest is dropped.
+    /// Keeps the marks, which are all that is needed once the bounds are known, and drops the rest.
     pub fn into_marks(self, alloc: Global) -> Result<Marks, AllocError>
         ensures leaves { IfOk result (λ marks. marks.leaves.items ≡ map (λ group. not (length group == 0)) (groups self.groups)) }
         ensures rings { IfOk result (λ marks. marks.rings ≡ self.rings) }
@@ -80,7 +80,7 @@ impl SignGraph {
     }
 }
 
-/// The arcs of the edges that have the sign.
+/// Returns the arcs of the edges that have the sign.
 fn arcs_of(
     alloc: Global,
     edges: &[Edge],
@@ -91,7 +91,7 @@ fn arcs_of(
     ensures arcs { IfOk result
         (λ arcs. AreArcs (numbers_of states) edges.now sign arcs.items) }
 {
-    let mut arcs = Vec::with_capacity(alloc, edges.len())?; // room that is not written to costs nothing
+    let mut arcs = Vec::with_capacity(alloc, edges.len())?; // capacity that is never written to costs nothing
     for edge in edges {
         if edge.sign == sign {
             arcs.push(Arc {

@@ -17,14 +17,14 @@ use crate::marking::reached_from;
 use program::Contract;
 use std::alloc::{AllocError, Global};
 
-/// The greatest numbers of messages under way to each end.
+/// The greatest number of messages in the queue to each end.
 #[derive(Clone, Copy, PartialEq, Eq)]
 pub struct Bounds {
     pub to_imp: u32,
     pub to_exp: u32,
 }
 
-/// The bounds of a contract by the graphs of its edges. They are right where it is sound.
+/// Computes the bounds of a contract from the graphs of its edges. They are right if it is sound.
 pub fn bounds_of(
     alloc: Global,
     contract: &Contract,
@@ -46,7 +46,7 @@ pub fn bounds_of(
     Ok(Bounds { to_imp, to_exp })
 }
 
-/// The greatest length of a walk from one of the marked vertices, where no vertex lies on a ring.
+/// Returns the greatest length of a walk from a marked vertex, if no vertex is on a ring.
 fn longest(graph: &SignGraph, reached: &[bool]) -> u32
     requires range { InRange (groups graph.now.groups) }
     requires heights { AreHeights (groups graph.now.groups) graph.now.heights.items }
@@ -58,7 +58,7 @@ fn longest(graph: &SignGraph, reached: &[bool]) -> u32
     tallest_of(&graph.heights, reached)
 }
 
-/// The greatest height of a marked vertex.
+/// Returns the greatest height of a marked vertex.
 fn tallest_of(heights: &[Option<u32>], reached: &[bool]) -> u32
     requires reached { length reached.now ≡ length heights.now }
     ensures most { (v : ℕ) → v < length heights.now → counted_height (height_at heights.now v)
@@ -73,7 +73,7 @@ fn tallest_of(heights: &[Option<u32>], reached: &[bool]) -> u32
     most
 }
 
-/// The height, if the vertex is marked.
+/// Returns the height if it is known and the vertex is marked, else 0.
 fn marked_height(height: Option<u32>, mark: bool) -> u32
     ensures { result ≡ counted_height height mark }
 {

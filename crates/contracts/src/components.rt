@@ -1,4 +1,4 @@
-//! The strongly connected components of a graph: which vertices lie on a ring, and an order in which each component comes after
+//! The strongly connected components of a graph: which vertices are on a ring, and an order in which each component comes after
 //! those that it leads to.
 //!
 //! The algorithm is Gabow's, of "Path-based depth-first search for strong and biconnected components" (2000). The components that
@@ -17,7 +17,7 @@ use crate::arcs::Arc;
 use crate::groups::Groups;
 use std::alloc::{AllocError, Global};
 
-/// Which vertices lie on a ring, and all vertices in the order in which their components were completed: each vertex comes after its
+/// Which vertices are on a ring, and all vertices in the order in which their components were completed: each vertex comes after its
 /// successors, except those that lead back to it.
 #[derive(Drop)]
 pub struct Components {
@@ -25,7 +25,7 @@ pub struct Components {
     pub order: Vec<usize>,
 }
 
-/// How far the search has come with a vertex.
+/// How far the search has got with a vertex.
 #[derive(Clone, Copy)]
 enum VertexStatus {
     /// The search has not met it.
@@ -46,7 +46,7 @@ struct Search {
     bounds: Vec<usize>,
     /// The arcs that are left to follow, each from the index of a pending vertex to a vertex.
     arcs: Vec<Arc>,
-    /// Whether each vertex lies on a ring, once its component is complete.
+    /// Whether each vertex is on a ring, once its component is complete.
     rings: Vec<bool>,
     /// The vertices of the complete components, in the order of their completion.
     order: Vec<usize>,
@@ -74,8 +74,8 @@ pub fn components_of(alloc: Global, graph: &Groups<usize>) -> Result<Components,
 impl Search {
     ghost use Rattle.std.specs.Prelude.{List};
 
-    /// A search that has met no vertex. No list grows beyond the room that it has from the start, and room that is not written to
-    /// costs nothing.
+    /// Returns a search that has met no vertex. No list grows beyond its initial capacity, and capacity that is never written to costs
+    /// nothing.
     fn new(alloc: Global, graph: &Groups<usize>) -> Result<Search, AllocError>
         ensures kept { IfOk result (IsKept (groups graph.now)) }
         ensures idle { IfOk result IsIdle }
@@ -91,7 +91,7 @@ impl Search {
         })
     }
 
-    /// Follows the arcs that are left, until every component that was begun is complete.
+    /// Follows the remaining arcs until every component that was begun is complete.
     fn complete(&mut self, graph: &Groups<usize>) -> Result<(), AllocError>
         requires range { InRange (groups graph.now) }
         requires kept { IsKept (groups graph.now) self.old }
@@ -108,7 +108,7 @@ impl Search {
         Ok(())
     }
 
-    /// The end of the next arc to follow from the last component, which begins at this index. `None` if no such arc is left.
+    /// Returns the end of the next arc to follow from the last component, which begins at this index. `None` if no such arc is left.
     fn next_end(&self, bound: usize) -> Option<usize>
         requires last { (b : ℕ) → Contains self.now.bounds.items b → b ≤ bound }
         requires rise { AreRising (map (λ a. a.from) self.now.arcs.items) }
@@ -208,7 +208,7 @@ fn join(bounds: &mut Vec<usize>, index: usize)
     }
 }
 
-/// Whether the vertices of a component lie on a ring. Several do. A single one does if an arc leads from it to itself.
+/// Returns whether the vertices of a component are on a ring. Several always are. A single one is if an arc leads from it to itself.
 fn are_on_ring(graph: &Groups<usize>, component: &[usize]) -> bool
     requires within { All (λ v. v < length (groups graph.now)) component.now }
     ensures { TellsComponent (groups graph.now) component.now result }

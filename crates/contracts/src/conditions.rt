@@ -20,15 +20,14 @@ use source::texts::{
 use source::{Finding, Memory};
 use std::alloc::{AllocError, Global};
 
-/// What breaks a condition of the contract:
-/// - an edge whose sign is not its message's: `in` takes `?` and `out` takes `!`; at the edge;
+/// Returns all findings of a contract, each at its place:
+/// - an edge whose sign does not fit its message, since `in` takes `?` and `out` takes `!`; at the edge;
 /// - an edge with the message of an earlier edge of its state; at the later one;
 /// - a state with edges of both signs; at the state;
 /// - a state from which edges of one sign lead back to it; at each such state.
 ///
-/// The sign counts as it is written. That contracts be deterministic and have one direction in a state is asked for by
-/// Villard, Lozes and Calcagno (APLAS 2009), and that each cycle have both directions by the Singularity team (EuroSys
-/// 2006).
+/// Signs count as they are written. Villard, Lozes and Calcagno (APLAS 2009) require contracts to be deterministic and to have
+/// one direction in a state; the Singularity team (EuroSys 2006) requires each cycle to have both directions.
 pub fn findings_of(alloc: Global, contract: &Contract) -> Result<Vec<Finding>, Memory>
     requires whole { IsWhole (contract_parts contract.now) }
     ensures exactly { IfOk result (λ found. AreExactly (IsFlaw (contract_parts contract.now))
@@ -39,7 +38,7 @@ pub fn findings_of(alloc: Global, contract: &Contract) -> Result<Vec<Finding>, M
     findings_in(alloc, contract, &order, &drawing)
 }
 
-/// The same, where the edges are in order and drawn.
+/// Returns the same findings, from the order and the drawing of the edges.
 pub(crate) fn findings_in(
     alloc: Global,
     contract: &Contract,
@@ -63,8 +62,8 @@ pub(crate) fn findings_in(
     Ok(found)
 }
 
-/// Puts findings behind those that are there. Where there are none, nothing is moved, so that many findings of one kind take no memory
-/// twice.
+/// Appends findings. If there are none yet, the new list replaces the old one and nothing is moved, so many findings of one kind
+/// never take their memory twice.
 fn add(found: &mut Vec<Finding>, mut more: Vec<Finding>) -> Result<(), AllocError>
     ensures { OnOk result (found.new.items ≡ found.old.items ++ more.items) }
 {
@@ -76,7 +75,7 @@ fn add(found: &mut Vec<Finding>, mut more: Vec<Finding>) -> Result<(), AllocErro
     }
 }
 
-/// The sign that a message takes in an edge.
+/// Returns the sign of the edges of a message that has this direction.
 fn sign_of(direction: Direction) -> Sign
     ensures { result ≡ sign_of_direction direction }
 {
@@ -86,7 +85,7 @@ fn sign_of(direction: Direction) -> Sign
     }
 }
 
-/// The message that has the number.
+/// Returns the message that has the number.
 fn message_of(contract: &Contract, messages: Listing, id: MessageId) -> &Message
     requires numbers { numbers_of messages ≡ map (λ m. m.id.0) contract.now.messages.items }
     requires listed { Contains (message_ids (contract_parts contract.now)) id }
@@ -96,7 +95,7 @@ fn message_of(contract: &Contract, messages: Listing, id: MessageId) -> &Message
     &contract.messages[messages.position(id.0)]
 }
 
-/// The edges whose sign is not their message's.
+/// Finds the edges whose sign does not fit their message.
 fn against_directions(
     alloc: Global,
     contract: &Contract,
@@ -119,7 +118,7 @@ fn against_directions(
     Ok(found)
 }
 
-/// The edges with the message of an earlier edge of their state.
+/// Finds the edges with the message of an earlier edge of their state.
 fn twice_in_states(
     alloc: Global,
     contract: &Contract,
@@ -145,7 +144,7 @@ fn twice_in_states(
     Ok(found)
 }
 
-/// The states with edges of both signs.
+/// Finds the states with edges of both signs.
 fn both_directions(
     alloc: Global,
     contract: &Contract,
@@ -168,7 +167,7 @@ fn both_directions(
     Ok(found)
 }
 
-/// The states from which edges of one sign lead back to them.
+/// Finds the states from which edges of one sign lead back to them.
 fn one_direction(
     alloc: Global,
     contract: &Contract,

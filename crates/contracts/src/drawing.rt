@@ -1,4 +1,4 @@
-//! What the conditions and the bounds of a contract are read from.
+//! The data from which the conditions and the bounds of a contract are read.
 
 ghost use Rattle.std.specs.Prelude.{IfOk};
 ghost use Rattle.contracts.specs.Drawings.{IsDrawing};
@@ -10,7 +10,7 @@ use crate::keys::states_of;
 use program::{Contract, Sign};
 use std::alloc::{AllocError, Global};
 
-/// What the graphs of a contract tell: the marks of its states for each sign, and its bounds, which are right where it is sound.
+/// The marks of the states of a contract for each sign, and its bounds, which are right if it is sound.
 #[derive(Drop)]
 pub struct Drawing {
     pub sends: Marks,
@@ -18,8 +18,8 @@ pub struct Drawing {
     pub bounds: Bounds,
 }
 
-/// Draws the edges of a contract as a graph for each sign, and keeps what the graphs tell. They are dropped, since a large contract
-/// takes less memory so.
+/// Draws the edges of each sign as a graph and keeps only the marks and the bounds. The graphs are dropped, so that a large contract
+/// takes less memory.
 pub fn drawing_of(alloc: Global, contract: &Contract) -> Result<Drawing, AllocError>
     requires whole { IsWhole (contract_parts contract.now) }
     ensures { IfOk result (IsDrawing contract.now) }

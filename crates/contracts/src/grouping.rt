@@ -1,4 +1,4 @@
-//! Arcs by the vertices at which they begin.
+//! Arcs grouped by the vertices at which they begin.
 
 ghost use Rattle.std.specs.Prelude.{◌≡◌, ◌++◌, ◌<◌, ℕ, [], All, Contains, get_or, length, IfOk};
 ghost use Rattle.contracts.specs.Arcs.{AllWithin, AreGroups, ends_from};
@@ -10,15 +10,15 @@ use crate::arcs::Arc;
 use crate::groups::Groups;
 use std::alloc::{AllocError, Global};
 
-/// For each vertex the first arc that begins there, and for each arc the next one that begins where it does, each by its place.
-/// Where there is none, the number of all arcs.
+/// The arcs of each vertex, linked by index: the first arc that begins at each vertex, and for each arc the next one that begins at
+/// the same vertex. The number of all arcs means that there is none.
 #[derive(Drop)]
 struct Chains {
     firsts: Vec<usize>,
     nexts: Vec<usize>,
 }
 
-/// The arcs of each of so many vertices, one after the other.
+/// Links the arcs of each of `count` vertices.
 fn chains_of(alloc: Global, count: usize, arcs: &[Arc]) -> Result<Chains, AllocError>
     requires starts { All (λ a. a.from < count) arcs.now }
     ensures count { IfOk result (λ chains. length chains.firsts.items ≡ count) }
@@ -36,7 +36,7 @@ fn chains_of(alloc: Global, count: usize, arcs: &[Arc]) -> Result<Chains, AllocE
     Ok(Chains { firsts, nexts })
 }
 
-/// Lists the ends of the arcs that begin at a vertex.
+/// Appends the ends of the arcs that begin at a vertex.
 fn follow(
     firsts: &[usize],
     nexts: &[usize],
@@ -57,9 +57,9 @@ fn follow(
     Ok(())
 }
 
-/// For each vertex the ends of the arcs that begin there, in the order of the arcs.
+/// Returns for each vertex the ends of the arcs that begin there, in the order of the arcs.
 ///
-/// The first arc of a vertex is asked for once. So the end of its group is put in its place, and no other list is made for the ends.
+/// The first arc of a vertex is read once. The end of its group then takes its place, so the ends need no list of their own.
 pub fn groups_of(alloc: Global, count: usize, arcs: &[Arc]) -> Result<Groups<usize>, AllocError>
     requires starts { All (λ a. a.from < count) arcs.now }
     ensures exact { IfOk result (λ graph. AreEnds arcs.now count (groups graph)) }

@@ -1,9 +1,9 @@
-//! Groups of items, one behind the other in one list.
+//! Groups of items, one after another in one list.
 
 ghost use Rattle.std.proofs.Props.{props};
 ghost use Rattle.contracts.specs.Spans.{AreWithin};
 
-/// Groups of items. The items of all of them stand in one list, and each group begins where the one before it ends.
+/// Groups of items. One list has the items of all groups, and each group begins where the previous one ends.
 #[derive(Drop)]
 pub struct Groups<T> {
     pub items: Vec<T>,
@@ -16,14 +16,14 @@ impl<T> Groups<T> {
     ghost use Rattle.contracts.specs.Graphs.{groups, group_at};
     ghost use Rattle.contracts.specs.Spans.{start_of};
 
-    /// How many groups there are.
+    /// Returns the number of groups.
     pub fn len(&self) -> usize
         ensures { result ≡ length (groups self.now) }
     {
         self.ends.len()
     }
 
-    /// The group at an index.
+    /// Returns the group at an index.
     pub fn group(&self, at: usize) -> &[T]
         requires { at < length (groups self.now) }
         ensures { result.now ≡ group_at (groups self.now) at }
@@ -33,7 +33,7 @@ impl<T> Groups<T> {
         &self.items[from..to]
     }
 
-    /// Where the group at an index begins.
+    /// Returns where the group at an index begins.
     fn start(&self, at: usize) -> usize
         requires { at < length (groups self.now) }
         ensures start { result ≡ start_of 0 self.now.ends.items at }
@@ -42,7 +42,7 @@ impl<T> Groups<T> {
         if at == 0 { 0 } else { self.ends[at - 1] }
     }
 
-    /// Where it ends.
+    /// Returns where the group at an index ends.
     fn end(&self, at: usize) -> usize
         requires { at < length (groups self.now) }
         ensures end { result ≡ get_or self.now.ends.items at 0 }

@@ -1,4 +1,4 @@
-//! Laws of contracts: they hold of all parts, whatever the code does.
+//! Laws of contracts. They hold for all parts, whatever the code does.
 
 ghost use Rattle.std.specs.Prelude.{ℕ, List};
 ghost use Rattle.std.specs.Thread.{IsSync};
@@ -10,7 +10,7 @@ ghost use Rattle.program.specs.declared.types.Side.{Side};
 
 use crate::sound::Sound;
 
-/// What is wrong with a contract is a list, and the bounds of a sound one are numbers: so there is always an answer beside `Memory`.
+/// The findings of a contract form a list, and the bounds of a sound one are numbers, so an answer other than `Memory` always exists.
 pub fn each_contract_is_judged()
     ensures found { (parts : Parts) → ((found : List FindingModel) → AreExactly (IsFlaw parts) found → ⊥) → ⊥ }
     ensures bounds { (parts : Parts) → IsWhole parts → IsSound parts → (side : Side)

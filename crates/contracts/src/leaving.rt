@@ -14,7 +14,7 @@ use crate::positions::Listing;
 use program::{Edge, Side, Sign};
 use std::alloc::{AllocError, Global};
 
-/// For each state the edges from there, in order of the text: a group for the position of each state.
+/// Returns a group for the position of each state: the edges from that state, in order of the text.
 pub(crate) fn edges_by_state(
     alloc: Global,
     edges: &[Edge],
@@ -25,7 +25,7 @@ pub(crate) fn edges_by_state(
 {
     let sources = sources_of(alloc, edges, states)?;
     let indices = groups_of(alloc, states.len(), &sources)?;
-    drop(sources); // a large contract takes less memory so
+    drop(sources); // freed early, so that a large contract takes less memory
     let items = edges_at(alloc, edges, &indices.items)?;
     Ok(Groups {
         items,
@@ -33,7 +33,7 @@ pub(crate) fn edges_by_state(
     })
 }
 
-/// For each edge an arc from the position of its state to its own index.
+/// Returns for each edge an arc from the position of its state to its own index.
 fn sources_of(alloc: Global, edges: &[Edge], states: Listing) -> Result<Vec<Arc>, AllocError>
     requires listed { EndsListed (numbers_of states) edges.now }
     ensures { IfOk result (λ sources. AreSources (numbers_of states) edges.now (length edges.now) sources.items) }
@@ -48,7 +48,7 @@ fn sources_of(alloc: Global, edges: &[Edge], states: Listing) -> Result<Vec<Arc>
     Ok(sources)
 }
 
-/// The edges at these indices.
+/// Returns the edges at these indices.
 fn edges_at(alloc: Global, edges: &[Edge], indices: &[usize]) -> Result<Vec<Edge>, AllocError>
     requires { All (λ i. i < length edges.now) indices.now }
     ensures { IfOk result (λ found. found.items ≡ map (edge_at edges.now) indices.now) }
@@ -56,7 +56,7 @@ fn edges_at(alloc: Global, edges: &[Edge], indices: &[usize]) -> Result<Vec<Edge
     indices.iter().map(|i| edges[*i]).collect(alloc)
 }
 
-/// The sign of the edges along which an end sends.
+/// Returns the sign of the edges along which an end sends.
 pub(crate) fn sign_from(side: Side) -> Sign
     ensures { result ≡ sign_from side }
 {
@@ -66,7 +66,7 @@ pub(crate) fn sign_from(side: Side) -> Sign
     }
 }
 
-/// The sign of the edges along which an end receives.
+/// Returns the sign of the edges along which an end receives.
 pub(crate) fn sign_to(side: Side) -> Sign
     ensures { result ≡ sign_to side }
 {

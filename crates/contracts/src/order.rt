@@ -8,7 +8,7 @@ use crate::keys::key_of;
 use program::{Edge, MessageId, StateId};
 use std::alloc::{AllocError, Global};
 
-/// The indices of all edges: by state, in a state by message, and where both are the same in order of the text.
+/// Returns the indices of all edges, sorted by state, then by message, then by order in the text.
 pub fn order_of(alloc: Global, edges: &[Edge]) -> Result<Vec<usize>, AllocError>
     ensures { IfOk result (λ order. IsOrder edges.now order.items) }
 {
@@ -17,7 +17,7 @@ pub fn order_of(alloc: Global, edges: &[Edge]) -> Result<Vec<usize>, AllocError>
     indices_of(alloc, &entries)
 }
 
-/// The key and the index of each edge.
+/// Returns the key and the index of each edge.
 fn keyed_indices(alloc: Global, edges: &[Edge]) -> Result<Vec<((u32, u32), usize)>, AllocError>
     ensures { IfOk result (λ entries. AreEntries edges.now (length edges.now) entries.items) }
 {
@@ -28,14 +28,14 @@ fn keyed_indices(alloc: Global, edges: &[Edge]) -> Result<Vec<((u32, u32), usize
     Ok(entries)
 }
 
-/// The indices alone.
+/// Returns the indices without the keys.
 fn indices_of(alloc: Global, entries: &[((u32, u32), usize)]) -> Result<Vec<usize>, AllocError>
     ensures { IfOk result (λ indices. indices.items ≡ map (λ e. e.1) entries.now) }
 {
     entries.iter().map(|entry| entry.1).collect(alloc)
 }
 
-/// Whether an edge before the one at this index of the order has its state and its message.
+/// Returns whether an earlier edge has the state and the message of the edge at this index of the order.
 pub fn is_second(edges: &[Edge], order: &[usize], at: usize) -> bool
     requires ordered { IsOrder edges.now order.now }
     requires at { at < length order.now }
@@ -44,7 +44,7 @@ pub fn is_second(edges: &[Edge], order: &[usize], at: usize) -> bool
     at > 0 && key_of(&edges[order[at - 1]]) == key_of(&edges[order[at]])
 }
 
-/// The index of the first edge of a state on a message.
+/// Returns the index of the first edge of a state on a message, if there is one.
 pub fn first_on(
     edges: &[Edge],
     order: &[usize],
@@ -63,7 +63,7 @@ pub fn first_on(
     }
 }
 
-/// Whether the edge at an index has a lower key.
+/// Returns whether the edge at an index has a lower key.
 fn is_below(edges: &[Edge], index: usize, key: (u32, u32)) -> bool
     ensures { result ≡ is_below edges.now index key }
 {
@@ -73,7 +73,7 @@ fn is_below(edges: &[Edge], index: usize, key: (u32, u32)) -> bool
     }
 }
 
-/// Whether the first of two keys is lower.
+/// Returns whether the first of two keys is lower.
 fn lower(x: (u32, u32), y: (u32, u32)) -> bool
     ensures { result ≡ lower x y }
 {

@@ -1,9 +1,9 @@
-//! Where numbers stand that go up by one.
+//! Positions of consecutive numbers.
 
 ghost use Rattle.std.specs.Prelude.{◌≡◌, ◌<◌, ◌↔◌, IsTrue, Contains, length, slice_index};
 ghost use Rattle.contracts.specs.Positions.{numbers_of};
 
-/// Numbers that go up by one: the first of them, and how many there are.
+/// Consecutive numbers, by the first of them and their count.
 #[derive(Clone, Copy)]
 pub struct Listing {
     first: u32,
@@ -13,28 +13,28 @@ pub struct Listing {
 impl Listing {
     ghost use Rattle.std.specs.List.{range_with_len};
 
-    /// So many numbers from this one on.
+    /// Returns `count` numbers, from `first` on.
     pub fn new(first: u32, count: usize) -> Listing
         ensures { numbers_of result ≡ range_with_len first count }
     {
         Listing { first, count }
     }
 
-    /// How many numbers there are.
+    /// Returns how many numbers there are.
     pub fn len(self) -> usize
         ensures { result ≡ length (numbers_of self) }
     {
         self.count
     }
 
-    /// Whether a number is one of them.
+    /// Returns whether a number is one of them.
     pub fn has(self, number: u32) -> bool
         ensures { IsTrue result ↔ Contains (numbers_of self) number }
     {
         number >= self.first && ((number - self.first) as usize) < self.count
     }
 
-    /// The position of one of the numbers.
+    /// Returns the position of one of the numbers.
     pub fn position(self, number: u32) -> usize
         requires { Contains (numbers_of self) number }
         ensures within { result < length (numbers_of self) }

@@ -1,4 +1,4 @@
-//! Which vertices lie on a ring.
+//! Which vertices are on a ring.
 
 ghost use Rattle.std.specs.Prelude.{◌≡◌, ◌==◌, ◌≤◌, length, map, not, IfOk, OnOk};
 ghost use Rattle.contracts.specs.Graphs.{groups, InRange};
@@ -11,7 +11,7 @@ use crate::groups::Groups;
 use crate::heights::{all_heights, are_known};
 use std::alloc::{AllocError, Global};
 
-/// Whether each vertex lies on a ring. Also finds the heights that are not known yet. If all are known, there is no ring and no search.
+/// Returns whether each vertex is on a ring, and finds the missing heights. If all are known, there is no ring and no search.
 pub fn rings(
     alloc: Global,
     graph: &Groups<usize>,
@@ -31,7 +31,7 @@ pub fn rings(
     Ok(found.rings)
 }
 
-/// Which groups are not empty.
+/// Returns for each group whether it has items.
 pub fn nonempty_groups(alloc: Global, graph: &Groups<usize>) -> Result<Vec<bool>, AllocError>
     ensures { IfOk result (λ marks. marks.items ≡ map (λ group. not (length group == 0)) (groups graph.now)) }
 {

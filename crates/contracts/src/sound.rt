@@ -28,13 +28,13 @@ use std::alloc::{AllocError, AllocFailed, Global};
 use std::snapshot::Snapshot;
 use thiserror::Error;
 
-/// Why there is no sound contract.
+/// Why `Sound::new` returned no sound contract.
 #[derive(Clone, Copy, Debug, PartialEq, Eq, Error)]
 pub enum SoundFault {
     /// A condition is not met.
     #[error("the contract is not sound")]
     Found,
-    /// A growth of memory was refused.
+    /// An allocation was refused.
     #[error("out of memory")]
     Memory,
 }
@@ -72,8 +72,8 @@ impl From<Memory> for SoundFault {
     }
 }
 
-/// A contract that meets the four conditions, with the bounds of its queues. It finds an edge, the edges from a state and a
-/// message by their numbers. The names of its states stay with the contract of which it was made.
+/// A contract that meets the four conditions, with the bounds of its queues. It looks up an edge, the edges from a state and a
+/// message by their numbers. The names of its states stay with the contract from which it was made.
 #[derive(Drop)]
 pub struct Sound {
     contract: Snapshot<Contract>,
@@ -97,21 +97,22 @@ pub struct Sound {
     ghost leave: { AreLeaving (numbers_of states) contract.value.edges.items (groups leaving) } by { Prim.hlevel props },
 }
 
-/// What a contract is judged to be.
+/// The result of judging a contract.
 #[derive(Drop)]
 pub enum Judged {
     /// It meets the four conditions.
     Sound(Sound),
-    /// All that is wrong with it, which is something.
+    /// All its findings, at least one.
     Broken(Vec<Finding>),
 }
 
 impl Sound {
     ghost use Rattle.contracts.specs.Sounds.{IsJudged, sound_parts};
 
-    /// A sound contract of these parts, or all that is wrong with them. It takes what it needs of them, and no names of states.
+    /// Returns a sound contract of these parts, or all their findings. Copies what it needs, without the names of states.
     ///
-    /// `Memory` is answered where a growth was refused.
+    /// # Errors
+    /// `Memory` if an allocation was refused.
     pub fn judge(alloc: Global, contract: &Contract) -> Result<Judged, Memory>
         requires whole { IsWhole (contract_parts contract.now) }
         ensures { IfOk result (IsJudged (contract_parts contract.now)) }
@@ -126,7 +127,10 @@ impl Sound {
         Ok(Judged::Sound(sound))
     }
 
-    /// A sound contract of these parts. `Found` comes exactly where a condition is not met.
+    /// Returns a sound contract of these parts.
+    ///
+    /// # Errors
+    /// `Found` if a condition is not met, `Memory` if an allocation was refused.
     pub fn new(alloc: Global, contract: &Contract) -> Result<Sound, SoundFault>
         requires whole { IsWhole (contract_parts contract.now) }
         ensures parts { IfOk result (λ sound. sound_parts sound ≡ contract_parts contract.now) }
@@ -140,7 +144,7 @@ impl Sound {
         }
     }
 
-    /// How many messages the queue to an end can hold: the greatest number of edges in a walk of `!` edges, for the
+    /// Returns how many messages the queue to an end can hold: the greatest number of edges in a walk of `!` edges, for the
     /// importer, or of `?` edges, for the exporter, that begins at a state which can be reached from the first one.
     pub fn bound(&self, side: Side) -> u32
         ensures { ∥ IsBound (sound_parts self.now).edges (sound_parts self.now).first
@@ -152,7 +156,7 @@ impl Sound {
         }
     }
 
-    /// The state in which the edge of a state on a message ends, if there is one.
+    /// Returns the state in which the edge of a state on a message ends, if there is one.
     pub fn next(&self, state: StateId, message: MessageId) -> Option<StateId>
         ensures { IsNext (sound_parts self.now).edges state message result }
     {
@@ -160,7 +164,7 @@ impl Sound {
         Some(self.edges[position].to)
     }
 
-    /// Its edges, in order of the text. They meet the four conditions.
+    /// Returns its edges, in order of the text. They meet the four conditions.
     pub fn edges(&self) -> &[Edge]
         ensures edges { result.now ≡ (sound_parts self.now).edges }
         ensures whole { ∥ IsWhole (sound_parts self.now) ∥₁ }
@@ -169,7 +173,7 @@ impl Sound {
         &self.edges
     }
 
-    /// The state in which a channel of it begins.
+    /// Returns the state in which its channels begin.
     pub fn first(&self) -> StateId
         ensures first { result ≡ (sound_parts self.now).first }
         ensures numbered { result.0 < MOST_STATES }
@@ -177,14 +181,14 @@ impl Sound {
         self.first
     }
 
-    /// The edges along which the end of this side sends in a state, in order of the text.
+    /// Returns the edges along which the end of this side sends in a state, in order of the text.
     pub fn edges_out(&self, side: Side, state: StateId) -> &[Edge]
         ensures { result.now ≡ edges_from (sound_parts self.now).edges (sign_from side) state.0 }
     {
         self.edges_of(sign_from(side), state)
     }
 
-    /// The edges along which the end of this side receives in a state, in order of the text.
+    /// Returns the edges along which the end of this side receives in a state, in order of the text.
     pub fn edges_in(&self, side: Side, state: StateId) -> &[Edge]
         ensures edges { result.now ≡ edges_from (sound_parts self.now).edges (sign_to side) state.0 }
         ensures numbered { All (λ e. e.to.0 < MOST_STATES) result.now }
@@ -192,7 +196,7 @@ impl Sound {
         self.edges_of(sign_to(side), state)
     }
 
-    /// The edges of this sign from a state, in order of the text. Those from one state have one sign.
+    /// Returns the edges of this sign from a state, in order of the text. All edges from a state have the same sign.
     fn edges_of(&self, sign: Sign, state: StateId) -> &[Edge]
         ensures { result.now ≡ edges_from (sound_parts self.now).edges sign state.0 }
     {
@@ -203,7 +207,7 @@ impl Sound {
         }
     }
 
-    /// The edges of either sign from a state, in order of the text.
+    /// Returns the edges of either sign from a state, in order of the text.
     fn edges_at(&self, state: StateId) -> &[Edge]
         ensures { result.now ≡ all_from (sound_parts self.now).edges state.0 }
     {
@@ -214,7 +218,7 @@ impl Sound {
         }
     }
 
-    /// The state in which the edge ends along which the end of this side sends the message in a state, if there is one.
+    /// Returns the state in which the end of this side is after it sent the message in a state, if an edge allows that.
     pub fn state_after_send(
         &self,
         side: Side,
@@ -234,7 +238,7 @@ impl Sound {
         }
     }
 
-    /// The name of a message: nothing, where the contract has no such message.
+    /// Returns the name of a message; empty if the contract has no such message.
     pub fn message_name(&self, message: MessageId) -> &[u8]
         ensures { result.now ≡ name_among (sound_parts self.now).messages message.0 }
     {
@@ -247,7 +251,7 @@ impl Sound {
     }
 }
 
-/// A contract in which nothing was found, by its drawing and the order of its edges.
+/// Makes the sound contract of one without findings, from its drawing and the order of its edges.
 fn sound_of(
     alloc: Global,
     contract: &Contract,
@@ -277,7 +281,7 @@ fn sound_of(
     })
 }
 
-/// The same messages.
+/// Copies the messages.
 fn copy_messages(alloc: Global, messages: &[Message]) -> Result<Vec<Message>, AllocError>
     ensures parts { IfOk result (λ copies. map message_model copies.items ≡ map message_model messages.now) }
 {

@@ -5,9 +5,9 @@ ghost use Rattle.contracts.specs.Parts.{contract_parts};
 
 use program::{Contract, ContractId, Resolved};
 
-/// The contract of the program that has the number: its states, messages and edges, as `findings_of` and `Sound` ask for them.
+/// Returns the contract that has the number, with the states, messages and edges that `findings_of` and `Sound` ask for.
 ///
-/// Nothing is copied, and no memory is taken.
+/// Borrows from the program: nothing is copied or allocated.
 pub fn contract_at(resolved: &Resolved, id: ContractId) -> &Contract
     requires { id.0 < length resolved.now.contracts.items }
     ensures { slice_get (map contract_parts resolved.now.contracts.items) id.0 ≡ Some (contract_parts result.now) }

@@ -1,4 +1,4 @@
-//! Whether the lists of a contract have what its edges name.
+//! Whether the lists of a contract contain what its edges name.
 
 ghost use Rattle.std.specs.Prelude.{◌≡◌, ◌<◌, ◌↔◌, IfOk, IsTrue, All, get_or};
 ghost use Rattle.contracts.specs.Parts.{AreConsecutive, IsWhole, contract_parts};
@@ -11,9 +11,9 @@ use program::{Contract, Edge, MOST_STATES};
 use source::Memory;
 use std::alloc::Global;
 
-/// Whether the first state, and the states and messages of the edges, stand in the lists, the numbers there go up by one from those
-/// of the first state and of the first message on, and each number of a state is less than `MOST_STATES`. This is what `faults` and
-/// `Sound::new` ask for.
+/// Returns whether a contract is whole: its lists contain its first state and the states and messages of its edges, their numbers
+/// go up by one from those of the first state and of the first message, and each number of a state is less than `MOST_STATES`.
+/// `findings_of` and `Sound::new` require this.
 pub fn is_whole(alloc: Global, contract: &Contract) -> Result<bool, Memory>
     ensures { IfOk result (λ whole. IsTrue whole ↔ IsWhole (contract_parts contract.now)) }
 {
@@ -28,14 +28,14 @@ pub fn is_whole(alloc: Global, contract: &Contract) -> Result<bool, Memory>
     Ok(in_row & listed & state_list.has(contract.first.0) & are_numbered(&states))
 }
 
-/// The first of these, and 0 where there is none.
+/// Returns the first of these, or 0 if there is none.
 fn first_or_0(numbers: &[u32]) -> u32
     ensures { result ≡ get_or numbers.now 0 0 }
 {
     numbers.first().copied().unwrap_or(0)
 }
 
-/// Whether each of these is a number that a state may have.
+/// Returns whether each of these is a number that a state may have.
 fn are_numbered(numbers: &[u32]) -> bool
     ensures { IsTrue result ↔ All (λ q. q < MOST_STATES) numbers.now }
 {
@@ -44,7 +44,7 @@ fn are_numbered(numbers: &[u32]) -> bool
         .all(|number| (*number as usize) < MOST_STATES)
 }
 
-/// Whether the numbers go up by one, from this one on.
+/// Returns whether the numbers go up by one, beginning with `first`.
 fn are_consecutive(numbers: &[u32], first: u32) -> bool
     ensures { IsTrue result ↔ AreConsecutive first numbers.now }
 {
@@ -56,7 +56,7 @@ fn are_consecutive(numbers: &[u32], first: u32) -> bool
     true
 }
 
-/// Whether the states and the messages of the edges are listed.
+/// Returns whether the states and the messages of the edges are listed.
 fn are_listed(edges: &[Edge], states: Listing, messages: Listing) -> bool
     ensures { IsTrue result ↔ All (EndsHave (numbers_of states) (numbers_of messages)) edges.now }
 {

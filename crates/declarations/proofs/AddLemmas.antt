@@ -14,13 +14,13 @@ adds_then {a = a} {b = b} first second = record { all = second.all ∙ ap (λ l.
 pub flat_map_taken : {X A : Type 0} (f : X → List A) (xs : List X) (i : ℕ) (x : X) → i < length xs → x ≡ get_or xs i x → flat_map f (take i xs) ++ f x ≡ flat_map f (take (i + 1) xs)
 flat_map_taken f xs i x lt is = flat_map_more f [] (take i xs) x ∙ ap (flat_map f) (sym (take_more xs i x lt ∙ ap (λ y. take i xs ++ y ∷ []) (sym is)))
 
--- what one more of these adds, behind those before it
+-- one more element adds its mistakes after those of the elements before it
 pub adds_more : {X : Type 0} {old mid new : List Mistake} (f : X → List Mistake) (xs : List X) (i : ℕ) (x : X) → i < length xs → x ≡ get_or xs i x → Adds old mid (flat_map f (take i xs)) → Adds mid new (f x) → Adds old new (flat_map f (take (i + 1) xs))
 adds_more {old = old} f xs i x lt is first second = record {
   all = (adds_then first second).all ∙ ap (λ l. old ++ l) (flat_map_taken f xs i x lt is);
 }
 
--- the same of the element at a place
+-- the same for the element at an index
 pub adds_at : {X : Type 0} {old mid new : List Mistake} (f : X → List Mistake) (xs : List X) (i : ℕ) (d : X) → i < length xs → Adds old mid (flat_map f (take i xs)) → Adds mid new (f (get_or xs i d)) → Adds old new (flat_map f (take (i + 1) xs))
 adds_at {old = old} f xs i d lt first second = record {
   all = (adds_then first second).all ∙ ap (λ l. old ++ l) (flat_map_more f [] (take i xs) (get_or xs i d) ∙ ap (flat_map f) (sym (take_more xs i d lt)));

@@ -1,4 +1,4 @@
--- The numbers of a program, in a row.
+-- The numbers in a program are consecutive.
 use Rattle.std.proofs.Common.{◌≡◌, ◌≢◌, ℕ, zero, suc, ◌+◌, List, [], ◌∷◌, ◌++◌, length, map, sym, refl, ap, ◌∙◌, subst, arith}
 use Rattle.std.specs.Prelude.{AllPairs}
 use Rattle.std.specs.List.{enumerate_from, flat_map, range_with_len}
@@ -22,13 +22,13 @@ range_append a (suc n) m =
     ∙ ap (λ l. a ∷ l) (range_append (a + 1) n m)
     ∙ ap (range_with_len a) (let both : suc (n + m) ≡ suc n + m = omega arith in both)
 
--- things that are numbered in a row have a row of numbers
+-- elements that are numbered in order have consecutive numbers
 consecutive : {Y Z I : Type 0} (f : ℕ → Y → Z) (id : Z → I) (make : ℕ → I) → ((n : ℕ) (y : Y) → id (f n y) ≡ make n) → (first : ℕ) (ys : List Y)
     → map id (map (λ p. f p.0 p.1) (enumerate_from first ys)) ≡ map make (range_with_len first (length ys))
 consecutive f id make same first [] = refl
 consecutive f id make same first (y ∷ ys) = ap (λ i. i ∷ map id (map (λ p. f p.0 p.1) (enumerate_from (first + 1) ys))) (same first y) ∙ ap (λ l. make first ∷ l) (consecutive f id make same (first + 1) ys)
 
--- and so have all that stand one behind another
+-- and so do lists of elements, one list after another
 sequences : {X Y I A : Type 0} (g : X → List A) (seen : List X → X → Y) (ids : Y → List I) (make : ℕ → I) → ((before : List X) (x : X) → ids (seen before x) ≡ map make (range_with_len (length (flat_map g before)) (length (g x))))
     → (before xs : List X) → flat_map ids (each_behind (λ b x. seen b x ∷ []) before xs) ≡ map make (range_with_len (length (flat_map g before)) (length (flat_map g xs)))
 sequences g seen ids make same before [] = refl
@@ -71,7 +71,7 @@ message_sequence text contracts =
     (λ before c. consecutive (numbered_message text) (λ (m : MessageModel). m.id) message_id (λ n y. refl) (message_count before) (messages_of c))
     [] contracts
 
--- in contracts that are seen as resolved, each number stands once
+-- in resolved contracts, each number occurs once
 pub seen_apart : (text : List ℕ) (contracts : List ContractTree) (resolved : List Contract) → map contract_model resolved ≡ resolved_contracts text contracts → AreApart (map contract_parts resolved)
 unfolding state_id message_id
 seen_apart text contracts resolved are =

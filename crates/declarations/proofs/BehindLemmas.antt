@@ -1,4 +1,4 @@
--- Lists that depend on what stands before: one more element.
+-- Lists whose elements depend on those before them: one more element.
 use Rattle.std.proofs.Common.{◌≡◌, ℕ, zero, suc, ◌+◌, ◌<◌, ◌≤◌, List, [], ◌∷◌, ◌++◌, length, map, take, get_or, sym, refl, ap, ◌∙◌, arith, append_assoc, append-nil}
 use Rattle.std.specs.List.{flat_map, enumerate_from}
 use Rattle.std.proofs.lemmas.List.{map-append, take_more, length-take-le, length-map, take-map, get_or-map, nil_from_length}
@@ -6,7 +6,7 @@ use Rattle.std.proofs.lemmas.List.Folds.{length-flat_map-take}
 use Rattle.lemmas.proofs.Lists.{enumerate_push}
 use Rattle.declarations.specs.Resolution.{each_behind}
 
--- the front up to a place, with the element there
+-- the first i elements, and one more
 pub mapped_more : {X Y : Type 0} (g : X → Y) (xs : List X) (i : ℕ) (x : X) → i < length xs → x ≡ get_or xs i x → map g (take (i + 1) xs) ≡ map g (take i xs) ++ g x ∷ []
 mapped_more g xs i x lt is =
     ap (map g) (take_more xs i x lt ∙ ap (λ y. take i xs ++ y ∷ []) (sym is)) ∙ map-append g (take i xs) (x ∷ [])
@@ -21,7 +21,7 @@ pub behind_more : {X Y Z : Type 0} (f : List Y → Y → List Z) (g : X → Y) (
     → each_behind f [] (map g (take (i + 1) xs)) ≡ each_behind f [] (map g (take i xs)) ++ f (map g (take i xs)) (g x)
 behind_more f g xs i x lt is = ap (each_behind f []) (mapped_more g xs i x lt is) ∙ behind_push f [] (map g (take i xs)) (g x)
 
--- what a place adds is no more than is there in all
+-- the front and what one more element adds are no longer than the whole
 pub flat_room : {X Y Z : Type 0} (f : Y → List Z) (g : X → Y) (xs : List X) (i : ℕ) (x : X) → i < length xs → x ≡ get_or xs i x
     → length (flat_map f (map g (take i xs))) + length (f (g x)) ≤ length (flat_map f (map g xs))
 flat_room f g xs i x lt is =
@@ -30,7 +30,7 @@ flat_room f g xs i x lt is =
     let here : length (f (get_or (map g xs) i (g x))) ≡ length (f (g x)) = ap (λ y. length (f y)) (get_or-map g xs i x (g x) lt ∙ sym (ap g is)) in
     omega (arith, all, front, here)
 
--- where nothing is added in all, nothing is added at a place
+-- if nothing is added in all, no element adds anything
 pub nothing_in : {X Y : Type 0} (f : X → List Y) (xs : List X) (i : ℕ) (d : X) → i < length xs → flat_map f xs ≡ [] → f (get_or xs i d) ≡ []
 nothing_in f xs i d lt none =
     let room = length-flat_map-take f xs i d lt in
@@ -54,7 +54,7 @@ number_more f part g n xs i x ws more w lt is all new one =
     ∙ sym (map-append each (enumerate_from n front) ((n + length front, g x) ∷ []))
     ∙ ap (map each) (sym (enumerate_push n front (g x)) ∙ ap (enumerate_from n) (sym (mapped_more g xs i x lt is)))
 
--- the single thing that a place adds
+-- the one element that index i adds
 pub single_at : {X Y : Type 0} (f : List X → Y) (before xs : List X) (i : ℕ) (d : Y) → i < length xs → get_or (each_behind (λ b x. f b ∷ []) before xs) i d ≡ f (before ++ take i xs)
 single_at f before [] i d lt = absurd (omega (arith, lt))
 single_at f before (x ∷ xs) zero d lt = ap f (sym (append-nil before))

@@ -1,4 +1,4 @@
--- What a look-up of a class finds, and where its item stands.
+-- The class that a look-up finds, and the index of its item.
 use Rattle.std.proofs.Common.{◌≡◌, ℕ, List, Option, Some, None, sym, refl, ap, subst}
 use Rattle.std.specs.Prelude.{option_map, option_and_then, slice_get}
 use Rattle.tree.specs.Trees.{ItemTree, ClassTree}
@@ -8,7 +8,7 @@ use Rattle.declarations.specs.declared.members.ClassMethods.{ClassMethods}
 use Rattle.declarations.specs.declared.members.Members.{Members}
 use Rattle.declarations.proofs.ScopeLemmas.{class_at}
 
--- what was looked up, if anything, has this number
+-- what the look-up found, if anything, has number k
 abbrev HasNumber : {X : Type 0} → ℕ → Option (ℕ × X) → Type 0
 HasNumber k None = Unit {0}
 HasNumber k (Some x) = x.0 ≡ k
@@ -21,7 +21,7 @@ item_numbered : (k : ℕ) (item : Option ItemTree) → HasNumber k (option_and_t
 item_numbered k None = tt
 item_numbered k (Some i) = numbered k (as_class i.definition)
 
--- what was looked up is a class, these are its methods, and so many items stand before it
+-- the look-up found the class of item k, which has the methods m
 pub record LookedClass (text : List ℕ) (o : Option (ℕ × ClassTree)) (k : ℕ) (m : ClassMethods) : Type 0 where
   pub class : ClassTree
   pub is : o ≡ Some (k, class)
@@ -35,13 +35,13 @@ no_class : (text : List ℕ) (o : Option (ℕ × ClassTree)) → IsClass text o 
 no_class text None h = refl
 no_class text (Some c) h = absurd h
 
--- where there are no methods, the item at the place is no class
+-- if there are no methods at an index, the item there is no class
 pub class_missing : (p : ProgramText) (ms : List Members) (n : ℕ) → AllMembers p.text p.items ms → None ≡ option_and_then as_methods (slice_get ms n) → item_at as_class p n ≡ None
 class_missing p ms n all is =
     no_class p.text (item_at as_class p n)
     (subst (IsClass p.text (item_at as_class p n)) (sym is) (class_at p.text p.items ms n n all))
 
--- where there are methods, the item at the place is their class
+-- if there are methods at an index, the item there is their class
 pub class_here : (p : ProgramText) (ms : List Members) (n : ℕ) (m : ClassMethods) → AllMembers p.text p.items ms → Some m ≡ option_and_then as_methods (slice_get ms n) → LookedClass p.text (item_at as_class p n) n m
 class_here p ms n m all is =
     looked_class p.text (item_at as_class p n) n m (item_numbered n (slice_get p.items n))

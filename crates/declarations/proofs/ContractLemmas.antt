@@ -1,4 +1,4 @@
--- What contracts declare, in a row.
+-- The declarations of contracts, one contract after another.
 use Rattle.std.proofs.Common.{◌≡◌, ◌≤◌, ℕ, List, [], ◌∷◌, ◌++◌, length, map, refl, sym, ap, ◌∙◌, append_assoc, arith}
 use Rattle.std.specs.List.{flat_map}
 use Rattle.std.specs.Option.{option_map_or}
@@ -29,7 +29,7 @@ one_declared text (Class c) (members.Contract d) cs ds h all = absurd h
 one_declared text (Class c) (members.Struct f) cs ds h all = absurd h
 one_declared text (Class c) (members.Class m) cs ds h all = all
 
--- what the contracts among items declare
+-- the declarations of the contracts among items
 pub all_declared : (text : List ℕ) (items : List ItemTree) (ms : List Members) → AllMembers text items ms → AreDeclared text (contracts_of items) (flat_map declared_among ms)
 all_declared text [] [] all = tt
 all_declared text [] (m ∷ ms) all = absurd all
@@ -81,10 +81,10 @@ counts_are text (c ∷ cs) (d ∷ ds) all =
     let rest = counts_are text cs ds all.1 in
     omega (arith, code, here, counted, rest)
 
--- as many states are in scope as are counted
+-- there are as many states in scope as counted states
 pub many_states : (text : List ℕ) (items : List ItemTree) (ms : List Members) → AllMembers text items ms → length (flat_map (λ m. flat_map (λ (d : Declared). d.counted.all.items) (declared_among m)) ms) ≡ length (all_counted_states (contracts_of items))
 many_states text items ms all = ap length (flat_within (λ (d : Declared). d.counted.all.items) declared_among ms) ∙ counts_are text (contracts_of items) (flat_map declared_among ms) (all_declared text items ms all)
 
--- none of so few names is past the limit
+-- if there are no more names than the limit, none is past it
 pub none_past : (limit : Limit) (names : List Span) → length names ≤ most_of limit → past_limit limit names ≡ []
 none_past limit names few = ap (λ o. option_map_or (limit_passed limit) o []) (slice_get_past names (most_of limit) few)

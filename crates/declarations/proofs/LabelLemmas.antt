@@ -1,4 +1,4 @@
--- Names of states, one behind another.
+-- Names of states, written one after another.
 use Rattle.std.proofs.Common.{◌≡◌, ℕ, Bor, ◌+◌, ◌-◌, ◌<◌, ◌≤◌, List, Option, None, Some, [], ◌∷◌, ◌++◌, length, map, take, drop, get_or, sym, ap, refl, ◌∙◌, arith, append_assoc, append-nil}
 use Rattle.std.specs.Prelude.{IfSome, if◌then◌else◌, slice_get, option_map, codes}
 use Rattle.std.specs.Option.{option_copied}
@@ -22,7 +22,7 @@ use Rattle.tables.specs.Words.{same_word, word_at, words_at}
 use Rattle.declarations.proofs.BehindLemmas.{mapped_more, number_more}
 use Rattle.source.proofs.SpelledLemmas.{within}
 
--- what is written last stands there
+-- the part written last spells its word
 stands_last : (old word new : List ℕ) (part : Part) → new ≡ old ++ word → part.start ≡ length old → part.end ≡ length new → Stands new part word
 stands_last old word new part is start end behind =
     let s = length old in
@@ -41,14 +41,14 @@ stands_last old word new part is start end behind =
 pub told_last : (old word new : List ℕ) (part : Part) → new ≡ old ++ word → part.start ≡ length old → part.end ≡ length new → IsTold old new part word
 told_last old word new part is start end = record { more = word; grown = is; stands = stands_last old word new part is start end }
 
--- what stands there is told without more
+-- a word that is already there needs no writing
 pub told_there : (names : List ℕ) (part : Part) (word : List ℕ) → Stands names part word → IsTold names names part word
 told_there names part word h = record { more = []; grown = sym (append-nil names); stands = h }
 
 longer : (old new more behind : List ℕ) → new ≡ old ++ more → new ++ behind ≡ old ++ (more ++ behind)
 longer old new more behind is = ap (λ l. l ++ behind) is ∙ append_assoc old more behind
 
--- labels stay where they are when more is written
+-- labels stay valid when more is written
 pub labels_kept : (labels : Labels) (old new more : List ℕ) → AreLabels labels old → new ≡ old ++ more → AreLabels labels new
 labels_kept labels old new more h is = record {
   messages = h.messages;
@@ -79,7 +79,7 @@ states_more counted before xs i x states more s old new lt is all one id told pl
     ∙ ap (λ w. record { id = record { 0 = before + i }; name = w; place = s.place }) (told.stands behind)
     ∙ ap (λ p. record { id = record { 0 = before + i }; name = (counted x).name; place = p }) place)
 
--- the part of a message that is found is that of its name
+-- the part found for a message spells its name in parentheses
 pub shared_there : (labels : Labels) (names : List ℕ) (message : Span) (index : ℕ) (part : Part) (h : AreLabels labels names)
     → first_of (words_at labels.text.now h.messages) (word_at labels.text.now message) ≡ Some index → slice_get labels.by_message.items index ≡ Some part
     → Stands names part (in_parentheses labels.text.now message)

@@ -1,4 +1,4 @@
--- What names mean, and the edges of a path one after another.
+-- The meaning of names, and the edges of a path one after another.
 use Rattle.std.proofs.Common.{◌≡◌, ℕ, ◌+◌, ◌<◌, ◌≤◌, List, Option, [], ◌∷◌, ◌++◌, length, map, take, drop, get_or, Some, sym, refl, ap, ◌∙◌, subst, arith, append_assoc}
 use Rattle.std.specs.List.{flat_map, range_with_len}
 use Rattle.std.specs.Option.{option_map_or}
@@ -21,7 +21,7 @@ use Rattle.program.specs.declared.contract.Edge.{Edge}
 use Rattle.declarations.specs.declared.state_names.StateName.TheVariants.{Unnamed}
 use Rattle.declarations.proofs.BehindLemmas.{single_at, singles}
 
--- where a named state stands among all
+-- the index of a named state among all states
 pub index_at : {X : Type 0} (g : X → StateTree) (xs : List X) (named : List ℕ) (i : ℕ) → named ≡ indices_named (map g xs) → i < length xs → get_or named i 0 ≡ length (counted_states (map g (take i xs)))
 index_at g xs named i is lt =
     let size = length-map xs g in
@@ -62,7 +62,7 @@ named_at text first states name named index s is found =
       meant = ap (λ n. first + n) value ∙ sym (ap (λ o. option_map_or (λ k. first + length (counted_states (take k states))) o 0) found);
     }
 
--- the same, by what a look-up in the table answers
+-- the same, by the result of a look-up in the table
 pub named_by : (m : Meaning) (name : Span) (index : ℕ) (found : Option ℕ) (word : List ℕ) → IsMeaning m → ((words : List (List ℕ)) → IsTable words m.declared.now.states → found ≡ first_of words word)
     → word ≡ word_at (text_of m) name → found ≡ Some index → NamedAt (text_of m) m.states_before (states_in m) name m.named.now index
 named_by m name index found word h look is some =
@@ -70,7 +70,7 @@ named_by m name index found word h look is some =
     named_at (text_of m) m.states_before (states_in m) name m.named.now index (record { name = name; body = Empty }) h.named
     (sym (look words h.states ∙ ap (first_of words) is) ∙ some)
 
--- the names of states are as many as are counted, and each is counted as it should
+-- there are as many names of states as counted states, and each name is counted as its state
 pub names_counted : (states : List StateTree) → length (flat_map names_in states) ≡ length (counted_states states)
 names_counted [] = refl
 names_counted (s ∷ states) =

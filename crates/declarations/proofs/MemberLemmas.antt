@@ -15,7 +15,7 @@ use Rattle.declarations.specs.declared.members.Members.TheVariants as members
 use Rattle.declarations.proofs.AddLemmas.{flat_map_taken}
 use Rattle.declarations.proofs.BehindLemmas.{behind_push}
 
--- what all have, those in front have, and those behind
+-- what holds of all holds of the front, and of the rest
 all_front : {X : Type 0} (P : X → Type 0) (xs ys : List X) → All P (xs ++ ys) → All P xs
 all_front P [] ys all = All-nil P
 all_front P (x ∷ xs) ys all = All-cons P x xs (All-head P x (xs ++ ys) all) (all_front P xs ys (All-tail P x (xs ++ ys) all))
@@ -24,7 +24,7 @@ all_rest : {X : Type 0} (P : X → Type 0) (xs ys : List X) → All P (xs ++ ys)
 all_rest P [] ys all = all
 all_rest P (x ∷ xs) ys all = all_rest P xs ys (All-tail P x (xs ++ ys) all)
 
--- what all contracts have, the one at a place has
+-- what holds of all contracts holds of the one at an index
 pub all_at : (P : Declared → Type 0) (items : List Members) (i : ℕ) (m : Members) → i < length items → m ≡ get_or items i m → All P (declared_in items) → All P (declared_among m)
 all_at P [] i m lt is all = absurd (omega (arith, lt))
 all_at P (n ∷ items) zero m lt is all = subst (λ k. All P (declared_among k)) (sym is) (all_front P (declared_among n) (declared_in items) all)
@@ -37,7 +37,7 @@ grown g items i m lt is =
     ap (λ l. length (flat_map g l)) (sym (flat_map_taken declared_among items i m lt is))
     ∙ ap length (flat_map-append g front (declared_among m)) ∙ length-append (flat_map g front) (flat_map g (declared_among m))
 
--- there is no more in front than in all
+-- the front has no more than the whole
 in_front : {Y : Type 0} (g : Declared → List Y) (items : List Members) (k : ℕ) → length (flat_map g (declared_in (take k items))) ≤ length (flat_map g (declared_in items))
 in_front g items k =
     let front = declared_in (take k items) in
@@ -71,7 +71,7 @@ one_more text ds (members.Contract d) = behind_push (λ b k. resolved_declared t
 one_more text ds (members.Struct f) = ap (all_resolved text) (append-nil ds) ∙ sym (append-nil (all_resolved text ds))
 one_more text ds (members.Class c) = ap (all_resolved text) (append-nil ds) ∙ sym (append-nil (all_resolved text ds))
 
--- the contracts up to a place are resolved, and the one there is
+-- the contracts up to an index are resolved, and then the one there
 pub resolved_more : (text : List ℕ) (items : List Members) (i : ℕ) (m : Members) → i < length items → m ≡ get_or items i m
     → all_resolved text (declared_in (take (i + 1) items)) ≡ all_resolved text (declared_in (take i items)) ++ map (resolved_declared text (declared_messages (declared_in (take i items))) (declared_states (declared_in (take i items)))) (declared_among m)
 resolved_more text items i m lt is = ap (all_resolved text) (sym (flat_map_taken declared_among items i m lt is)) ∙ one_more text (declared_in (take i items)) m

@@ -1,4 +1,4 @@
--- Numbers in a row, and what all have that is added one after another.
+-- Consecutive numbers, and properties of all elements of a list that grows.
 use Rattle.std.proofs.Common.{◌≡◌, ◌≢◌, ℕ, zero, suc, ◌+◌, ◌-◌, ◌<◌, ◌≤◌, List, [], ◌∷◌, ◌++◌, length, map, take, get_or, sym, refl, ap, ◌∙◌, subst, arith, append_assoc, append-nil}
 use Rattle.std.specs.Prelude.{All, AllPairs, Contains}
 use Rattle.std.specs.List.{enumerate_from}
@@ -7,7 +7,7 @@ use Rattle.std.proofs.lemmas.List.Elements.{All-nil, All-append}
 use Rattle.program.specs.Parts.{AreConsecutive}
 use Rattle.declarations.specs.Resolution.{each_behind}
 
--- the numbers of things in a row
+-- the number of the element at index i is first + i
 number_at : {Y Z I : Type 0} (f : ℕ → Y → Z) (id : Z → I) (make : ℕ → I) → ((n : ℕ) (y : Y) → id (f n y) ≡ make n) → (first : ℕ) (ys : List Y) (i : ℕ) (d : I) → i < length ys
     → get_or (map id (map (λ p. f p.0 p.1) (enumerate_from first ys))) i d ≡ make (first + i)
 number_at f id make same first [] i d lt = absurd (omega (arith, lt))
@@ -18,7 +18,7 @@ numbers : {Y Z I : Type 0} (f : ℕ → Y → Z) (id : Z → I) (first : ℕ) (y
 numbers f id first [] = refl
 numbers f id first (y ∷ ys) = ap suc (numbers f id (first + 1) ys)
 
--- a number is among so many from the first on
+-- n is one of `many` consecutive numbers, beginning with `first`
 pub record Among (first many n : ℕ) : Type 0 where
   pub low : first ≤ n
   pub high : n < first + many
@@ -33,7 +33,7 @@ among_numbers f id make same first ys n h =
     let size = numbers f id first ys in
     (k, omega (arith, lt, size), number_at f id make same first ys k (make n) lt ∙ ap make (omega (arith, low)))
 
--- what each number among so many has, the number of each thing has
+-- what holds of each number in a range holds of the number of each element
 pub all_numbered : {Y Z I : Type 0} (P : I → Type 0) (f : ℕ → Y → Z) (id : Z → I) (make : ℕ → I)
     → ((n : ℕ) (y : Y) → id (f n y) ≡ make n) → (first : ℕ) (ys : List Y) → ((n : ℕ) → Among first (length ys) n → P (make n))
     → All P (map id (map (λ p. f p.0 p.1) (enumerate_from first ys)))
@@ -52,7 +52,7 @@ once_numbered f id make value same back first ys = λ i j d less lt e.
     let equal : first + i ≡ first + j = sym (back (first + i)) ∙ ap value (sym left ∙ e ∙ right) ∙ back (first + j) in
     absurd (omega (arith, less, equal))
 
--- and they go up by one from the first on
+-- and the numbers go up by one, beginning with `first`
 pub consecutive_numbered : {Y Z I : Type 0} (f : ℕ → Y → Z) (id : Z → I) (make : ℕ → I) (value : I → ℕ) → ((n : ℕ) (y : Y) → id (f n y) ≡ make n) → ((n : ℕ) → value (make n) ≡ n) → (first : ℕ) (ys : List Y)
     → AreConsecutive first (map value (map id (map (λ p. f p.0 p.1) (enumerate_from first ys))))
 consecutive_numbered f id make value same back first ys = λ i lt.
@@ -62,11 +62,11 @@ consecutive_numbered f id make value same back first ys = λ i lt.
     get_or-map value ids i (make 0) 0 (omega (arith, lt, size))
     ∙ ap value (number_at f id make same first ys i (make 0) (omega (arith, lt, size, many))) ∙ back (first + i)
 
--- also from the one that stands first
+-- also if they are counted from the first element
 pub consecutive_from_first : (first : ℕ) (ns : List ℕ) → AreConsecutive first ns → AreConsecutive (get_or ns 0 0) ns
 consecutive_from_first first ns sequence = λ i lt. let start = sequence 0 (omega (arith, lt)) in let here = sequence i lt in omega (arith, start, here)
 
--- what all that is added has, all have
+-- what holds of all that each element adds holds of the whole list
 pub all_behind : {X Y : Type 0} (P : Y → Type 0) (f : List X → X → List Y) (before xs : List X) → ((i : ℕ) (x : X) → i < length xs → x ≡ get_or xs i x → All P (f (before ++ take i xs) x)) → All P (each_behind f before xs)
 all_behind P f before [] each = All-nil P
 all_behind P f before (x ∷ xs) each =

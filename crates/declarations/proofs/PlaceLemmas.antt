@@ -1,4 +1,4 @@
--- Where the states of a contract stand among all of its states.
+-- The index of a named state among all states of its contract.
 use Rattle.std.proofs.Common.{◌≡◌, ℕ, ◌<◌, List, [], length, take, get_or, Some, sym, ap, ◌∙◌, arith}
 use Rattle.std.specs.Prelude.{option_map, slice_get}
 use Rattle.std.proofs.lemmas.List.{length-map}
@@ -13,7 +13,7 @@ use Rattle.tables.specs.Words.{same_word, word_at, words_at}
 use Rattle.declarations.specs.declared.members.Declared.{Declared}
 use Rattle.declarations.proofs.BehindLemmas.{single_at, singles}
 
--- the named state at a place, among all
+-- the index looked up for a name is that of its state among all states
 pub named_there : (text : List ℕ) (c : ContractTree) (d : Declared) (name : Span) (index : ℕ) → IsDeclared text c d → first_among text (names_of_states (states_of c)) name ≡ Some index
     → slice_get d.counted.named.items index ≡ index_among text (states_of c) name
 named_there text c d name index h found =

@@ -1,4 +1,4 @@
--- What stands in scope is what the contracts of the text declare.
+-- The scope has what the contracts of the text declare.
 use Rattle.declarations.specs.declared.mistake.Limit.TheVariants as limit
 use Rattle.std.proofs.Common.{◌≡◌, ℕ, ◌≤◌, List, [], ◌∷◌, ◌++◌, length, sym, refl, ap, ◌∙◌, subst, arith, ⊎_elim}
 use Rattle.std.specs.Prelude.{All}
@@ -30,7 +30,7 @@ use Rattle.declarations.specs.declared.members.Declared.{Declared}
 use Rattle.declarations.specs.declared.scope.Scope.{Scope}
 use Rattle.declarations.proofs.ContractLemmas.{all_declared}
 
--- what each declares is what its contract has, and so is what all declare
+-- each declares what its contract has, and so do all together
 all_are : {X : Type 0} (f : Declared → List X) (g : ContractTree → List X) (text : List ℕ) → ((c : ContractTree) (d : Declared) → IsDeclared text c d → f d ≡ g c)
     → (cs : List ContractTree) (ds : List Declared) → AreDeclared text cs ds → flat_map f ds ≡ flat_map g cs
 all_are f g text same [] [] all = refl
@@ -38,14 +38,14 @@ all_are f g text same [] (e ∷ ds) all = absurd all
 all_are f g text same (c ∷ cs) [] all = absurd all
 all_are f g text same (c ∷ cs) (e ∷ ds) all = ap (λ l. l ++ flat_map f ds) (same c e all.0) ∙ ap (λ l. g c ++ l) (all_are f g text same cs ds all.1)
 
--- as many messages and states are in scope as the contracts have
+-- there are as many messages and states in scope as the contracts have
 messages_are : (text : List ℕ) (cs : List ContractTree) (ds : List Declared) → AreDeclared text cs ds → declared_messages ds ≡ message_count cs
 messages_are text cs ds all = ap length (all_are (λ d. outlined_messages d.outline) messages_of text (λ c d one. one.outline.messages) cs ds all)
 
 states_are : (text : List ℕ) (cs : List ContractTree) (ds : List Declared) → AreDeclared text cs ds → declared_states ds ≡ state_count cs
 states_are text cs ds all = ap length (all_are (λ d. counted_states (outlined_states d.outline)) (λ c. counted_states (states_of c)) text (λ c d one. ap counted_states one.outline.states) cs ds all)
 
--- one that is declared is resolved as its contract is
+-- a declared contract is resolved like its tree
 one_resolved : (text : List ℕ) (bs : List ContractTree) (bd : List Declared) (c : ContractTree) (d : Declared) → AreDeclared text bs bd → IsDeclared text c d
     → resolved_declared text (declared_messages bd) (declared_states bd) d ≡ resolved_contract text (message_count bs) (state_count bs) c.name (messages_of c) (states_of c)
 one_resolved text bs bd c d before one =
@@ -73,11 +73,11 @@ resolved_behind text bs bd (c ∷ cs) (d ∷ ds) before all =
     ap (λ r. r ∷ each_behind (λ b k. resolved_declared text (declared_messages b) (declared_states b) k ∷ []) (bd ++ d ∷ []) ds) (one_resolved text bs bd c d before all.0)
     ∙ ap rest (resolved_behind text (bs ++ c ∷ []) (bd ++ d ∷ []) cs ds (are_push text bs bd c d before all.0) all.1)
 
--- all are
+-- all contracts are
 all_is : (text : List ℕ) (cs : List ContractTree) (ds : List Declared) → AreDeclared text cs ds → all_resolved text ds ≡ resolved_contracts text cs
 all_is text cs ds all = resolved_behind text [] [] cs ds tt all
 
--- where nothing is wrong with a contract, nothing is with the names in its edges
+-- if nothing is wrong with a contract, nothing is wrong with the names in its edges
 pub clean_edges : (p : ProgramText) (c : ContractTree) → contract_mistakes p c ≡ [] → flat_map (state_mistakes p.text (names_of_messages (messages_of c)) (names_of_states (states_of c))) (states_of c) ≡ []
 clean_edges p c none =
     nil_right (flat_map (message_mistakes p) (messages_of c)) _
@@ -102,7 +102,7 @@ all_ready p (c ∷ cs) (d ∷ ds) all none =
     All-cons (IsReady p.text) d ds (one_ready p c d all.0 (nil_left (contract_mistakes p c) _ none))
     (all_ready p cs ds all.1 (nil_right (contract_mistakes p c) _ none))
 
--- where the limit is not passed, there are no more names
+-- if the limit is not passed, there are no more names than that
 pub not_past : (limit : Limit) (names : List Span) → past_limit limit names ≡ [] → length names ≤ most_of limit
 not_past limit names none =
     ⊎_elim
@@ -110,20 +110,20 @@ not_past limit names none =
     (λ w. w.0)
     (slice_get_cases names (most_of limit)).1
 
--- there are no more states than there may be
+-- there are no more states than the limit
 few_states : (p : ProgramText) → counted_mistakes p ≡ [] → state_count (contracts_of p.items) ≤ MOST_STATES
 few_states p nothing =
     let cs = contracts_of p.items in
     not_past limit.States (all_counted_states cs) (nil_right (past_limit limit.Contracts (names_of_contracts cs)) _ nothing)
 
--- where nothing is wrong with the contracts of a program, nothing is within each, and there are no more states than there may be
+-- if nothing is wrong with the contracts of a program, nothing is wrong within each, and there are no more states than the limit
 pub contracts_clean : (p : ProgramText) → contracts_mistakes p ≡ [] → flat_map (contract_mistakes p) (contracts_of p.items) ≡ []
 contracts_clean p nothing = nil_right (counted_mistakes p) _ nothing
 
 pub states_few : (p : ProgramText) → contracts_mistakes p ≡ [] → state_count (contracts_of p.items) ≤ MOST_STATES
 states_few p nothing = few_states p (nil_left (counted_mistakes p) _ nothing)
 
--- what is known of a scope with whose contracts nothing is wrong
+-- a scope of a program whose contracts have no mistakes
 pub record IsCleared (p : ProgramText) (scope : Scope) : Type 0 where
   pub ready : All (IsReady p.text) (declared_in scope.members.items)
   pub messages : declared_messages (declared_in scope.members.items) ≡ message_count (contracts_of p.items)

@@ -1,4 +1,4 @@
--- What items declare within them, in a row.
+-- The members of items, one item after another.
 use Rattle.std.proofs.Common.{◌≡◌, ℕ, zero, suc, ◌+◌, ◌<◌, List, [], ◌∷◌, ◌++◌, length, map, take, get_or, Bor, Option, Some, None, sym, refl, ap, ◌∙◌, subst}
 use Rattle.std.proofs.lemmas.List.{take_more, map-append}
 use Rattle.std.specs.Prelude.{option_map, option_and_then, slice_get}
@@ -19,7 +19,7 @@ members_push text [] (n ∷ ms) i m all one = absurd all
 members_push text (j ∷ items) [] i m all one = absurd all
 members_push text (j ∷ items) (n ∷ ms) i m all one = (all.0, members_push text items ms i m all.1 one)
 
--- one more item of those that stand before a place
+-- one more item
 pub members_more : (text : List ℕ) (items : List tree.Item.Item) (i : ℕ) (x : tree.Item.Item) (ms more : List Members) (m : Members) → i < length items → x ≡ get_or items i x
     → AllMembers text (map item_tree (take i items)) ms → AreMembers text (definition_tree x.definition) m → more ≡ ms ++ m ∷ [] → AllMembers text (map item_tree (take (i + 1) items)) more
 members_more text items i x ms more m lt is all one new =
@@ -62,7 +62,7 @@ class_is text k (Class c) (members.Contract d) h = absurd h
 class_is text k (Class c) (members.Struct f) h = absurd h
 class_is text k (Class c) (members.Class m) h = h
 
--- what stands at a place of the items, and at the same place of their members
+-- the contract at an index of the items is the one at that index of their members
 pub contract_at : (text : List ℕ) (items : List ItemTree) (ms : List Members) (k n : ℕ) → AllMembers text items ms
     → IsContract text (option_and_then (λ i. option_map (λ c. (k, c)) (as_contract i.definition)) (slice_get items n)) (option_map (λ c. (k, c)) (option_and_then as_declared (slice_get ms n)))
 contract_at text [] [] k n all = tt
@@ -87,7 +87,7 @@ class_at text (i ∷ items) [] k n all = absurd all
 class_at text (i ∷ items) (m ∷ ms) k zero all = class_is text k i.definition m all.0
 class_at text (i ∷ items) (m ∷ ms) k (suc n) all = class_at text items ms k n all.1
 
--- what was looked up is what its item declares
+-- the look-up found the contract of item k, which d declares
 pub record LookedContract (text : List ℕ) (o : Option (ℕ × ContractTree)) (k : ℕ) (d : Declared) : Type 0 where
   pub contract : ContractTree
   pub is : o ≡ Some (k, contract)
@@ -114,7 +114,7 @@ pub no_struct : (text : List ℕ) (o : Option (ℕ × StructTree)) → IsStruct 
 no_struct text None h = refl
 no_struct text (Some s) h = absurd h
 
--- the same of what the code answers
+-- the same for the result in memory
 pub contract_model : (text : List ℕ) (o : Option (ℕ × ContractTree)) (k : ℕ) (found : Option (Bor Declared)) → IsContract text o (option_map (λ c. (k, c)) (option_copied found)) → IsContract text o (option_map (λ d. (k, d.now)) found)
 contract_model text o k None h = h
 contract_model text o k (Some d) h = h

@@ -1,4 +1,4 @@
--- Names that an earlier one has.
+-- Names that repeat an earlier one.
 use Rattle.std.proofs.Common.{◌≡◌, ℕ, ◌+◌, ◌<◌, ◌≤◌, zero, suc, Bool, true, not, cond, ltb, List, [], ◌∷◌, ◌++◌, length, take, drop, get_or, Some, None, sym, refl, ap, ◌∙◌, subst, arith, append_assoc, take-append-drop, drop-cons, ⊎_elim}
 use Rattle.std.specs.Prelude.{option_and_then, option_map, slice_get}
 use Rattle.std.specs.List.{position_or_len}
@@ -16,12 +16,12 @@ use Rattle.declarations.specs.Mistakes.{Adds}
 use Rattle.tables.specs.Words.{word_at, words_at, same_word}
 use Rattle.declarations.proofs.AddLemmas.{adds_then, adds_none}
 
--- what passes a test behind others stands first there, or before
+-- if an element passes, the first one that does is that element or one before it
 first_behind : {X : Type 0} (p : X → Bool) (xs : List X) (y : X) (ys : List X) → p y ≡ true → position_or_len p (xs ++ y ∷ ys) ≡ position_or_len p xs
 first_behind p [] y ys passes = cond-false {A = ℕ} (not (p y)) (1 + position_or_len p ys) 0 (ap not passes)
 first_behind p (x ∷ xs) y ys passes = ap (λ n. cond (not (p x)) (1 + n) 0) (first_behind p xs y ys passes)
 
--- where a word stands first that is behind others
+-- a word that follows others is new, or is among them
 pub record Behind (words : List (List ℕ)) (word : List ℕ) (all : List (List ℕ)) : Type 0 where
   pub new : first_of all word ≡ Some (length words) → first_of words word ≡ None
   pub old : (first_of all word ≡ Some (length words) → ⊥) → (n : ℕ) × (n < length words) × (first_of words word ≡ Some n) × (first_of all word ≡ Some n)
@@ -44,18 +44,18 @@ behind words word more =
           (cases_lt n (length words));
     }
 
--- what stands among the first ones stands at the same place among all
+-- an element of the front has the same index in the whole list
 kept : {X : Type 0} (xs : List X) (i n : ℕ) → n < i → slice_get (take i xs) n ≡ slice_get xs n
 kept xs zero n lt = absurd (omega (arith, lt))
 kept [] (suc i) n lt = refl
 kept (x ∷ xs) (suc i) zero lt = refl
 kept (x ∷ xs) (suc i) (suc n) lt = kept xs i n (omega (arith, lt))
 
--- the names from a place on
+-- the names from an index on
 rest_is : (names : List Span) (i : ℕ) (d : Span) → i < length names → drop i names ≡ get_or names i d ∷ drop (i + 1) names
 rest_is names i d lt = let next : suc i ≡ i + 1 = omega arith in drop-cons names i d lt ∙ ap (λ n. get_or names i d ∷ drop n names) next
 
--- the names before a place have been looked at
+-- the names before index i were checked
 pub record TwiceSoFar (text : List ℕ) (names : List Span) (i : ℕ) (old new : List Mistake) : Type 0 where
   pub more : List Mistake
   pub adds : Adds old new more
@@ -67,7 +67,7 @@ twice_start text names old = record { more = []; adds = adds_none old; rest = re
 pub twice_end : {text : List ℕ} {names : List Span} {i : ℕ} {old new : List Mistake} → TwiceSoFar text names i old new → length names ≤ i → Adds old new (twice_among text names)
 twice_end {text = text} {names = names} {i = i} {old = old} {new = new} so le = subst (Adds old new) (sym (so.rest ∙ ap (λ l. so.more ++ twice_behind text (take i names) l) (drop_all i names le) ∙ append-nil so.more)) so.adds
 
--- what a name adds
+-- the mistake that a name adds, if it repeats an earlier one
 abbrev pub twice_here : List ℕ → List Span → ℕ → Span → List Mistake
 twice_here text names i name = twice name (name_among text (take i names) name)
 
@@ -94,7 +94,7 @@ behind_here text names i d lt =
 count_here : (text : List ℕ) (names : List Span) (i : ℕ) → i < length names → length (words_at text (take i names)) ≡ i
 count_here text names i lt = length-map (take i names) (word_at text) ∙ length-take-le i names (omega (arith, lt))
 
--- a name that stands there first adds nothing, and another one tells of the first
+-- a name adds nothing if it is the first of its kind, and else a mistake that shows the first
 pub first_adds : (text : List ℕ) (names : List Span) (i : ℕ) (d : Span) (old : List Mistake) → i < length names → first_of (words_at text names) (word_at text (get_or names i d)) ≡ Some i → Adds old old (twice_here text names i (get_or names i d))
 first_adds text names i d old lt first =
     let name = get_or names i d in
@@ -110,7 +110,7 @@ later_adds text names i d old new lt later one =
     ap (option_and_then (slice_get (take i names))) first.2 ∙ kept names i first.0 (omega (arith, first.1, counted)) ∙ sym (ap (option_and_then (slice_get names)) first.3) in
     subst (λ o. Adds old new (twice name o)) (sym is) one
 
--- where no name stands twice, none adds anything
+-- if no name occurs twice, no name adds a mistake
 none_so_far : (text : List ℕ) (names : List Span) (d : Span) (old : List Mistake) → IsApart (words_at text names) → (k : ℕ) → k ≤ length names → TwiceSoFar text names k old old
 none_so_far text names d old apart zero le = twice_start text names old
 none_so_far text names d old apart (suc k) le =

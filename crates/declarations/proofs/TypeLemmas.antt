@@ -1,4 +1,4 @@
--- Names that are compared.
+-- Comparison of names.
 use Rattle.std.proofs.Common.{◌≡◌, true, eqb, ◌&&◌}
 use Rattle.std.proofs.lemmas.Bool.{eqb-true, and_parts}
 use Rattle.source.specs.declared.place.Place.{Place}

@@ -1,4 +1,4 @@
--- A resolved contract is whole where each name in its edges is declared.
+-- A resolved contract is whole if each name in its edges is declared.
 use Rattle.std.proofs.Common.{◌≡◌, ℕ, ◌+◌, ◌<◌, ◌≤◌, List, [], ◌∷◌, length, map, take, Option, Some, None, true, sym, refl, ap, ◌∙◌, subst, arith, ⊎_elim}
 use Rattle.std.specs.Prelude.{All, Contains, is_some}
 use Rattle.std.specs.List.{flat_map}
@@ -34,7 +34,7 @@ use Rattle.declarations.proofs.MeantLemmas.{as_counted, path_is}
 use Rattle.declarations.proofs.NumberLemmas.{Among, all_behind, all_numbered, among_numbers, once_numbered, consecutive_from_first, consecutive_numbered}
 use Rattle.declarations.proofs.ReadyLemmas.{clean_edges, contracts_clean, states_few}
 
--- a name that nothing is wrong with stands among those that are declared
+-- a name without mistakes is among the declared ones
 pub record Declared (text : List ℕ) (names : List Span) (name : Span) : Type 0 where
   pub index : ℕ
   pub found : first_among text names name ≡ Some index
@@ -135,8 +135,8 @@ edges_known text m s messages states none =
     path_known text m s messages states from (from + 1 + length (flat_map unnamed_of (take j paths))) p (ap findings same ∙ nothing_in findings paths j p within clean)
     (omega arith) (omega arith) (omega (arith, front, here, room, more, size))))
 
--- A contract that has a state, and whose edges name what it declares, is whole. No state has a number past the limit where no more
--- states stand before it.
+-- A contract that has a state, and whose edges name only what it declares, is whole,
+-- if its states and those before it are no more than the limit.
 whole_of : (text : List ℕ) (m s : ℕ) (name : Span) (messages : List MessageTree) (states : List StateTree) → 0 < length (counted_states states)
     → s + length (counted_states states) ≤ MOST_STATES
     → flat_map (state_mistakes text (names_of_messages messages) (names_of_states states)) states ≡ [] → IsWhole (resolved_contract text m s name messages states).parts
@@ -179,11 +179,11 @@ all_whole p contracts none few =
     (whole_of text (message_count before) (state_count before) c.name (messages_of c) (states_of c) (omega arith) within
     (clean_edges p c (ap (contract_mistakes p) is ∙ nothing_in (contract_mistakes p) contracts i c lt none))) (All-nil whole))
 
--- contracts with which nothing is wrong are whole
+-- contracts without mistakes are whole
 pub clean_whole : (p : ProgramText) → contracts_mistakes p ≡ [] → All (λ s. IsWhole s.parts) (resolved_contracts p.text (contracts_of p.items))
 clean_whole p nothing = all_whole p (contracts_of p.items) (contracts_clean p nothing) (states_few p nothing)
 
--- the same of contracts that are seen so
+-- the same for contracts in memory
 pub seen_whole : (p : ProgramText) (resolved : List Contract) → map contract_model resolved ≡ resolved_contracts p.text (contracts_of p.items)
     → contracts_mistakes p ≡ [] → All (λ c. IsWhole (contract_parts c)) resolved
 seen_whole p resolved are nothing = λ k d lt.

@@ -7,11 +7,12 @@ use Rattle.tree.specs.Trees.{ContractTree, MessageTree, StateTree, BodyTree, Emp
 use Rattle.tables.specs.Firsts.{first_of}
 use Rattle.tables.specs.Words.{word_at, words_at}
 
--- a member of a contract that is a message, and one that is a state
+-- the message that a member of a contract is, if it is one
 abbrev pub message_among : MemberTree → List MessageTree
 message_among (Message m) = m ∷ []
 message_among (State s) = []
 
+-- the state that a member of a contract is, if it is one
 abbrev pub state_among : MemberTree → List StateTree
 state_among (Message m) = []
 state_among (State s) = s ∷ []
@@ -30,37 +31,39 @@ paths_of Empty = []
 paths_of (Path p) = p ∷ []
 paths_of (One paths close semicolon) = paths
 
--- the parameters of a message, if there is one
+-- the parameters of a message; none if there is no message
 abbrev pub bound_params : Option MessageTree → List MessageParameter
 bound_params None = []
 bound_params (Some m) = m.params
 
--- the names that messages and states are declared by
+-- the names of messages
 abbrev pub names_of_messages : List MessageTree → List Span
 names_of_messages messages = map (λ m. m.name) messages
 
+-- the names of states
 abbrev pub names_of_states : List StateTree → List Span
 names_of_states states = map (λ s. s.name) states
 
--- Each message of a path but the first makes an unnamed state.
+-- the unnamed states of a path, each by its message: every message of a path but the first makes one
 abbrev pub unnamed_of : PathTree → List Span
 unnamed_of p = map (λ e. e.message) p.others
 
--- the names at which a state is counted: its own, and those of the unnamed states on its paths
+-- the names at which a state is counted: its own, and those of the unnamed states of its paths
 abbrev pub counted_in_state : StateTree → List Span
 counted_in_state s = s.name ∷ flat_map unnamed_of (paths_of s.body)
 
+-- the names at which several states are counted
 abbrev pub counted_states : List StateTree → List Span
 counted_states states = flat_map counted_in_state states
 
--- the names that contracts are declared by
+-- the names of contracts
 abbrev pub names_of_contracts : List ContractTree → List Span
 names_of_contracts contracts = map (λ c. c.name) contracts
 
--- where a name stands first among these
+-- the index of the first of these names that is written the same
 abbrev pub first_among : List ℕ → List Span → Span → Option ℕ
 first_among text names name = first_of (words_at text names) (word_at text name)
 
--- whether one of these names is written so
+-- whether one of these names is written the same
 abbrev pub is_declared : List ℕ → List Span → Span → Bool
 is_declared text names name = is_some (first_among text names name)

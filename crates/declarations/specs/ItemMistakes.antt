@@ -1,4 +1,4 @@
--- What is wrong with the names of items, and within structs and contracts.
+-- Mistakes with the names of items, and within structs.
 use Rattle.std.specs.Prelude.{List, [], ◌++◌, map}
 use Rattle.std.specs.List.{flat_map}
 use Rattle.source.specs.declared.token.Span.{Span}
@@ -12,7 +12,7 @@ use Rattle.declarations.specs.Listed.{twice_among, past_limit}
 use Rattle.declarations.specs.Owning.{owning_fields}
 use Rattle.declarations.specs.Program.{ProgramText, item_names}
 
--- what is wrong within a struct
+-- the mistakes in a struct: its names, its types, and the number of its owning fields
 abbrev pub struct_mistakes : ProgramText → StructTree → List Mistake
 struct_mistakes p s =
     twice_among p.text (map (λ f. f.name) s.fields)
@@ -27,15 +27,15 @@ methods_in _ = []
 abbrev pub method_names : ProgramText → List Span
 method_names p = map (λ m. m.name) (flat_map (λ i. methods_in i.definition) p.items)
 
--- each item whose name an earlier one has, and the method one past the limit
+-- items declared twice, and the first method past the limit
 abbrev pub items_mistakes : ProgramText → List Mistake
 items_mistakes p = twice_among p.text (item_names p) ++ past_limit limit.Methods (method_names p)
 
--- the names at which the states of contracts are counted
+-- the names at which the states of all these contracts are counted
 abbrev pub all_counted_states : List ContractTree → List Span
 all_counted_states contracts = flat_map (λ c. counted_states (states_of c)) contracts
 
--- the contract, and the state, one past the limit
+-- the first contract past the limit, and the first state
 abbrev pub counted_mistakes : ProgramText → List Mistake
 counted_mistakes p = past_limit limit.Contracts (names_of_contracts (contracts_of p.items))
     ++ past_limit limit.States (all_counted_states (contracts_of p.items))

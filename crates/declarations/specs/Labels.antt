@@ -1,4 +1,4 @@
--- Names of states, one behind another.
+-- Names of states, one after another in a string.
 use Rattle.std.specs.Prelude.{◌≡◌, ℕ, List, ◌++◌, codes, map}
 use Rattle.source.specs.Slices.{slice_of}
 use Rattle.source.specs.declared.token.Span.{Span}
@@ -16,17 +16,17 @@ in_parentheses text message = codes "(" ++ (printed_name text message ++ codes "
 abbrev pub part_of : List ℕ → Part → List ℕ
 part_of names part = slice_of names part.start part.end
 
--- the word stands there, whatever is written behind these names
+-- the word is at this part of the names, whatever is appended to them
 abbrev pub Stands : List ℕ → Part → List ℕ → Type 0
 Stands names part word = (behind : List ℕ) → part_of (names ++ behind) part ≡ word
 
--- behind the names more has been written, if anything, and the word stands there
+-- the new names are the old ones with more after them, if anything, and the word is at this part of them
 pub record IsTold (old new : List ℕ) (part : Part) (word : List ℕ) : Type 0 where
   pub more : List ℕ
   pub grown : new ≡ old ++ more
   pub stands : Stands new part word
 
--- its table is that of some messages, and each of these stands there in parentheses, whatever is written behind
+-- its table is that of some messages, and its parts are these messages in parentheses, whatever is appended to the names
 pub record AreLabels (labels : Labels) (names : List ℕ) : Type 0 where
   pub messages : List Span
   pub table : IsTable (words_at labels.text.now messages) labels.messages.now

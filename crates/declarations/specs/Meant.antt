@@ -29,14 +29,14 @@ message_names m = names_of_messages (messages_in m)
 abbrev pub state_names : Meaning → List Span
 state_names m = names_of_states (states_in m)
 
--- what names mean there
+-- what names mean in its contract
 abbrev pub meanings : Meaning → Meanings
 meanings m = record {
   message = message_meant (text_of m) m.messages_before (messages_in m);
   state = state_meant (text_of m) m.states_before (states_in m);
 }
 
--- its tables and places are those of what it declares, and there are numbers enough
+-- its tables and indices are those of its contract, and all of its numbers fit into 32 bits
 pub record IsMeaning (m : Meaning) : Type 0 where
   pub messages : IsTable (words_at (text_of m) (message_names m)) m.declared.now.messages
   pub states : IsTable (words_at (text_of m) (state_names m)) m.declared.now.states
@@ -44,7 +44,7 @@ pub record IsMeaning (m : Meaning) : Type 0 where
   pub message_room : m.messages_before + length (messages_in m) < 2 ^ 32
   pub state_room : m.states_before + length (counted_states (states_in m)) < 2 ^ 32
 
--- the edges of a path from one on, where its states have the numbers from here on
+-- the edges of a path from this edge on; its unnamed states are numbered from `to`
 abbrev pub path_left : Meanings → ℕ → ℕ → tree.Edge.Edge → List tree.Edge.Edge → Span → List Edge
 path_left means from to edge [] target = edge_between means from edge (means.state target) ∷ []
 path_left means from to edge (next ∷ others) target = edge_between means from edge to ∷ path_left means to (to + 1) next others target

@@ -1,4 +1,4 @@
--- What is wrong with names and types, and the finding of each mistake.
+-- Mistakes with names and types, and the finding for each.
 use Rattle.std.specs.Prelude.{◌≡◌, ℕ, List, ◌++◌, codes}
 use Rattle.std.specs.Str.Lossy.{utf8_lossy}
 use Rattle.source.specs.Findings.{FindingModel}
@@ -15,7 +15,7 @@ use Rattle.declarations.specs.declared.mistake.Mistake.TheVariants.{DeclaredTwic
 use Rattle.declarations.specs.declared.mistake.Mistake.TheVariants.{ContinueOutside, LimitPassed, NotStarted, CaseTwice, LacksClosed}
 use Rattle.tables.specs.Words.{word_at}
 
--- how many there may be
+-- the greatest number allowed of each kind
 abbrev pub most_of : Limit → ℕ
 most_of limit.Contracts = MOST_CONTRACTS
 most_of limit.States = MOST_STATES
@@ -24,19 +24,21 @@ most_of limit.Fields = MOST_FIELDS
 most_of limit.Methods = MOST_METHODS
 most_of limit.Variables = MOST_VARIABLES
 
+-- a finding of this code and text at a place
 abbrev pub plain : Code → List ℕ → Place → FindingModel
 plain code text place = record { place = place; code = code; text = text }
 
--- a finding whose text begins with the name at which it stands
+-- a finding at a name, which its text begins with
 abbrev pub finding_of_name : List ℕ → Code → Span → List ℕ → FindingModel
 finding_of_name text code name rest = plain code (utf8_lossy (word_at text name) ++ rest) name.place
 
+-- the finding for a case that an earlier one repeats
 abbrev pub case_twice : List ℕ → Span → Span → FindingModel
 case_twice text endpoint awaited = plain N08
     (codes "case " ++ (utf8_lossy (word_at text endpoint) ++ (codes "." ++ (utf8_lossy (word_at text awaited) ++ codes " twice"))))
     endpoint.place
 
--- the finding of a mistake in this text
+-- the finding for a mistake in this text
 abbrev pub finding_in : List ℕ → Mistake → FindingModel
 finding_in text (DeclaredTwice name first) = finding_of_name text N01 name (codes " declared twice")
 finding_in text (Unknown name sort) = finding_of_name text N02 name (codes " unknown")
@@ -49,6 +51,6 @@ finding_in text (NotStarted name) = finding_of_name text N07 name (codes " canno
 finding_in text (CaseTwice endpoint awaited) = case_twice text endpoint awaited
 finding_in text (LacksClosed name) = finding_of_name text N09 name (codes " lacks ChannelClosed")
 
--- the new list has these mistakes behind those of the old one
+-- the new list is the old one with these mistakes after it
 pub record Adds (old new : List Mistake) (more : List Mistake) : Type 0 where
   pub all : new ≡ old ++ more

@@ -7,7 +7,7 @@ use Rattle.tables.specs.Words.{words_at, same_word}
 use Rattle.tree.specs.Trees.{ContractTree, MessageTree, StructTree, ClassTree, MethodTree}
 use Rattle.tree.specs.declared.class as made
 
--- the first message of a contract that is written so
+-- the first message of a contract with this name
 abbrev pub message_written : List ℕ → ContractTree → List ℕ → Option MessageTree
 message_written text c word =
     option_and_then (slice_get (messages_of c)) (first_of (words_at text (names_of_messages (messages_of c))) word)
@@ -16,10 +16,10 @@ message_written text c word =
 abbrev pub sent_message : List ℕ → ContractTree → List ℕ → Option MessageTree
 sent_message text c word = if same_word (take 4 word) (codes "Send") then message_written text c (drop 4 word) else None
 
--- the first field of this name in a struct
+-- the first field of a struct with this name
 abbrev pub field_named : List ℕ → StructTree → Span → Option made.Field.Field
 field_named text s name = option_and_then (slice_get s.fields) (first_among text (map (λ f. f.name) s.fields) name)
 
--- the first method of this name in a class
+-- the first method of a class with this name
 abbrev pub method_named : List ℕ → ClassTree → Span → Option MethodTree
 method_named text c name = option_and_then (slice_get c.methods) (first_among text (map (λ m. m.name) c.methods) name)

@@ -13,14 +13,14 @@ abbrev pub counted_as : List ℕ → StateName → UnnumberedState
 counted_as text (Named name) = named_state text name
 counted_as text (Unnamed message) = unnamed_state text message
 
--- the names of unnamed states
+-- the names of the unnamed states of these messages
 abbrev pub unnamed_names : List Span → List StateName
 unnamed_names messages = map (λ m. Unnamed m) messages
 
--- the name of a state, and behind it those of the unnamed ones of its paths
+-- the name of a state, then those of the unnamed states of its paths
 abbrev pub names_in : StateTree → List StateName
 names_in s = Named s.name ∷ unnamed_names (flat_map unnamed_of (paths_of s.body))
 
--- where named states stand among all
+-- the index of each named state among all states
 abbrev pub indices_named : List StateTree → List ℕ
 indices_named states = each_behind (λ before s. length (counted_states before) ∷ []) [] states

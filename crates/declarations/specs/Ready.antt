@@ -1,4 +1,4 @@
--- Contracts in a row of which each name in an edge is declared.
+-- Contracts whose edges use declared names only.
 use Rattle.std.specs.Prelude.{◌≡◌, ℕ, List, [], ◌∷◌, length}
 use Rattle.std.specs.List.{flat_map}
 use Rattle.declarations.specs.Declarations.{names_of_messages, names_of_states, counted_states}
@@ -13,7 +13,7 @@ use Rattle.declarations.specs.Scopes.{declared_among}
 use Rattle.declarations.specs.declared.members.Declared.{Declared}
 use Rattle.declarations.specs.declared.members.Members.{Members}
 
--- the tables and the states are those of what is declared, and nothing is wrong with the names in its edges
+-- the tables and the states are those of its declarations, and there are no mistakes in the names of its edges
 pub record IsReady (text : List ℕ) (d : Declared) : Type 0 where
   pub messages : IsTable (words_at text (names_of_messages (outlined_messages d.outline))) d.messages
   pub states : IsTable (words_at text (names_of_states (outlined_states d.outline))) d.states
@@ -33,12 +33,12 @@ declared_messages declared = length (flat_map (λ d. outlined_messages d.outline
 abbrev pub declared_states : List Declared → ℕ
 declared_states declared = length (flat_map (λ d. counted_states (outlined_states d.outline)) declared)
 
--- a contract as it is resolved, behind so many messages and states
+-- a contract as it is resolved, with its messages and states numbered from these numbers
 abbrev pub resolved_declared : List ℕ → ℕ → ℕ → Declared → ContractModel
 resolved_declared text message state d =
     resolved_contract text message state d.outline.name (outlined_messages d.outline) (outlined_states d.outline)
 
--- contracts in order as they are resolved
+-- contracts as they are resolved, in order
 abbrev pub all_resolved : List ℕ → List Declared → List ContractModel
 all_resolved text declared =
     each_behind (λ before d. resolved_declared text (declared_messages before) (declared_states before) d ∷ []) [] declared

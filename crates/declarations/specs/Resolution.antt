@@ -1,5 +1,4 @@
--- The contracts of a program with their names resolved: a number stands for each. A number is how many of its kind stand
--- before it in the text. Messages are counted, and so are states, the unnamed ones among them.
+-- Contracts with their names resolved to numbers. Messages and states are counted through the whole text, unnamed states included.
 use Rattle.std.specs.Prelude.{ℕ, ◌+◌, List, [], ◌∷◌, ◌++◌, length, map, take, codes}
 use Rattle.std.specs.List.{flat_map, enumerate_from, range_with_len}
 use Rattle.std.specs.Option.{option_map_or}
@@ -14,12 +13,12 @@ use Rattle.program.specs.Parts.{StateModel, MessageModel, ContractModel}
 use Rattle.tables.specs.Words.{word_at}
 use Rattle.program.specs.declared.contract.Edge.{Edge}
 
--- what each of these adds, given those that stand before it
+-- what each element adds, which may depend on those before it, in order
 abbrev pub each_behind : {X Y : Type 0} → (List X → X → List Y) → List X → List X → List Y
 each_behind f before [] = []
 each_behind f before (x ∷ xs) = f before x ++ each_behind f (before ++ x ∷ []) xs
 
--- how a name is printed
+-- a name as it is printed
 abbrev pub printed_name : List ℕ → Span → List ℕ
 printed_name text name = utf8_lossy (word_at text name)
 
@@ -27,24 +26,24 @@ printed_name text name = utf8_lossy (word_at text name)
 abbrev pub numbered_message : List ℕ → ℕ → MessageTree → MessageModel
 numbered_message text number m = record { id = record { 0 = number }; name = printed_name text m.name; direction = m.direction }
 
--- the messages of a contract, where so many stand before its own
+-- the messages of a contract, numbered from `first`
 abbrev pub messages_from : List ℕ → ℕ → List MessageTree → List MessageModel
 messages_from text first messages = map (λ p. numbered_message text p.0 p.1) (enumerate_from first messages)
 
--- a state that has no number yet: how it is printed, and its place
+-- a state that has no number yet: its name as printed, and its place
 pub record UnnumberedState : Type 0 where
   pub name : List ℕ
   pub place : Place
 
--- a named state
+-- a state that has a name
 abbrev pub named_state : List ℕ → Span → UnnumberedState
 named_state text name = record { name = printed_name text name; place = name.place }
 
--- an unnamed state is printed as its message, in parentheses
+-- an unnamed state, printed as its message in parentheses
 abbrev pub unnamed_state : List ℕ → Span → UnnumberedState
 unnamed_state text message = record { name = codes "(" ++ (printed_name text message ++ codes ")"); place = message.place }
 
--- a named state is counted at its name, and behind it the unnamed ones of its paths
+-- a named state, then the unnamed states of its paths
 abbrev pub counted_in : List ℕ → StateTree → List UnnumberedState
 counted_in text s = named_state text s.name ∷ map (unnamed_state text) (flat_map unnamed_of (paths_of s.body))
 
@@ -52,29 +51,29 @@ counted_in text s = named_state text s.name ∷ map (unnamed_state text) (flat_m
 abbrev pub numbered_state : ℕ → UnnumberedState → StateModel
 numbered_state number s = record { id = record { 0 = number }; name = s.name; place = s.place }
 
--- states in a row, numbered from this number on
+-- states, numbered from `first`
 abbrev pub numbered_states : ℕ → List UnnumberedState → List StateModel
 numbered_states first states = map (λ p. numbered_state p.0 p.1) (enumerate_from first states)
 
--- the states of a contract, where so many stand before its own
+-- the states of a contract, numbered from `first`
 abbrev pub states_from : List ℕ → ℕ → List StateTree → List StateModel
 states_from text first states = numbered_states first (flat_map (counted_in text) states)
 
--- the number of the message that a name means, the first of that name; 0 where there is none
+-- the number of the first message of this name, if they are numbered from `first`; 0 if there is none
 abbrev pub message_meant : List ℕ → ℕ → List MessageTree → Span → ℕ
 message_meant text first messages name = option_map_or (λ k. first + k) (first_among text (names_of_messages messages) name) 0
 
--- the number of the state that a name means, likewise
+-- the number of the first state of this name, if they are numbered from `first`; 0 if there is none
 abbrev pub state_meant : List ℕ → ℕ → List StateTree → Span → ℕ
 state_meant text first states name =
     option_map_or (λ k. first + length (counted_states (take k states))) (first_among text (names_of_states states) name) 0
 
--- what the names in the edges of a contract mean
+-- the numbers that the names in the edges of a contract mean
 pub record Meanings : Type 0 where
   pub message : Span → ℕ
   pub state : Span → ℕ
 
--- an edge, from one state to another
+-- an edge from one state to another
 abbrev pub edge_between : Meanings → ℕ → tree.Edge.Edge → ℕ → Edge
 edge_between means from e to = record {
   from = record { 0 = from };
@@ -84,28 +83,27 @@ edge_between means from e to = record {
   place = e.message.place;
 }
 
--- edges in a row, from a state through these in turn
+-- edges in a row, from a state through these states in order
 abbrev pub edges_through : Meanings → ℕ → List ℕ → List tree.Edge.Edge → List Edge
 edges_through means from stops [] = []
 edges_through means from [] (e ∷ edges) = []
 edges_through means from (to ∷ stops) (e ∷ edges) = edge_between means from e to ∷ edges_through means to stops edges
 
--- A path leads from its state through its unnamed states, numbered in a row, to the state of its target.
+-- the edges of a path: from its state, through its unnamed states, numbered in a row, to the state that it names
 abbrev pub path_edges : Meanings → ℕ → ℕ → PathTree → List Edge
 path_edges means from unnamed p =
     edges_through means from (range_with_len unnamed (length p.others) ++ means.state p.target ∷ []) (p.first ∷ p.others)
 
--- the edges of the paths of one state; the unnamed states are counted behind it, path by path
+-- the edges of all paths of one state; its unnamed states are numbered after it, path by path
 abbrev pub paths_edges : Meanings → ℕ → List PathTree → List Edge
 paths_edges means from paths = each_behind (λ before p. path_edges means from (from + 1 + length (flat_map unnamed_of before)) p) [] paths
 
--- the edges of a contract, where so many states stand before its own
+-- the edges of a contract whose states are numbered from `first`
 abbrev pub edges_from : Meanings → ℕ → List StateTree → List Edge
 edges_from means first states =
     each_behind (λ before s. paths_edges means (first + length (counted_states before)) (paths_of s.body)) [] states
 
--- A contract with these messages and states, where so many messages and so many states stand before its own. Its first
--- state is the one that stands first.
+-- A contract of these messages and states, numbered from these numbers. Its initial state is the first one in the text.
 abbrev pub resolved_contract : List ℕ → ℕ → ℕ → Span → List MessageTree → List StateTree → ContractModel
 resolved_contract text first_message first_state name messages states = record {
   name = printed_name text name;
@@ -120,10 +118,11 @@ resolved_contract text first_message first_state name messages states = record {
   };
 }
 
--- how many messages and how many states these contracts have
+-- how many messages these contracts have
 abbrev pub message_count : List ContractTree → ℕ
 message_count contracts = length (flat_map messages_of contracts)
 
+-- how many states these contracts have, unnamed ones included
 abbrev pub state_count : List ContractTree → ℕ
 state_count contracts = length (flat_map (λ c. counted_states (states_of c)) contracts)
 

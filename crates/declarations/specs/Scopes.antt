@@ -24,7 +24,7 @@ use Rattle.declarations.specs.declared.noted.NotedTypes.{NotedTypes}
 use Rattle.declarations.specs.declared.scope.Scope.{Scope}
 use Rattle.declarations.specs.declared.starts.Callee.{Callee}
 
--- what a contract declares, the tables of it, all of its states, and where its named ones stand among them
+-- the outline of a contract, its tables, all of its states, and the indices of the named ones
 pub record IsDeclared (text : List ℕ) (c : ContractTree) (d : Declared) : Type 0 where
   pub outline : IsOutline c d.outline
   pub messages : IsTable (words_at text (names_of_messages (messages_of c))) d.messages
@@ -32,31 +32,31 @@ pub record IsDeclared (text : List ℕ) (c : ContractTree) (d : Declared) : Type
   pub all : d.counted.all.items ≡ flat_map names_in (states_of c)
   pub named : d.counted.named.items ≡ indices_named (states_of c)
 
--- the fields of a struct, those that own, and the table of them
+-- the fields of a struct, its owning fields, and their table
 pub record AreFieldsOf (text : List ℕ) (s : StructTree) (f : Fields) : Type 0 where
   pub list : f.list.now ≡ s.fields
   pub owning : f.owning.items ≡ owning_fields s
   pub table : IsTable (words_at text (map (λ x. x.name) s.fields)) f.table
 
--- the methods of a class, which of them can be started, and the table of them
+-- the methods of a class, whether each can be started, and their table
 pub record AreMethods (text : List ℕ) (c : ClassTree) (m : ClassMethods) : Type 0 where
   pub list : map method_tree m.list.now ≡ c.methods
   pub startable : m.startable.items ≡ map can_start c.methods
   pub table : IsTable (words_at text (map (λ x. x.name) c.methods)) m.table
 
--- what a definition declares within it
+-- what a definition declares
 abbrev pub AreMembers : List ℕ → DefinitionTree → Members → Type 0
 AreMembers text (Contract c) (members.Contract d) = IsDeclared text c d
 AreMembers text (Struct s) (members.Struct f) = AreFieldsOf text s f
 AreMembers text (Class c) (members.Class m) = AreMethods text c m
 AreMembers text _ _ = ⊥
 
--- what a look-up of a method answers: the method, and whether it can be started
+-- the result of a look-up of a method: the method, and whether it can be started
 pub record IsCallee (m : Option MethodTree) (callee : Option Callee) : Type 0 where
   pub method : option_map (λ c. method_tree c.method.now) callee ≡ m
   pub startable : option_map (λ c. c.startable) callee ≡ option_map can_start m
 
--- members that are a contract's, a struct's, a class's
+-- the members of a contract, of a struct, of a class
 abbrev pub as_declared : Members → Option Declared
 as_declared (members.Contract d) = Some d
 as_declared (members.Struct f) = None
@@ -72,20 +72,20 @@ as_methods (members.Contract d) = None
 as_methods (members.Struct f) = None
 as_methods (members.Class m) = Some m
 
--- what items in a row declare within them
+-- what these items declare, in order
 abbrev pub AllMembers : List ℕ → List ItemTree → List Members → Type 0
 AllMembers text [] [] = Unit {0}
 AllMembers text [] (m ∷ ms) = ⊥
 AllMembers text (i ∷ items) [] = ⊥
 AllMembers text (i ∷ items) (m ∷ ms) = AreMembers text i.definition m × AllMembers text items ms
 
--- what the contracts among these declare
+-- the declarations of a contract, if the members are those of one
 abbrev pub declared_among : Members → List Declared
 declared_among (members.Contract d) = d ∷ []
 declared_among (members.Struct f) = []
 declared_among (members.Class m) = []
 
--- what contracts in a row declare
+-- what these contracts declare, in order
 abbrev pub AreDeclared : List ℕ → List ContractTree → List Declared → Type 0
 AreDeclared text [] [] = Unit {0}
 AreDeclared text [] (d ∷ ds) = ⊥
@@ -100,7 +100,7 @@ pub record AreNoted (p : ProgramText) (noted : NotedTypes) : Type 0 where
 abbrev pub program_of_scope : Scope → ProgramText
 program_of_scope scope = record { text = scope.text.now; items = map item_tree scope.items.now }
 
--- what these items declare is in scope
+-- it is the scope of this program
 pub record IsScope (p : ProgramText) (scope : Scope) : Type 0 where
   pub text_is : scope.text.now ≡ p.text
   pub items_are : map item_tree scope.items.now ≡ p.items
@@ -108,19 +108,19 @@ pub record IsScope (p : ProgramText) (scope : Scope) : Type 0 where
   pub members : AllMembers p.text p.items scope.members.items
   pub noted : AreNoted p scope.noted
 
--- what a look-up of a contract answers: how many items stand before it, and what it declares
+-- the result of a look-up of a contract: its index among the items, and what it declares
 abbrev pub IsContract : List ℕ → Option (ℕ × ContractTree) → Option (ℕ × Declared) → Type 0
 IsContract text None None = Unit {0}
 IsContract text (Some c) (Some d) = (c.0 ≡ d.0) × IsDeclared text c.1 d.1
 IsContract text _ _ = ⊥
 
--- what a look-up of a struct answers
+-- the result of a look-up of a struct
 abbrev pub IsStruct : List ℕ → Option (ℕ × StructTree) → Option (ℕ × Fields) → Type 0
 IsStruct text None None = Unit {0}
 IsStruct text (Some s) (Some f) = (s.0 ≡ f.0) × AreFieldsOf text s.1 f.1
 IsStruct text _ _ = ⊥
 
--- what a look-up of a class answers
+-- the result of a look-up of a class
 abbrev pub IsClass : List ℕ → Option (ℕ × ClassTree) → Option ClassMethods → Type 0
 IsClass text None None = Unit {0}
 IsClass text (Some c) (Some m) = AreMethods text c.1 m

@@ -1,4 +1,4 @@
-//! What is wrong with the names of contracts.
+//! Mistakes in the names of contracts.
 
 ghost use Rattle.std.specs.Prelude.{◌≡◌, ◌++◌, map, IfOk, OnOk};
 ghost use Rattle.std.specs.List.{flat_map};
@@ -19,9 +19,10 @@ use crate::state_paths::judge_states;
 use source::{Memory, Span};
 use std::alloc::{AllocError, Global};
 
-/// Adds what is wrong with the names of a contract.
+/// Adds the mistakes in the names of a contract.
 ///
-/// `Memory` is returned if a growth was refused.
+/// # Errors
+/// `Memory` if an allocation fails.
 pub fn judge_contract(
     alloc: Global,
     scope: &Scope<'_>,
@@ -39,9 +40,10 @@ pub fn judge_contract(
     judge_states(scope.text, declared, found)
 }
 
-/// Adds the contract, and the state, one past the limit.
+/// Adds a mistake at the first contract past the limit, and one at the first state past the limit.
 ///
-/// `Memory` is returned if a growth was refused.
+/// # Errors
+/// `Memory` if an allocation fails.
 pub fn judge_counted(
     alloc: Global,
     scope: &Scope<'_>,
@@ -58,7 +60,7 @@ pub fn judge_counted(
     judge_limit(Limit::States, &counted, found)
 }
 
-/// The names of the contracts among these, in order.
+/// Returns the names of the contracts among these items, in order.
 fn contract_names(alloc: Global, items: &[Members<'_>]) -> Result<Vec<Span>, AllocError>
     ensures { IfOk result (λ names. names.items ≡ flat_map (λ m. map (λ d. d.outline.name) (declared_among m)) items.now) }
 {

@@ -13,8 +13,8 @@ use source::Span;
 use std::alloc::{AllocError, Global};
 use tree::{Edge, Path, State};
 
-/// The names at which the states of the contracts among these are counted: its own for a named state, and the message
-/// behind it for an unnamed one.
+/// Returns the names at which the states of the contracts among these items are counted: a named state at its own
+/// name, an unnamed one at the message of its edge.
 pub(crate) fn all_counted(alloc: Global, items: &[Members<'_>]) -> Result<Vec<Span>, AllocError>
     ensures { IfOk result (λ names. names.items
         ≡ flat_map (λ m. flat_map (λ d. counted_states (outlined_states d.outline)) (declared_among m)) items.now) }
@@ -26,7 +26,7 @@ pub(crate) fn all_counted(alloc: Global, items: &[Members<'_>]) -> Result<Vec<Sp
     Ok(names)
 }
 
-/// Whether the contracts among these have no more than so many states.
+/// Returns whether the contracts among these items have at most `most` states.
 pub(crate) fn are_few(items: &[Members<'_>], most: usize) -> bool
     ensures { IsTrue result ↔ (length (flat_map (λ m. flat_map (λ d. d.counted.all.items) (declared_among m)) items.now) ≤ most) }
 {
@@ -40,7 +40,7 @@ pub(crate) fn are_few(items: &[Members<'_>], most: usize) -> bool
     true
 }
 
-/// How many states the contract has that an item is, if it is one.
+/// Returns the number of states of an item; 0 if it is no contract.
 fn state_count(item: &Members<'_>) -> usize
     ensures { result ≡ length (flat_map (λ d. d.counted.all.items) (declared_among item.now)) }
 {

@@ -15,14 +15,14 @@ use source::Memory;
 use std::alloc::Global;
 use tree::Path;
 
-/// The edges, in order of the text.
+/// Returns the edges, in order of the text.
 pub(crate) fn edges_of(alloc: Global, meaning: &Meaning<'_, '_>) -> Result<Vec<Edge>, Memory>
     requires meaning { IsMeaning meaning.now }
     requires clean { flat_map (state_mistakes (text_of meaning.now) (message_names meaning.now) (state_names meaning.now))
         (states_in meaning.now) ≡ [] }
     ensures { IfOk result (λ edges. edges.items ≡ edges_from (meanings meaning.now) meaning.now.states_before (states_in meaning.now)) }
 {
-    // Most states have one edge, and a list that grows is copied.
+    // Most states have one edge. Room for that many saves copying a list that grows.
     let mut edges = Vec::with_capacity(alloc, meaning.declared.counted.all.len())?;
     for (i, state) in meaning.declared.outline.states.iter().enumerate() {
         let number = meaning.states_before + meaning.named[i] as u32;
@@ -31,7 +31,7 @@ pub(crate) fn edges_of(alloc: Global, meaning: &Meaning<'_, '_>) -> Result<Vec<E
     Ok(edges)
 }
 
-/// Adds the edges of the paths of the state with this number. Behind it are numbered the unnamed states of these paths.
+/// Adds the edges of the paths of the state with this number. The unnamed states of these paths are numbered after it.
 fn add_paths(
     meaning: &Meaning<'_, '_>,
     state: u32,
@@ -52,7 +52,7 @@ fn add_paths(
     Ok(())
 }
 
-/// Adds the edges of a path from this state. The numbers of its unnamed states begin with the other number.
+/// Adds the edges of a path from `state`. Its unnamed states are numbered from `unnamed`.
 fn add_path(
     meaning: &Meaning<'_, '_>,
     state: u32,

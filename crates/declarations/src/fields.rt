@@ -13,11 +13,11 @@ use std::alloc::{AllocError, Global};
 use tables::Table;
 use tree::{Field, Struct};
 
-/// The fields of a struct, those of them that own, and where each of their names is declared first.
+/// The fields of a struct, its owning fields, and where each name of a field is declared first.
 #[derive(Drop)]
 pub struct Fields<'a> {
     pub(crate) list: &'a [Field],
-    /// Found once, so that no `new` reads the fields that do not own.
+    /// Collected once, so that no `new` reads the fields that do not own.
     pub(crate) owning: Vec<Field>,
     pub(crate) table: Table<'a>,
 }
@@ -25,7 +25,7 @@ pub struct Fields<'a> {
 impl<'a> Fields<'a> {
     ghost use Rattle.declarations.specs.Scopes.{AreFieldsOf};
 
-    /// The fields of a struct.
+    /// Returns the fields of a struct.
     pub(crate) fn of(
         alloc: Global,
         text: &'a [u8],
@@ -43,7 +43,7 @@ impl<'a> Fields<'a> {
         })
     }
 
-    /// How many fields of the struct stand before the first one of this name.
+    /// Returns the index of the first field of this name.
     pub(crate) fn index_of(&self, text: &[u8], name: Span) -> Option<usize>
         ensures { (s : StructTree) → AreFieldsOf text.now s self.now
             → result ≡ first_among text.now (map (λ f. f.name) s.fields) name }
@@ -51,7 +51,7 @@ impl<'a> Fields<'a> {
         self.table.find(name.slice(text))
     }
 
-    /// The first field of this name.
+    /// Returns the first field of this name.
     pub fn find(&self, text: &[u8], name: Span) -> Option<Field>
         ensures { (s : StructTree) → AreFieldsOf text.now s self.now → result ≡ field_named text.now s name }
     {
@@ -60,7 +60,7 @@ impl<'a> Fields<'a> {
     }
 }
 
-/// The names of these fields, in order.
+/// Returns the names of these fields, in order.
 pub(crate) fn names_of_fields(alloc: Global, fields: &[Field]) -> Result<Vec<Span>, AllocError>
     ensures { IfOk result (λ names. names.items ≡ map (λ f. f.name) fields.now) }
 {
@@ -71,7 +71,7 @@ pub(crate) fn names_of_fields(alloc: Global, fields: &[Field]) -> Result<Vec<Spa
     Ok(names)
 }
 
-/// Those of these fields that own, in order.
+/// Returns the owning fields among these, in order.
 fn owning_fields(alloc: Global, fields: &[Field]) -> Result<Vec<Field>, AllocError>
     ensures { IfOk result (λ owning. owning.items ≡ filter (λ f. is_heap f.ty) fields.now) }
 {

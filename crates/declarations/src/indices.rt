@@ -1,4 +1,4 @@
-//! Where names stand among those of their kind.
+//! Indices of items, messages and states, by name.
 
 ghost use Rattle.std.specs.Prelude.{◌≡◌, option_map, option_and_then};
 ghost use Rattle.tree.specs.Trees.{message_tree};
@@ -17,7 +17,7 @@ use tree::{Message, Type};
 impl<'a> Scope<'a> {
     ghost use Rattle.declarations.specs.Scopes.{IsScope};
 
-    /// What a written type means.
+    /// Returns the type that a written type means.
     #[inline(always)]
     pub fn type_meant(&self, written: Type) -> ValueType
         ensures { (p : ProgramText) → IsScope p self.now → result ≡ type_meant p written }
@@ -25,7 +25,7 @@ impl<'a> Scope<'a> {
         type_meant(self, written)
     }
 
-    /// How many items stand before the first item of this name, if it is a contract.
+    /// Returns the index of the first item of this name, if it is a contract.
     pub fn contract_index(&self, name: Span) -> Option<usize>
         ensures { (p : ProgramText) → IsScope p self.now → result ≡ contract_index p name }
     {
@@ -33,7 +33,7 @@ impl<'a> Scope<'a> {
         Some(index)
     }
 
-    /// How many messages stand before the first one of this name, in the contract that is the item at this index.
+    /// Returns the index of the first message of this name in the contract that is item `contract`.
     pub fn message_index(&self, contract: usize, name: Span) -> Option<usize>
         ensures { (p : ProgramText) → IsScope p self.now → result ≡ message_index p contract (word_at p.text name) }
     {
@@ -41,7 +41,7 @@ impl<'a> Scope<'a> {
         declared.messages.find(name.slice(self.text))
     }
 
-    /// The same of the message that a word like `SendM` sends.
+    /// Returns the index of the first message that a word like `SendM` sends, in the contract that is item `contract`.
     pub fn sent_index(&self, contract: usize, word: Span) -> Option<usize>
         ensures { (p : ProgramText) → IsScope p self.now → result ≡ sent_index p contract word }
     {
@@ -50,7 +50,7 @@ impl<'a> Scope<'a> {
         declared.messages.find(name)
     }
 
-    /// The message at this index in the contract that is the item at the first one.
+    /// Returns the message at `index` in the contract that is item `contract`.
     pub fn message_at(&self, contract: usize, index: usize) -> Option<&'a Message>
         ensures { (p : ProgramText) → IsScope p self.now → option_map (λ m. message_tree m.now) result ≡ message_at p contract index }
     {
@@ -58,7 +58,7 @@ impl<'a> Scope<'a> {
         declared.outline.messages.get(index).copied()
     }
 
-    /// The first message of this name in the contract that is the item at this index.
+    /// Returns the first message of this name in the contract that is item `contract`.
     pub fn message(&self, contract: usize, name: Span) -> Option<&'a Message>
         ensures { (p : ProgramText) → IsScope p self.now → option_map (λ m. message_tree m.now) result
             ≡ option_and_then (λ c. message_written p.text c.1 (word_at p.text name)) (item_at as_contract p contract) }
@@ -67,7 +67,7 @@ impl<'a> Scope<'a> {
         declared.message(name.slice(self.text))
     }
 
-    /// The same of the message that a word like `SendM` sends.
+    /// Returns the first message that a word like `SendM` sends, in the contract that is item `contract`.
     pub fn sent_message(&self, contract: usize, word: Span) -> Option<&'a Message>
         ensures { (p : ProgramText) → IsScope p self.now → option_map (λ m. message_tree m.now) result
             ≡ option_and_then (λ c. sent_message p.text c.1 (word_at p.text word)) (item_at as_contract p contract) }
@@ -77,8 +77,7 @@ impl<'a> Scope<'a> {
         declared.message(written)
     }
 
-    /// How many states, unnamed ones counted, stand before the first one of this name, in the contract that is the item at
-    /// this index.
+    /// Returns the index of the first state of this name in the contract that is item `contract`. Unnamed states are counted.
     pub fn state_index(&self, contract: usize, name: Span) -> Option<usize>
         ensures { (p : ProgramText) → IsScope p self.now → result ≡ state_index p contract name }
     {

@@ -1,4 +1,4 @@
-//! What is wrong with the names of items, and within structs.
+//! Mistakes in the names of items, and within structs.
 
 ghost use Rattle.std.specs.Prelude.{◌≡◌, ◌++◌, map, IfOk, OnOk};
 ghost use Rattle.std.specs.List.{flat_map};
@@ -20,9 +20,10 @@ use source::{Memory, Span};
 use std::alloc::{AllocError, Global};
 use tree::{Definition, Field, Item, Method};
 
-/// Adds each item whose name an earlier one has, and the method one past the limit.
+/// Adds a mistake for each item whose name an earlier one has, and one at the first method past the limit.
 ///
-/// `Memory` is returned if a growth was refused.
+/// # Errors
+/// `Memory` if an allocation fails.
 pub fn judge_items(alloc: Global, scope: &Scope<'_>, found: &mut Vec<Mistake>) -> Result<(), Memory>
     ensures { (p : ProgramText) → IsScope p scope.now → OnOk result (Adds found.old.items found.new.items (items_mistakes p)) }
 {
@@ -32,10 +33,11 @@ pub fn judge_items(alloc: Global, scope: &Scope<'_>, found: &mut Vec<Mistake>) -
     judge_limit(Limit::Methods, &methods, found)
 }
 
-/// Adds each field of a struct whose name an earlier one has, the names in the types of its fields that are not declared,
-/// and the field that owns one past the limit.
+/// Adds the mistakes in a struct: each field whose name an earlier one has, the undeclared names in the types of its
+/// fields, and the first owning field past the limit.
 ///
-/// `Memory` is returned if a growth was refused.
+/// # Errors
+/// `Memory` if an allocation fails.
 pub fn judge_struct(
     alloc: Global,
     scope: &Scope<'_>,
@@ -62,9 +64,10 @@ fn judge_types(scope: &Scope<'_>, fields: &[Field], found: &mut Vec<Mistake>) ->
     Ok(())
 }
 
-/// Adds each method of a class whose name an earlier one has.
+/// Adds a mistake for each method of a class whose name an earlier one has.
 ///
-/// `Memory` is returned if a growth was refused.
+/// # Errors
+/// `Memory` if an allocation fails.
 pub fn judge_method_names(
     alloc: Global,
     scope: &Scope<'_>,
@@ -78,7 +81,7 @@ pub fn judge_method_names(
     judge_twice(scope.text, &methods.table, &names, found)
 }
 
-/// The names of all methods in these items, in order.
+/// Returns the names of all methods in these items, in order.
 fn all_method_names(alloc: Global, items: &[Item]) -> Result<Vec<Span>, AllocError>
     ensures { IfOk result (λ names. names.items ≡ map (λ m. m.name) (flat_map (λ i. methods_in i.definition) (map item_tree items.now))) }
 {
@@ -98,7 +101,7 @@ fn add_names(names: &mut Vec<Span>, methods: &[Method]) -> Result<(), AllocError
     Ok(())
 }
 
-/// The methods of a class, if it is one.
+/// Returns the methods of a class; none for any other definition.
 fn methods_of(definition: &Definition) -> &[Method]
     ensures { map method_tree result.now ≡ methods_in (definition_tree definition.now) }
 {

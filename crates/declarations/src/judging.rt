@@ -1,4 +1,4 @@
-//! Names that are declared twice, that nothing declares, or that are one too many.
+//! Names that are declared twice, not declared, or past a limit.
 
 ghost use Rattle.std.specs.Prelude.{◌≡◌, ◌↔◌, List, ◌∷◌, [], IsTrue, OnOk, Some, option_and_then, slice_get};
 ghost use Rattle.source.specs.declared.token.Span.{Span};
@@ -11,9 +11,10 @@ use crate::mistake::{Limit, Mistake, NameSort};
 use source::{Memory, Span};
 use tables::Table;
 
-/// Adds a name of this sort that nothing declares.
+/// Adds that nothing declares this name, which is of this sort.
 ///
-/// `Memory` is returned if a growth was refused.
+/// # Errors
+/// `Memory` if an allocation fails.
 pub fn add_unknown(name: Span, sort: NameSort, found: &mut Vec<Mistake>) -> Result<(), Memory>
     ensures { OnOk result (Adds found.old.items found.new.items (Mistake.Unknown name sort ∷ [])) }
 {
@@ -21,7 +22,7 @@ pub fn add_unknown(name: Span, sort: NameSort, found: &mut Vec<Mistake>) -> Resu
     Ok(())
 }
 
-/// Adds the name, which is of this sort, if its table lacks it.
+/// Adds that nothing declares the name, which is of this sort, if its table lacks it.
 pub(crate) fn judge_name(
     text: &[u8],
     table: &Table<'_>,
@@ -38,9 +39,10 @@ pub(crate) fn judge_name(
     }
 }
 
-/// Adds a name that an earlier one has, if one has it.
+/// Adds that the name is declared twice, if an earlier one is given.
 ///
-/// `Memory` is returned if a growth was refused.
+/// # Errors
+/// `Memory` if an allocation fails.
 pub fn add_twice(name: Span, earlier: Option<Span>, found: &mut Vec<Mistake>) -> Result<(), Memory>
     ensures { OnOk result (Adds found.old.items found.new.items (twice name earlier)) }
 {
@@ -51,7 +53,7 @@ pub fn add_twice(name: Span, earlier: Option<Span>, found: &mut Vec<Mistake>) ->
     Ok(())
 }
 
-/// Adds each name that an earlier one has.
+/// Adds a mistake for each name that an earlier one has.
 pub(crate) fn judge_twice(
     text: &[u8],
     table: &Table<'_>,
@@ -73,7 +75,7 @@ pub(crate) fn judge_twice(
     Ok(())
 }
 
-/// Whether a name was found at this index.
+/// Returns whether a name was found at this index.
 fn is_at(found: Option<usize>, index: usize) -> bool
     ensures { IsTrue result ↔ (found ≡ Some index) }
 {
@@ -83,14 +85,14 @@ fn is_at(found: Option<usize>, index: usize) -> bool
     }
 }
 
-/// The one of these names that was found.
+/// Returns the name at the index that was found.
 fn first_named(names: &[Span], first: Option<usize>) -> Option<Span>
     ensures { result ≡ option_and_then (slice_get names.now) first }
 {
     name_at(names, first?)
 }
 
-/// Adds the name one past the limit.
+/// Adds a mistake at the first name past the limit, if there is one.
 pub(crate) fn judge_limit(
     limit: Limit,
     names: &[Span],

@@ -1,4 +1,4 @@
-//! How the states of a contract are printed: their names, one behind another.
+//! How the states of a contract are printed: their names, one after another in a string.
 
 ghost use Rattle.std.specs.Prelude.{◌≡◌, ℕ, List, IfOk, IfSome, string_bytes};
 ghost use Rattle.declarations.specs.Declarations.{names_of_messages};
@@ -16,7 +16,7 @@ use source::{Memory, Span, texts};
 use std::alloc::Global;
 use tables::Table;
 
-/// Where the names of unnamed states stand among the names of states: one for each message of the contract.
+/// The names of the unnamed states of a contract, as parts of the string of names: one for each message.
 #[derive(Drop)]
 pub(crate) struct Labels<'a, 't> {
     pub(crate) text: &'a [u8],
@@ -25,7 +25,7 @@ pub(crate) struct Labels<'a, 't> {
 }
 
 impl<'a, 't> Labels<'a, 't> {
-    /// Adds the names of the unnamed states of a contract that declares this.
+    /// Appends the names of the unnamed states of a contract with these declarations, one for each message.
     pub(crate) fn of(
         alloc: Global,
         text: &'a [u8],
@@ -48,7 +48,8 @@ impl<'a, 't> Labels<'a, 't> {
         })
     }
 
-    /// Where a state is told: a named one is added, and unnamed ones of a message that the contract declares share their name.
+    /// Returns the part that is the name of a state. Appends the name of a named state; unnamed states share the name
+    /// of their message, if the contract declares it.
     pub(crate) fn part(
         &self,
         alloc: Global,
@@ -68,7 +69,7 @@ impl<'a, 't> Labels<'a, 't> {
         }
     }
 
-    /// Where the name stands that unnamed states of this message share.
+    /// Returns the part that the unnamed states of this message share.
     fn shared_part(&self, message: Span) -> Option<Part>
         ensures { (names : List ℕ) → AreLabels self.now names
             → IfSome result (λ part. Stands names part (in_parentheses self.now.text.now message)) }
@@ -78,7 +79,7 @@ impl<'a, 't> Labels<'a, 't> {
     }
 }
 
-/// Adds a name.
+/// Appends a name.
 fn add_name(alloc: Global, names: &mut String, text: &[u8], name: Span) -> Result<Part, Memory>
     ensures { IfOk result (λ part. IsTold (string_bytes names.old) (string_bytes names.new) part (printed_name text.now name)) }
 {
@@ -90,7 +91,7 @@ fn add_name(alloc: Global, names: &mut String, text: &[u8], name: Span) -> Resul
     })
 }
 
-/// Adds the name of a message, in parentheses.
+/// Appends the name of a message, in parentheses.
 fn add_enclosed(
     alloc: Global,
     names: &mut String,

@@ -1,4 +1,4 @@
-//! What the items of a program declare, what is wrong with their names, and contracts in numbers.
+//! What the items of a program declare, the mistakes in their names, and contracts in numbers.
 #![tactic(auto)]
 
 mod contracts;

@@ -8,22 +8,22 @@ use crate::members::Declared;
 use program::{Edge, MessageId, StateId};
 use source::Span;
 
-/// What a contract declares, and how its messages and states are numbered.
+/// The declarations of a contract, and how its messages and states are numbered.
 #[derive(Clone, Copy)]
 pub(crate) struct Meaning<'a, 't> {
     pub(crate) text: &'a [u8],
     pub(crate) declared: &'a Declared<'t>,
-    /// How many messages and how many states stand before its own in the text.
+    /// The numbers of messages and of states before those of this contract in the text.
     pub(crate) messages_before: u32,
     pub(crate) states_before: u32,
-    /// Where its named states stand among its states, in order.
+    /// The indices of its named states among all of its states, in order.
     pub(crate) named: &'a [usize],
 }
 
 impl Meaning<'_, '_> {
     ghost use Rattle.declarations.specs.Meant.{IsMeaning, meanings, message_names, state_names, text_of};
 
-    /// The number of the message of this name.
+    /// Returns the number of the message of this name.
     fn message(&self, name: Span) -> u32
         requires meaning { IsMeaning self.now }
         requires declared { asked_message (text_of self.now) (message_names self.now) name ≡ [] }
@@ -33,7 +33,7 @@ impl Meaning<'_, '_> {
         self.messages_before + place as u32
     }
 
-    /// The number of the state of this name.
+    /// Returns the number of the state of this name.
     pub(crate) fn state(&self, name: Span) -> u32
         requires meaning { IsMeaning self.now }
         requires declared { asked_state (text_of self.now) (state_names self.now) name ≡ [] }
@@ -43,7 +43,7 @@ impl Meaning<'_, '_> {
         self.states_before + self.named[index] as u32
     }
 
-    /// An edge between the states with these numbers.
+    /// Returns an edge between the states with these numbers.
     pub(crate) fn edge(&self, from: u32, edge: tree::Edge, to: u32) -> Edge
         requires meaning { IsMeaning self.now }
         requires declared { asked_message (text_of self.now) (message_names self.now) edge.message ≡ [] }

@@ -1,4 +1,4 @@
-//! What an item declares within it, and where each of its names is declared first.
+//! What an item declares, and where each of its names is declared first.
 
 ghost use Rattle.std.specs.Prelude.{◌≡◌, List, ℕ, map, IfOk, option_map, slice_get};
 ghost use Rattle.std.specs.Option.{option_copied};
@@ -17,7 +17,7 @@ use std::alloc::{AllocError, Global};
 use tables::Table;
 use tree::{Class, Contract, Definition, Message, Method};
 
-/// What a contract declares, where each of its names is declared first, and the names at which its states are counted.
+/// The declarations of a contract, where each of its names is declared first, and the names at which its states are counted.
 #[derive(Drop)]
 pub struct Declared<'a> {
     pub(crate) outline: Outline<'a>,
@@ -30,12 +30,12 @@ pub struct Declared<'a> {
 #[derive(Drop)]
 pub struct ClassMethods<'a> {
     pub(crate) list: &'a [Method],
-    /// Found once for each method, so that no start of it reads all of its parameters.
+    /// Computed once for each method, so that no start of it reads all of its parameters.
     pub(crate) startable: Vec<bool>,
     pub(crate) table: Table<'a>,
 }
 
-/// What an item declares within it.
+/// What an item declares.
 #[derive(Drop)]
 pub enum Members<'a> {
     Contract(Declared<'a>),
@@ -46,7 +46,7 @@ pub enum Members<'a> {
 impl<'a> Members<'a> {
     ghost use Rattle.declarations.specs.Scopes.{AreMembers, as_declared, as_fields, as_methods};
 
-    /// What a definition declares within it.
+    /// Returns what a definition declares.
     pub(crate) fn of(
         alloc: Global,
         text: &'a [u8],
@@ -65,7 +65,7 @@ impl<'a> Members<'a> {
         }
     }
 
-    /// What a contract declares, if it is one.
+    /// Returns the declarations of a contract, if it is one.
     pub(crate) fn contract(&self) -> Option<&Declared<'a>>
         ensures { option_copied result ≡ as_declared self.now }
     {
@@ -75,7 +75,7 @@ impl<'a> Members<'a> {
         }
     }
 
-    /// The fields of a struct, if it is one.
+    /// Returns the fields of a struct, if it is one.
     pub(crate) fn fields(&self) -> Option<&Fields<'a>>
         ensures { option_copied result ≡ as_fields self.now }
     {
@@ -85,7 +85,7 @@ impl<'a> Members<'a> {
         }
     }
 
-    /// The methods of a class, if it is one.
+    /// Returns the methods of a class, if it is one.
     pub(crate) fn methods(&self) -> Option<&ClassMethods<'a>>
         ensures { option_copied result ≡ as_methods self.now }
     {
@@ -99,7 +99,7 @@ impl<'a> Members<'a> {
 impl<'a> Declared<'a> {
     ghost use Rattle.declarations.specs.Scopes.{IsDeclared};
 
-    /// What a contract declares.
+    /// Returns the declarations of a contract.
     pub(crate) fn of(
         alloc: Global,
         text: &'a [u8],
@@ -121,7 +121,7 @@ impl<'a> Declared<'a> {
         })
     }
 
-    /// The first message that is written so.
+    /// Returns the first message of this name.
     pub(crate) fn message(&self, word: &[u8]) -> Option<&'a Message>
         ensures { (text : List ℕ) (c : ContractTree) → IsDeclared text c self.now
             → option_map (λ m. message_tree m.now) result ≡ message_written text c word.now }
@@ -130,7 +130,7 @@ impl<'a> Declared<'a> {
         self.outline.messages.get(index).copied()
     }
 
-    /// Where the named state at this index stands among all of its states.
+    /// Returns the index, among all states, of the named state at this index.
     pub(crate) fn named_index(&self, index: usize) -> Option<usize>
         ensures { result ≡ slice_get self.now.counted.named.items index }
     {
@@ -141,7 +141,7 @@ impl<'a> Declared<'a> {
 impl<'a> ClassMethods<'a> {
     ghost use Rattle.declarations.specs.Scopes.{AreMethods, IsCallee};
 
-    /// The methods of a class.
+    /// Returns the methods of a class.
     pub(crate) fn of(
         alloc: Global,
         text: &'a [u8],
@@ -159,7 +159,7 @@ impl<'a> ClassMethods<'a> {
         })
     }
 
-    /// How many methods of the class stand before the first one of this name.
+    /// Returns the index of the first method of this name.
     pub(crate) fn index_of(&self, text: &[u8], name: Span) -> Option<usize>
         ensures { (c : ClassTree) → AreMethods text.now c self.now
             → result ≡ first_among text.now (map (λ m. m.name) c.methods) name }
@@ -167,14 +167,14 @@ impl<'a> ClassMethods<'a> {
         self.table.find(name.slice(text))
     }
 
-    /// The methods, in order.
+    /// Returns the methods, in order.
     pub fn list(&self) -> &'a [Method]
         ensures { result.now ≡ self.now.list.now }
     {
         self.list
     }
 
-    /// The first method of this name, and whether it can be started.
+    /// Returns the first method of this name, and whether it can be started.
     pub fn find(&self, text: &[u8], name: Span) -> Option<Callee<'a>>
         ensures { (c : ClassTree) → AreMethods text.now c self.now
             → IsCallee (method_named text.now c name) result }
@@ -183,7 +183,7 @@ impl<'a> ClassMethods<'a> {
         self.callee(index)
     }
 
-    /// The method at this index.
+    /// Returns the method at this index, and whether it can be started.
     fn callee(&self, index: usize) -> Option<Callee<'a>>
         ensures { (c : ClassTree) (text : List ℕ) → AreMethods text c self.now → IsCallee (slice_get c.methods index) result }
     {
@@ -194,7 +194,7 @@ impl<'a> ClassMethods<'a> {
 }
 
 impl<'a> Outline<'a> {
-    /// The names of the messages, in order.
+    /// Returns the names of the messages, in order.
     pub(crate) fn message_names(&self, alloc: Global) -> Result<Vec<Span>, AllocError>
         ensures { IfOk result (λ names. names.items ≡ names_of_messages (outlined_messages self.now)) }
     {
@@ -205,7 +205,7 @@ impl<'a> Outline<'a> {
         Ok(names)
     }
 
-    /// The names of the states, in order.
+    /// Returns the names of the states, in order.
     pub(crate) fn state_names(&self, alloc: Global) -> Result<Vec<Span>, AllocError>
         ensures { IfOk result (λ names. names.items ≡ names_of_states (outlined_states self.now)) }
     {
@@ -217,7 +217,7 @@ impl<'a> Outline<'a> {
     }
 }
 
-/// The names of these methods, in order.
+/// Returns the names of these methods, in order.
 pub(crate) fn names_of_methods(alloc: Global, methods: &[Method]) -> Result<Vec<Span>, AllocError>
     ensures { IfOk result (λ names. names.items ≡ map (λ m. m.name) methods.now) }
 {

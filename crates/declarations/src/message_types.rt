@@ -1,4 +1,4 @@
-//! What is wrong with the parameters of messages.
+//! Mistakes in the parameters of messages.
 
 ghost use Rattle.std.specs.Prelude.{◌≡◌, map, OnOk, IfOk};
 ghost use Rattle.std.specs.List.{flat_map};
@@ -18,7 +18,7 @@ use std::alloc::Global;
 use tables::Table;
 use tree::{Message, MessageParameter};
 
-/// Adds what is wrong with the parameters of a message.
+/// Adds the mistakes in the parameters of a message.
 pub(crate) fn judge_message(
     alloc: Global,
     scope: &Scope<'_>,
@@ -59,7 +59,7 @@ fn names_of(alloc: Global, params: &[MessageParameter]) -> Result<Vec<Span>, Mem
     Ok(names)
 }
 
-/// Adds what is wrong with the parameters of these messages.
+/// Adds the mistakes in the parameters of these messages.
 pub(crate) fn judge_messages(
     alloc: Global,
     scope: &Scope<'_>,

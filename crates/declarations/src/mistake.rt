@@ -1,4 +1,4 @@
-//! What is wrong with names and types, in numbers.
+//! Mistakes in names and types, in numbers.
 
 ghost use Rattle.std.specs.Prelude.{◌≡◌, IfOk, map};
 ghost use Rattle.source.specs.Findings.{finding_model};
@@ -14,17 +14,17 @@ use std::alloc::Global;
 /// What is asked of a value, a variable or a field.
 #[derive(Clone, Copy, Debug, PartialEq, Eq)]
 pub enum Demand {
-    /// That it is of this type.
+    /// This type.
     OfType(ValueType),
     /// `int` or `byte`.
     Number,
     /// `bool`.
     Truth,
-    /// A number or a truth value.
+    /// `int`, `byte` or `bool`.
     Scalar,
     /// A block of the exchange heap.
     Block,
-    /// No block of the exchange heap.
+    /// Anything but a block of the exchange heap.
     NoBlock,
     /// A pointer to a struct.
     Pointer,
@@ -34,20 +34,20 @@ pub enum Demand {
     Fields,
     /// An endpoint.
     Endpoint,
-    /// An end of a channel of the contract before which so many items stand.
+    /// An end of a channel of the contract that is this item.
     EndOf(usize),
 }
 
 /// Why a type is wrong.
 #[derive(Clone, Copy, Debug, PartialEq, Eq)]
 pub enum Mismatch {
-    /// This was asked, and something of that type was given; nothing, if the type is missing.
+    /// This was asked for, and something of that type was given; `Missing` if it has no type.
     Given(Demand, ValueType),
-    /// A value of this type is asked after `return`.
+    /// `return` without a value, in a method that gives a value of this type.
     NoValue(ValueType),
-    /// No value is asked after `return`.
+    /// `return` with a value, in a method that gives none.
     ValueReturned,
-    /// This end of a channel does not send the message that stands behind `Send` there.
+    /// This end of a channel does not send the message of this word, which begins with `Send`.
     NotSent(Side, Span),
     /// This end of a channel does not receive the message of this name.
     NotReceived(Side, Span),
@@ -55,11 +55,11 @@ pub enum Mismatch {
     SendStarted,
     /// The length of an array is written.
     LengthWritten,
-    /// A field that owns is read or written, and not exchanged.
+    /// An owning field is read or written instead of exchanged.
     FieldOwns,
 }
 
-/// What a program may have only so many of.
+/// What a program may have only a limited number of.
 #[derive(Clone, Copy, Debug, PartialEq, Eq)]
 pub enum Limit {
     /// Contracts of a program.
@@ -68,7 +68,7 @@ pub enum Limit {
     States,
     /// Parameters of a message.
     Parameters,
-    /// Fields of a struct that own.
+    /// Owning fields of a struct.
     Fields,
     /// Methods of a program.
     Methods,
@@ -77,7 +77,7 @@ pub enum Limit {
 }
 
 impl Limit {
-    /// How many there may be.
+    /// Returns the greatest number allowed.
     pub fn most(self) -> usize
         ensures { result ≡ most_of self }
     {
@@ -92,12 +92,12 @@ impl Limit {
     }
 }
 
-/// What sort of name nothing declares. An item is told by how many stand before it; without one, it is the item around the name.
+/// The sort of a name that nothing declares. An item is given by its index; `None` is the item around the name.
 #[derive(Clone, Copy, Debug, PartialEq, Eq)]
 pub enum NameSort {
-    /// A variable, where so many are in scope.
+    /// A variable, with this many variables in scope.
     Variable(usize),
-    /// A variable or a class before a dot, where so many variables are in scope.
+    /// A variable or a class before a dot, with this many variables in scope.
     Front(usize),
     Contract,
     Struct,
@@ -107,7 +107,7 @@ pub enum NameSort {
     State(Option<usize>),
     /// A message of a contract.
     Message(Option<usize>),
-    /// A message of a contract, behind `Send`.
+    /// A message of a contract, after `Send`.
     Sent(usize),
     /// A field of a struct.
     Field(usize),
@@ -115,35 +115,36 @@ pub enum NameSort {
     Length,
 }
 
-/// Something that is wrong with names or types: what a finding tells, and more.
+/// A mistake in names or types: the data of a finding, and more.
 #[derive(Clone, Copy, Debug, PartialEq, Eq)]
 pub enum Mistake {
-    /// A name that another one has, which is declared first, at this place.
+    /// A name that is declared before, first at this place.
     DeclaredTwice(Span, Place),
     /// A name of this sort that nothing declares.
     Unknown(Span, NameSort),
     /// A type is wrong at this place.
     WrongType(Place, Mismatch),
-    /// At this place so many arguments are asked, and so many given.
+    /// The number of arguments is wrong at this place: first the number asked for, then the number given.
     WrongNumber(Place, usize, usize),
-    /// A `break` with nothing to break off.
+    /// A `break` outside a loop or switch.
     BreakOutside(Place),
-    /// A `continue` with nothing to turn back to.
+    /// A `continue` outside a loop.
     ContinueOutside(Place),
-    /// Here stands one more than there may be.
+    /// The first one past a limit, at this place.
     LimitPassed(Place, Limit),
-    /// A method of this name cannot be started.
+    /// The method of this name cannot be started.
     NotStarted(Span),
-    /// A case of a switch on this endpoint that awaits what an earlier one does.
+    /// A case of a switch on this endpoint that awaits the same as an earlier case.
     CaseTwice(Span, Span),
-    /// An endpoint whose cases in a switch have none for its close.
+    /// An endpoint that has cases in a switch, but none for its close.
     LacksClosed(Span),
 }
 
 impl Mistake {
-    /// What a report tells of it, in this text.
+    /// Returns the finding for a mistake in this text.
     ///
-    /// `Memory` is returned if a growth was refused.
+    /// # Errors
+    /// `Memory` if an allocation fails.
     #[inline(always)]
     pub fn finding(self, alloc: Global, text: &[u8]) -> Result<Finding, Memory>
         ensures { IfOk result (λ finding. finding_model finding ≡ finding_in text.now self) }
@@ -176,9 +177,10 @@ impl Mistake {
     }
 }
 
-/// What a report tells of these mistakes, in their order.
+/// Returns the findings for these mistakes in this text, in the same order.
 ///
-/// `Memory` is returned if a growth was refused.
+/// # Errors
+/// `Memory` if an allocation fails.
 pub fn findings_of(alloc: Global, text: &[u8], mistakes: &[Mistake]) -> Result<Vec<Finding>, Memory>
     ensures { IfOk result (λ found. map finding_model found.items ≡ map (finding_in text.now) mistakes.now) }
 {

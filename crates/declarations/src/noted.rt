@@ -1,4 +1,4 @@
-//! What the types mean that are written in structs and in the heads of methods and messages.
+//! What the types in structs and in the signatures of methods and messages mean.
 
 ghost use Rattle.std.specs.Prelude.{◌≡◌, true, Some, OnOk, IfOk};
 ghost use Rattle.tree.specs.declared.types.Type.TheVariants as type;
@@ -16,22 +16,22 @@ use std::alloc::{AllocError, Global};
 use std::collections::BTreeMap;
 use tree::Heap;
 
-/// A type of the exchange heap as it is written, and what it means.
+/// A written type of the exchange heap, and what it means.
 #[derive(Clone, Copy)]
 pub(crate) struct Noted {
     pub(crate) written: Heap,
     pub(crate) ty: ValueType,
 }
 
-/// What written types mean, each by where its first name begins. That is found once, so that no call and no `new` reads the names
-/// in the types of the method, the message or the struct again, which may be longer than the call.
+/// What written types mean, by the byte at which the first name of each begins. Each is looked up once, so that no
+/// call and no `new` reads the type names of its method, message or struct again, which may be longer than the call.
 #[derive(Drop)]
 pub(crate) struct NotedTypes {
     pub(crate) first: BTreeMap<u32, Noted>,
 }
 
 impl NotedTypes {
-    /// No types.
+    /// Returns a table without types.
     pub(crate) fn new(alloc: Global) -> NotedTypes
         ensures { (p : ProgramText) → AreNoted p result }
     {
@@ -40,7 +40,7 @@ impl NotedTypes {
         }
     }
 
-    /// What the types mean that are written in the structs, and in the heads of the methods and messages, in scope.
+    /// Returns the types in the structs, and in the signatures of the methods and messages, in scope.
     pub(crate) fn of(alloc: Global, scope: &Scope<'_>) -> Result<NotedTypes, AllocError>
         ensures { IfOk result (λ noted. (p : ProgramText) → IsScope p scope.now → AreNoted p noted) }
     {
@@ -62,7 +62,7 @@ impl NotedTypes {
         Ok(())
     }
 
-    /// What this type means, if it is noted.
+    /// Returns what this type means, if it is noted.
     pub(crate) fn find(&self, written: Heap) -> Option<ValueType>
         ensures { (p : ProgramText) (k : ValueType) → AreNoted p self.now → result ≡ Some k → k ≡ type_meant p (type.Heap written) }
     {
@@ -71,7 +71,7 @@ impl NotedTypes {
     }
 }
 
-/// The type that is noted, if it is what this one means.
+/// Returns the noted type, if this one is written at the same place.
 fn type_for(noted: Noted, written: Heap) -> Option<ValueType>
     ensures { (p : ProgramText) (k : ValueType) → noted.ty ≡ type_meant p (type.Heap noted.written) → result ≡ Some k
         → k ≡ type_meant p (type.Heap written) }
@@ -82,7 +82,7 @@ fn type_for(noted: Noted, written: Heap) -> Option<ValueType>
     None
 }
 
-/// Whether two types are written at the same place.
+/// Returns whether two types are written at the same place.
 fn is_same(left: Heap, right: Heap) -> bool
     ensures { (p : ProgramText) → result ≡ true → type_meant p (type.Heap left) ≡ type_meant p (type.Heap right) }
 {
@@ -134,7 +134,7 @@ fn is_same_name(left: Span, right: Span) -> bool
     left == right
 }
 
-/// Where the first name of a type begins, if it has one.
+/// Returns the byte at which the first name of a type begins, if it has one.
 fn begins(written: Heap) -> Option<u32> {
     match written {
         Heap::Pointer { name, .. } => Some(name.start),

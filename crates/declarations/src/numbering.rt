@@ -13,7 +13,7 @@ use program::{Message, MessageId, State, StateId};
 use source::Memory;
 use std::alloc::Global;
 
-/// The messages, each with its number. So many stand before them in the text.
+/// Returns the messages, numbered from `before`, which is the number of messages before them in the text.
 pub(crate) fn number_messages(
     alloc: Global,
     text: &[u8],
@@ -36,7 +36,8 @@ pub(crate) fn number_messages(
     Ok(numbered)
 }
 
-/// The states, each with its number, and their names behind those that are written. So many states stand before them in the text.
+/// Returns the states, numbered from `before`, which is the number of states before them in the text. Appends their
+/// names to `names`.
 pub(crate) fn number_states(
     alloc: Global,
     labels: &Labels<'_, '_>,

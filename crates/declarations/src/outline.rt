@@ -21,7 +21,7 @@ pub(crate) struct Outline<'a> {
 impl<'a> Outline<'a> {
     ghost use Rattle.declarations.specs.Outlines.{IsOutline};
 
-    /// The outline of a contract.
+    /// Returns the outline of a contract.
     pub(crate) fn of(alloc: Global, contract: &'a Contract) -> Result<Outline<'a>, AllocError>
         ensures { IfOk result (IsOutline (contract_tree contract.now)) }
     {
@@ -60,7 +60,7 @@ fn add_members<'a>(
     Ok(())
 }
 
-/// The paths of a state, in order.
+/// Returns the paths of a state, in order.
 pub(crate) fn paths(state: &State) -> &[Path]
     ensures { map path_tree result.now ≡ paths_of (body_tree state.now.body) }
 {

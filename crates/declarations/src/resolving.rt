@@ -20,13 +20,14 @@ use program::{Contract, StateId};
 use source::Memory;
 use std::alloc::Global;
 
-/// The contracts of these items, in order of the text, each with its messages, states and edges.
+/// Returns the contracts in scope, in order of the text, each with its messages, states and edges.
 ///
-/// Messages and states are counted through the whole program, each from 0, so no two of them share a number; a named state is
-/// counted at its name, and after it the unnamed ones of its paths. A name in an edge means the first declaration of that name in its
-/// contract.
+/// Messages and states are each numbered from 0 through the whole program, so no two messages and no two states share
+/// a number. A named state is numbered at its name, followed by the unnamed states of its paths. A name in an edge
+/// means the first declaration of that name in its contract.
 ///
-/// `Memory` is returned if a growth was refused.
+/// # Errors
+/// `Memory` if an allocation fails.
 pub fn resolve_contracts(alloc: Global, scope: &Scope<'_>) -> Result<Vec<Contract>, Memory>
     requires scope { IsScope (program_of_scope scope.now) scope.now }
     requires clean { contracts_mistakes (program_of_scope scope.now) ≡ [] }
@@ -40,14 +41,14 @@ pub fn resolve_contracts(alloc: Global, scope: &Scope<'_>) -> Result<Vec<Contrac
     Ok(contracts)
 }
 
-/// How many messages and how many states stand before something in the text.
+/// The numbers of messages and of states before some point of the text.
 #[derive(Clone, Copy)]
 struct Before {
     messages: u32,
     states: u32,
 }
 
-/// The contracts among these, in order. The numbers of each begin behind those of the contracts before it.
+/// Returns the contracts among these items, in order. The numbers of each begin after those of the contracts before it.
 fn resolve_members(
     alloc: Global,
     text: &[u8],
@@ -69,7 +70,7 @@ fn resolve_members(
     Ok(contracts)
 }
 
-/// Adds the contract that an item is, if it is one.
+/// Adds the contract that an item is, if it is one, and counts its messages and states.
 fn add_item(
     alloc: Global,
     text: &[u8],
@@ -114,7 +115,7 @@ fn add_contract(
     Ok(())
 }
 
-/// The contract. So many messages and so many states stand before its own in the text.
+/// Returns the contract, with its messages numbered from `messages_before` and its states from `states_before`.
 fn resolve_contract(
     alloc: Global,
     text: &[u8],

@@ -1,4 +1,4 @@
-//! The items of a program by their names.
+//! The items of a program by name.
 
 ghost use Rattle.std.specs.Prelude.{◌≡◌, IfOk, map, Option, option_map, option_and_then, slice_get};
 ghost use Rattle.std.specs.Option.{option_copied};
@@ -18,11 +18,11 @@ use std::alloc::{AllocError, Global};
 use tables::Table;
 use tree::{Field, Item};
 
-/// The items of a text by their names: what they declare, in order, and where each of their names is declared first. A name
+/// The items of a text by name: what they declare, in order, and where each of their names is declared first. A name
 /// means the first item that declares it.
 #[derive(Drop)]
 pub struct Scope<'a> {
-    /// The text that the items are of.
+    /// The text of the items.
     pub text: &'a [u8],
     pub(crate) items: &'a [Item],
     pub(crate) names: Table<'a>,
@@ -33,9 +33,10 @@ pub struct Scope<'a> {
 impl<'a> Scope<'a> {
     ghost use Rattle.declarations.specs.Scopes.{IsScope, IsContract, IsStruct, IsClass, as_declared, as_fields, as_methods};
 
-    /// What these items declare.
+    /// Returns the scope of these items.
     ///
-    /// `AllocError` is answered where a growth was refused.
+    /// # Errors
+    /// `AllocError` if an allocation fails.
     pub fn of(alloc: Global, text: &'a [u8], items: &'a [Item]) -> Result<Scope<'a>, AllocError>
         ensures { IfOk result (IsScope (record { text = text.now; items = map item_tree items.now })) }
     {
@@ -53,14 +54,14 @@ impl<'a> Scope<'a> {
         Ok(scope)
     }
 
-    /// What each item declares within it, in order.
+    /// Returns what each item declares, in order.
     pub fn members(&self) -> &[Members<'a>]
         ensures { result.now ≡ self.now.members.items }
     {
         &self.members
     }
 
-    /// The first item of this name, if it is a contract: how many items stand before it, and what it declares.
+    /// Returns the first item of this name, if it is a contract: its index among the items, and what it declares.
     pub(crate) fn contract(&self, name: Span) -> Option<(usize, &Declared<'a>)>
         ensures { (p : ProgramText) → IsScope p self.now
             → IsContract p.text (contract_named p name) (option_map (λ c. (c.0, c.1.now)) result) }
@@ -70,7 +71,7 @@ impl<'a> Scope<'a> {
         Some((index, declared))
     }
 
-    /// What the item at this index declares, if it is a contract.
+    /// Returns what the item at this index declares, if it is a contract.
     pub(crate) fn contract_at(&self, index: usize) -> Option<&Declared<'a>>
         ensures { (p : ProgramText) → IsScope p self.now
             → IsContract p.text (item_at as_contract p index) (option_map (λ d. (index, d.now)) result) }
@@ -78,7 +79,7 @@ impl<'a> Scope<'a> {
         self.declared_at(index)
     }
 
-    /// The first item of this name, if it is a struct: how many items stand before it, and its fields.
+    /// Returns the first item of this name, if it is a struct: its index among the items, and its fields.
     pub(crate) fn structure(&self, name: Span) -> Option<(usize, &Fields<'a>)>
         ensures { (p : ProgramText) → IsScope p self.now → IsStruct p.text (struct_named p name) (option_map (λ s. (s.0, s.1.now)) result) }
     {
@@ -87,7 +88,7 @@ impl<'a> Scope<'a> {
         Some((index, fields))
     }
 
-    /// The first item of this name, if it is a struct: how many items stand before it, and its fields that own, in order.
+    /// Returns the first item of this name, if it is a struct: its index among the items, and its owning fields, in order.
     pub fn owning_fields(&self, name: Span) -> Option<(usize, &[Field])>
         ensures { (p : ProgramText) → IsScope p self.now → owning_named p name ≡ option_map (λ s. (s.0, s.1.now)) result }
     {
@@ -97,7 +98,7 @@ impl<'a> Scope<'a> {
         }
     }
 
-    /// The fields of the item at this index, if it is a struct.
+    /// Returns the fields of the item at this index, if it is a struct.
     pub fn structure_at(&self, index: usize) -> Option<&Fields<'a>>
         ensures { (p : ProgramText) → IsScope p self.now
             → IsStruct p.text (item_at as_struct p index) (option_map (λ f. (index, f.now)) result) }
@@ -105,7 +106,7 @@ impl<'a> Scope<'a> {
         self.fields_at(index)
     }
 
-    /// The first field of this name in the struct that is the item at this index.
+    /// Returns the first field of this name in the struct that is the item at this index.
     pub fn field(&self, index: usize, name: Span) -> Option<Field>
         ensures { (p : ProgramText) → IsScope p self.now
             → result ≡ option_and_then (λ s. field_named p.text s.1 name) (item_at as_struct p index) }
@@ -114,7 +115,7 @@ impl<'a> Scope<'a> {
         fields.find(self.text, name)
     }
 
-    /// How many fields stand before the first one of this name in the struct that is the item at this index.
+    /// Returns the index of the first field of this name in the struct that is item `structure`.
     pub fn field_index(&self, structure: usize, name: Span) -> Option<usize>
         ensures { (p : ProgramText) → IsScope p self.now
             → result ≡ option_and_then (λ s. first_among p.text (map (λ f. f.name) s.1.fields) name) (item_at as_struct p structure) }
@@ -123,7 +124,7 @@ impl<'a> Scope<'a> {
         fields.index_of(self.text, name)
     }
 
-    /// The first item of this name, if it is a class.
+    /// Returns the methods of the first item of this name, if it is a class.
     pub fn class(&self, name: Span) -> Option<&ClassMethods<'a>>
         ensures { (p : ProgramText) → IsScope p self.now → IsClass p.text (class_named p name) (option_map (λ m. m.now) result) }
     {
@@ -131,7 +132,7 @@ impl<'a> Scope<'a> {
         self.methods_at(index)
     }
 
-    /// How many items stand before the first item of this name, if it is a class.
+    /// Returns the index of the first item of this name, if it is a class.
     pub fn class_index(&self, name: Span) -> Option<usize>
         ensures { (p : ProgramText) → IsScope p self.now → result ≡ option_map (λ c. c.0) (class_named p name) }
     {
@@ -140,7 +141,7 @@ impl<'a> Scope<'a> {
         Some(index)
     }
 
-    /// How many methods stand before the first one of this name in the class that is the item at this index.
+    /// Returns the index of the first method of this name in the class that is item `class`.
     pub fn method_index(&self, class: usize, name: Span) -> Option<usize>
         ensures { (p : ProgramText) → IsScope p self.now
             → result ≡ option_and_then (λ c. first_among p.text (map (λ m. m.name) c.1.methods) name) (item_at as_class p class) }
@@ -149,7 +150,7 @@ impl<'a> Scope<'a> {
         methods.index_of(self.text, name)
     }
 
-    /// How many items stand before the first item of this name.
+    /// Returns the index of the first item of this name.
     fn index_of(&self, name: Span) -> Option<usize>
         ensures { (p : ProgramText) → IsScope p self.now → result ≡ first_among p.text (item_names p) name }
     {
@@ -175,7 +176,7 @@ impl<'a> Scope<'a> {
     }
 }
 
-/// The names of these items, in order.
+/// Returns the names of these items, in order.
 pub(crate) fn names_of_items(alloc: Global, items: &[Item]) -> Result<Vec<Span>, AllocError>
     ensures { IfOk result (λ names. names.items ≡ map (λ i. defined_name (definition_tree i.definition)) items.now) }
 {
@@ -186,7 +187,7 @@ pub(crate) fn names_of_items(alloc: Global, items: &[Item]) -> Result<Vec<Span>,
     Ok(names)
 }
 
-/// What these items declare within them, in order.
+/// Returns what these items declare, in order.
 fn members_of_items<'a>(
     alloc: Global,
     text: &'a [u8],

@@ -1,10 +1,10 @@
-//! The types of the exchange heap that stand in structs and in the heads of methods and messages.
+//! The types of the exchange heap in structs and in the signatures of methods and messages.
 
 use crate::members::Members;
 use std::alloc::{AllocError, Global};
 use tree::{Field, Heap, Message, MessageParameter, Method, Parameter, Type};
 
-/// The types of the exchange heap in these structs and in the heads of these methods and messages, in order.
+/// Returns the types of the exchange heap in these structs and in the signatures of these methods and messages, in order.
 pub(crate) fn signature_types(
     alloc: Global,
     items: &[Members<'_>],

@@ -7,7 +7,7 @@ ghost use Rattle.declarations.specs.Owning.{is_lent, any_lent, can_start};
 use std::alloc::{AllocError, Global};
 use tree::{Method, Parameter, Type};
 
-/// A method that is called, and whether it can be started.
+/// The method that a call names, and whether it can be started.
 #[derive(Clone, Copy)]
 pub struct Callee<'a> {
     pub method: &'a Method,
@@ -20,7 +20,7 @@ fn is_lent(parameter: &Parameter) -> bool
     matches!(parameter.ty, Type::Heap(_)) && !parameter.claims
 }
 
-/// Whether one of these parameters is of the exchange heap and not claimed.
+/// Returns whether one of these parameters is of the exchange heap and not claimed.
 fn any_lent(parameters: &[Parameter]) -> bool
     ensures { result ≡ any_lent parameters.now }
 {
@@ -38,7 +38,7 @@ fn can_start(method: &Method) -> bool
     method.result.is_none() && !any_lent(&method.params)
 }
 
-/// Whether each of these methods can be started, in order.
+/// Returns whether each of these methods can be started, in order.
 pub(crate) fn startable_methods(alloc: Global, methods: &[Method]) -> Result<Vec<bool>, AllocError>
     ensures { IfOk result (λ startable. startable.items ≡ map can_start (map method_tree methods.now)) }
 {

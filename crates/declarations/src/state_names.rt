@@ -11,7 +11,7 @@ use source::{Place, Span};
 use std::alloc::{AllocError, Global};
 use tree::{Edge, Path, State};
 
-/// The name of a state, or the message behind an unnamed one.
+/// The name of a state, or for an unnamed one the message of its edge.
 #[derive(Clone, Copy, PartialEq, Eq)]
 pub(crate) enum StateName {
     Named(Span),
@@ -21,7 +21,7 @@ pub(crate) enum StateName {
 impl StateName {
     ghost use Rattle.declarations.specs.Numbered.{counted_as};
 
-    /// Where it lies in the text.
+    /// Returns its place in the text.
     pub(crate) fn place(self) -> Place
         ensures { (text : List ℕ) → result ≡ (counted_as text self).place }
     {
@@ -31,14 +31,14 @@ impl StateName {
     }
 }
 
-/// All states of a contract in order, and where its named ones stand among them.
+/// All states of a contract in order, and the indices of the named ones among them.
 #[derive(Drop)]
 pub(crate) struct StateNames {
     pub(crate) all: Vec<StateName>,
     pub(crate) named: Vec<usize>,
 }
 
-/// The states: each named one, and behind it those that its paths make.
+/// Returns the states: each named one, followed by the unnamed ones of its paths.
 pub(crate) fn state_names(alloc: Global, states: &[&State]) -> Result<StateNames, AllocError>
     ensures all { IfOk result (λ names. names.all.items ≡ flat_map names_in (map (λ s. state_tree s.now) states.now)) }
     ensures named { IfOk result (λ names. names.named.items ≡ indices_named (map (λ s. state_tree s.now) states.now)) }

@@ -1,4 +1,4 @@
-//! What is wrong with the paths of states.
+//! Mistakes in the paths of states.
 
 ghost use Rattle.std.specs.Prelude.{List, OnOk};
 ghost use Rattle.std.specs.List.{flat_map};
@@ -52,7 +52,7 @@ fn judge_path(
     judge_name(text, &declared.states, path.target, sort, found)
 }
 
-/// Adds a message that its contract does not declare.
+/// Adds the message if its contract does not declare it.
 fn judge_message(
     text: &[u8],
     table: &Table<'_>,

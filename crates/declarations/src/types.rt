@@ -17,14 +17,14 @@ use program::Side;
 use source::{Memory, Span};
 use tree::{Heap, Type};
 
-/// Whether it is a type of the exchange heap.
+/// Returns whether it is a type of the exchange heap.
 pub fn is_heap(written: Type) -> bool
     ensures { result ≡ is_heap written }
 {
     matches!(written, Type::Heap(_))
 }
 
-/// What a written type means.
+/// Returns the type that a written type means.
 #[inline(always)]
 pub(crate) fn type_meant(scope: &Scope<'_>, written: Type) -> ValueType
     ensures { (p : ProgramText) → IsScope p scope.now → result ≡ type_meant p written }
@@ -44,7 +44,7 @@ fn heap_type_meant(scope: &Scope<'_>, written: Heap) -> ValueType
     }
 }
 
-/// What a written type means, by the names in it.
+/// Returns the type that a written type means, by looking up the names in it.
 pub(crate) fn look_up_type(scope: &Scope<'_>, written: Heap) -> ValueType
     ensures { (p : ProgramText) → IsScope p scope.now → result ≡ type_meant p (Type.Heap written) }
 {
@@ -60,7 +60,7 @@ pub(crate) fn look_up_type(scope: &Scope<'_>, written: Heap) -> ValueType
     }
 }
 
-/// The type of a pointer to the struct of this name.
+/// Returns the type of a pointer to the struct of this name.
 fn pointer_type(scope: &Scope<'_>, name: Span) -> ValueType
     ensures { (p : ProgramText) → IsScope p scope.now → result ≡ pointer_type (struct_named p name) }
 {
@@ -111,9 +111,10 @@ fn end_type_in(
     }
 }
 
-/// Adds the names in a type that are not declared.
+/// Adds the undeclared names in a type.
 ///
-/// `Memory` is returned if a growth was refused.
+/// # Errors
+/// `Memory` if an allocation fails.
 pub fn judge_type(scope: &Scope<'_>, written: Type, found: &mut Vec<Mistake>) -> Result<(), Memory>
     ensures { (p : ProgramText) → IsScope p scope.now → OnOk result (Adds found.old.items found.new.items (type_unknown p written)) }
 {
@@ -138,7 +139,7 @@ fn judge_heap(scope: &Scope<'_>, written: Heap, found: &mut Vec<Mistake>) -> Res
     }
 }
 
-/// Adds the name unless a struct has it.
+/// Adds the name unless it is that of a struct.
 fn judge_pointer(scope: &Scope<'_>, name: Span, found: &mut Vec<Mistake>) -> Result<(), Memory>
     ensures { (p : ProgramText) → IsScope p scope.now
         → OnOk result (Adds found.old.items found.new.items (pointer_unknown (struct_named p name) name)) }
@@ -149,7 +150,7 @@ fn judge_pointer(scope: &Scope<'_>, name: Span, found: &mut Vec<Mistake>) -> Res
     }
 }
 
-/// Adds the contract, or the state, of an endpoint's type if it is not declared.
+/// Adds the contract, or else the state, in the type of an endpoint, if it is not declared.
 fn judge_endpoint(
     scope: &Scope<'_>,
     contract: Span,

@@ -1,58 +1,58 @@
-//! What a variable holds, and what an expression gives.
+//! Types of variables and expressions.
 
 ghost use Rattle.std.specs.Prelude.{◌≡◌};
 
 use program::{Scalar, Side};
 
-/// What a variable holds, or an expression gives. An item is named by how many items stand before it in the text.
+/// The type of a variable or an expression. An item is given by its index in the text.
 #[derive(Clone, Copy, Debug, PartialEq, Eq)]
 pub enum ValueType {
     /// A number or a truth value.
     Scalar(Scalar),
     /// A pointer to a struct.
     Pointer(usize),
-    /// An array of such elements.
+    /// An array with elements of this type.
     Array(Scalar),
-    /// An end of a channel of a contract. The side stands beside the tag: behind the number it would take eight bytes more.
+    /// An end of a channel of a contract. The side comes first, next to the tag: after the index it would take eight bytes more.
     Endpoint(Side, usize),
-    /// None: what is read of a variable that has no fields or no elements. Nothing is asked of it.
+    /// No type: that of a field or an element of a variable that has none. Nothing is asked of it.
     Missing,
-    /// It is built on a name that is not declared. Nothing is asked of it, nor of what is built on it.
+    /// The type of what is built on an undeclared name. Nothing is asked of it, nor of what is built on it.
     Unknown,
 }
 
 impl ValueType {
     ghost use Rattle.declarations.specs.Types as specs;
 
-    /// Whether nothing is asked of it.
+    /// Returns whether nothing is asked of it: it is missing or unknown.
     pub fn is_silent(self) -> bool
         ensures { result ≡ specs.is_silent self }
     {
         matches!(self, ValueType::Missing | ValueType::Unknown)
     }
 
-    /// Whether it is built on a name that is not declared.
+    /// Returns whether it is built on an undeclared name.
     pub fn is_unknown(self) -> bool
         ensures { result ≡ specs.is_unknown self }
     {
         matches!(self, ValueType::Unknown)
     }
 
-    /// Whether it is int or byte.
+    /// Returns whether it is `int` or `byte`.
     pub fn is_number(self) -> bool
         ensures { result ≡ specs.is_number self }
     {
         matches!(self, ValueType::Scalar(Scalar::Int | Scalar::Byte))
     }
 
-    /// Whether it is bool.
+    /// Returns whether it is `bool`.
     pub fn is_truth(self) -> bool
         ensures { result ≡ specs.is_truth self }
     {
         matches!(self, ValueType::Scalar(Scalar::Bool))
     }
 
-    /// Whether it is a block of the exchange heap.
+    /// Returns whether it is a block of the exchange heap.
     pub fn is_block(self) -> bool
         ensures { result ≡ specs.is_block self }
     {
@@ -62,7 +62,7 @@ impl ValueType {
         )
     }
 
-    /// Whether both are of one type, but for which scalar a number is.
+    /// Returns whether both are of the same type; `int` and `byte` count as the same.
     fn is_like(self, other: ValueType) -> bool
         ensures { result ≡ specs.alike self other }
     {
@@ -77,7 +77,7 @@ impl ValueType {
         }
     }
 
-    /// Whether it may stand where the other is asked for.
+    /// Returns whether a value of this type may be given if the other is asked for.
     pub fn agrees(self, asked: ValueType) -> bool
         ensures { result ≡ specs.agree self asked }
     {

@@ -1,4 +1,4 @@
--- Beginnings of what is written part after part.
+-- Beginnings of bytes that are written part by part.
 use Rattle.std.proofs.Common.{◌≡◌, ◌≢◌, ℕ, List, [], ◌++◌, Option, Result, Ok, Err, sym, ap, ◌∙◌, OnOk}
 use Rattle.std.specs.Prelude.{OnErr}
 use Rattle.std.specs.Io.KnownBytes.{Appends}
@@ -28,17 +28,17 @@ begins_second a b c first second all h = record {
   taken = Appends-trans a b c first h.sent all h.taken;
 }
 
--- written or not, a beginning went out
+-- whether the write failed or not, a beginning went out
 pub begins_either : {T E : Type 0} (r : Result T E) (a b : Option (List ℕ)) (bytes : List ℕ) → OnOk r (Appends a b bytes) → OnErr r (TakesBeginning a b bytes) → TakesBeginning a b bytes
 begins_either (Ok x) a b bytes all begun = begins_whole a b bytes all
 begins_either (Err e) a b bytes all begun = begun
 
--- without a failure all went out
+-- without a failure, everything went out
 pub whole_unless : {T E : Type 0} (r : Result T E) (a b : Option (List ℕ)) (bytes : List ℕ) (old new : ℕ) → OnOk r (Appends a b bytes) → OnErr r (new ≢ old) → new ≡ old → Appends a b bytes
 whole_unless (Ok x) a b bytes old new all failed same = all
 whole_unless (Err e) a b bytes old new all failed same = absurd (failed same)
 
--- what holds in any case holds of a refusal
+-- what holds in any case holds after an error
 pub on_err_always : {T E P : Type 0} (r : Result T E) → P → OnErr r P
 on_err_always (Ok x) p = tt
 on_err_always (Err e) p = p

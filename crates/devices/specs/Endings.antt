@@ -1,10 +1,10 @@
--- How the program ends after a run that gave up.
+-- How the program ends after a failed run.
 use Rattle.std.specs.Prelude.{ℕ, List, ◌++◌, codes}
 use Rattle.std.specs.Fmt.{decimal}
 use Rattle.devices.specs.declared.fault.RunFault.{RunFault}
 use Rattle.devices.specs.declared.fault.RunFault.TheVariants.{Read, Write, Workers, Slots, Entry, Schedule, Memory}
 
--- the exit status: 2 for what is asked and cannot be, 3 for a device, 4 for want of memory
+-- the exit status: 2 if a request is refused, 3 for a device, 4 if out of memory
 abbrev pub status_of : RunFault → ℕ
 status_of (Read input) = 3
 status_of Write = 3
@@ -14,7 +14,7 @@ status_of Entry = 2
 status_of (Schedule line) = 2
 status_of Memory = 4
 
--- the line that is written, where the file or the entry has this name
+-- the line that is written, given the name of the file or the entry
 abbrev pub line_of : RunFault → List ℕ → List ℕ
 line_of (Read input) name = codes "singcheck: cannot read " ++ (name ++ codes "\n")
 line_of Write name = codes "singcheck: cannot write\n"

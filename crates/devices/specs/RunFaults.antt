@@ -1,4 +1,4 @@
--- Why a run gives up.
+-- Why a run fails.
 use Rattle.std.specs.Prelude.{◌≡◌}
 use Rattle.devices.specs.declared.fault.CheckFault.{CheckFault}
 use Rattle.devices.specs.declared.fault.CheckFault.TheVariants as check
@@ -7,20 +7,20 @@ use Rattle.devices.specs.declared.fault.Input.TheVariants.{Text}
 use Rattle.devices.specs.declared.fault.RunFault.{RunFault}
 use Rattle.devices.specs.declared.fault.RunFault.TheVariants.{Read, Write, Workers, Slots, Memory}
 
--- reading an input gives up for its device, or for want of memory
+-- reading an input fails only if its device fails or memory runs out
 abbrev pub IsReadFault : Input → RunFault → Type 0
 IsReadFault input (Read which) = which ≡ input
 IsReadFault input Memory = Unit {0}
 IsReadFault input _ = ⊥
 
--- a run of `bounds` gives up where its text cannot be read or its answer cannot be written, or for want of memory
+-- `bounds` fails only if its text cannot be read, its answer cannot be written, or memory runs out
 abbrev pub IsBoundsFault : RunFault → Type 0
 IsBoundsFault (Read which) = which ≡ Text
 IsBoundsFault Write = Unit {0}
 IsBoundsFault Memory = Unit {0}
 IsBoundsFault _ = ⊥
 
--- a run of `replay` has no workers and no slots of which it could be told that they do not fit
+-- `replay` fails for any reason but workers and slots, which it does not have
 abbrev pub IsReplayFault : RunFault → Type 0
 IsReplayFault Workers = ⊥
 IsReplayFault Slots = ⊥

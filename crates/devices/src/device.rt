@@ -1,4 +1,4 @@
-//! What a run reads from and writes to.
+//! Devices: what a run reads from and writes to.
 
 ghost use Rattle.std.specs.Prelude.{◌≡◌, ◌<◌, ◌≤◌, ◌+◌, ◌%◌, ◌^◌, ℕ, List, length, Option, IfOk};
 ghost use Rattle.std.specs.Io.KnownBytes.{ReadConsumes, WriteAppends};
@@ -6,50 +6,50 @@ ghost use Rattle.devices.specs.Devices.{Counts};
 
 use std::io::{Read, Write};
 
-/// A device did not do what it was asked, and neither gave nor took anything.
+/// A call to a device failed, and the device neither gave nor took anything.
 #[derive(Clone, Copy, Debug, PartialEq, Eq)]
 pub struct Failed;
 
-/// Where a text comes from.
+/// A device that a run reads from.
 pub trait Source {
-    /// The bytes that are still to come, where they are known.
+    /// The bytes that are still to come, if they are known.
     ghost remaining: { Self → Option (List ℕ) };
 
     /// How often it has failed.
     ghost failed: { Self → ℕ };
 
-    /// Reads to the front of the buffer and answers how many bytes. 0 is the end, where the buffer has room.
+    /// Reads into the front of the buffer and returns the number of bytes. 0 is the end, unless the buffer is empty.
     fn read(&mut self, buffer: &mut [u8]) -> Result<usize, Failed>
         ensures bound { IfOk result (λ n. n ≤ length buffer.new) }
         ensures bytes { ReadConsumes (remaining self.old) (remaining self.new) result buffer.new }
         ensures failure_count { Counts (failed self.old) (failed self.new) result };
 
-    /// How often a call has answered `Failed`, wrapping.
+    /// Returns how often a call has failed, wrapping.
     fn failure_count(&self) -> u64
         ensures { result ≡ failed self.now };
 }
 
-/// Where an answer goes.
+/// A device that a run writes to.
 pub trait Sink {
-    /// The bytes that it has been given, where they are known.
+    /// The bytes that it has been given, if they are known.
     ghost contents: { Self → Option (List ℕ) };
 
     /// How often it has failed.
     ghost failed: { Self → ℕ };
 
-    /// Takes bytes from the front and answers how many, at least one where there is one.
+    /// Writes bytes from the front and returns their number, at least 1 unless `bytes` is empty.
     fn write(&mut self, bytes: &[u8]) -> Result<usize, Failed>
         ensures bound { IfOk result (λ n. n ≤ length bytes.now) }
         ensures some { IfOk result (λ n. 0 < length bytes.now → 0 < n) }
         ensures bytes { WriteAppends (contents self.old) (contents self.new) result bytes.now }
         ensures failure_count { Counts (failed self.old) (failed self.new) result };
 
-    /// How often a call has answered `Failed`, wrapping.
+    /// Returns how often a call has failed, wrapping.
     fn failure_count(&self) -> u64
         ensures { result ≡ failed self.now };
 }
 
-/// A reader or a writer of std, and how often it has failed. Its bytes are known as that one tells them.
+/// A reader or a writer of std, with a count of its failures. Its bytes are known if those of the reader or writer are.
 #[derive(Drop)]
 pub struct Counted<D> {
     pub device: D,
@@ -57,7 +57,7 @@ pub struct Counted<D> {
 }
 
 impl<D> Counted<D> {
-    /// The device, which has not failed yet.
+    /// Returns a device that has not failed yet.
     pub fn new(device: D) -> Counted<D>
         ensures device { result.device ≡ device }
         ensures failure_count { result.failure_count ≡ 0 }
@@ -94,7 +94,7 @@ impl<D: Write> Sink for Counted<D> {
 
     ghost failed = { λ s. s.failure_count };
 
-    /// A writer that takes nothing of some bytes counts as one that fails.
+    /// Writes bytes. A write of zero bytes counts as a failure, unless `bytes` is empty.
     fn write(&mut self, bytes: &[u8]) -> Result<usize, Failed> {
         match self.device.write(bytes) {
             Ok(n) if 0 < n || bytes.is_empty() => Ok(n),

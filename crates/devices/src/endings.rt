@@ -1,4 +1,4 @@
-//! How the program ends after a run that gave up.
+//! How the program ends after a failed run.
 
 ghost use Rattle.std.specs.Prelude.{◌≡◌, ◌≢◌, ◌++◌, codes, OnOk, OnErr};
 ghost use Rattle.std.specs.Fmt.{decimal};
@@ -11,11 +11,11 @@ use crate::fault::RunFault;
 use crate::writing::write_all;
 use itoa::Buffer;
 
-/// Writes the line of a fault, and answers the exit status: 2 for what was asked and cannot be, 3 for a file or a device,
-/// 4 for want of memory.
+/// Writes the line of a fault and returns the exit status: 2 if a request is refused, 3 for a file or a device, 4 if
+/// out of memory.
 ///
-/// `name` is the name of the file, or of the entry where there is no such one. The line is written where the writer does not fail, and a
-/// beginning of it where it does. The status is answered also where the line cannot be written; no memory is taken.
+/// `name` is the name of the file, or of the entry if there is no such entry. If the writer fails, it has taken a
+/// beginning of the line, and the status is the same. This never allocates.
 pub fn ending<W: Sink>(fault: &RunFault, name: &str, writer: &mut W) -> u8
     ensures status { result ≡ status_of fault.now }
     ensures begun { TakesBeginning (W.contents writer.old) (W.contents writer.new) (line_of fault.now name.now) }
@@ -52,7 +52,7 @@ fn write_line<W: Sink>(fault: &RunFault, name: &str, writer: &mut W) -> Result<(
     }
 }
 
-/// Writes which line of a schedule is malformed. Its digits stand on the stack, so no memory is taken.
+/// Writes which line of a schedule is malformed. Its digits are on the stack, so this never allocates.
 fn write_schedule_line<W: Sink>(line: u32, writer: &mut W) -> Result<(), RunFault>
     ensures all { OnOk result (Appends (W.contents writer.old) (W.contents writer.new)
         (codes "singcheck: schedule line " ++ (decimal line ++ codes "\n"))) }

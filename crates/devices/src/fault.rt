@@ -4,7 +4,7 @@ use source::Memory;
 use std::alloc::{AllocError, AllocFailed};
 use thiserror::Error;
 
-/// What a run answered.
+/// The status of an answer.
 #[derive(Clone, Copy, Debug, PartialEq, Eq)]
 pub enum Status {
     /// The report is empty: nothing was found.
@@ -20,27 +20,27 @@ pub enum Input {
     Schedule,
 }
 
-/// Why there is no report.
+/// Why a check failed.
 #[derive(Clone, Copy, Debug, PartialEq, Eq, Error)]
 pub enum CheckFault {
-    /// The workers are not 1 to 64. Looked at first.
+    /// The workers are not 1 to 64. This is tested first.
     #[error("workers not 1 to 64")]
     Workers,
-    /// The slots are not 1 to 16,777,216. Looked at behind the workers, and before anything is read.
+    /// The slots are not 1 to 16,777,216. This is tested after the workers, and before anything is read.
     #[error("slots not 1 to 16777216")]
     Slots,
-    /// A growth of memory was refused.
+    /// Out of memory.
     #[error("out of memory")]
     Memory,
 }
 
-/// Why a run gave up.
+/// Why a run failed.
 #[derive(Clone, Copy, Debug, PartialEq, Eq, Error)]
 pub enum RunFault {
-    /// That input's device failed. Nothing was written.
+    /// The device of this input failed. Nothing was written.
     #[error("cannot read")]
     Read(Input),
-    /// The writer failed. A beginning of the answer went out.
+    /// The writer failed. A beginning of the answer was written.
     #[error("cannot write")]
     Write,
     /// The workers are not 1 to 64. Nothing was read or written.
@@ -56,7 +56,7 @@ pub enum RunFault {
     /// This line of the schedule, counted from 1, is the first malformed one. Nothing was written.
     #[error("malformed line of the schedule")]
     Schedule(u32),
-    /// A growth of memory was refused. Nothing was written.
+    /// Out of memory. Nothing was written.
     #[error("out of memory")]
     Memory,
 }

@@ -1,4 +1,4 @@
-//! What a run reads and writes, and how it ends where it gives up.
+//! What a run reads and writes, and how it ends if it fails.
 #![tactic(auto)]
 
 mod device;

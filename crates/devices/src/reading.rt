@@ -1,4 +1,4 @@
-//! Reads an input whole.
+//! Reading of whole inputs.
 
 ghost use Rattle.std.specs.Prelude.{◌≡◌, ◌≢◌, ◌<◌, ◌≤◌, length, IfOk, IfErr, OnErr, IsErrOf};
 ghost use Rattle.std.specs.Io.KnownBytes.{Consumes, IsAtEnd};
@@ -10,15 +10,16 @@ use crate::fault::{Input, RunFault};
 use source::MAX_TEXT;
 use std::alloc::Global;
 
-/// How many bytes of a text are read at most: one more than it may have.
+/// The most bytes of a text that are read: one more than it may have.
 pub const MAX_READ: usize = MAX_TEXT + 1;
 
-/// How many bytes are asked for at a time.
+/// The most bytes that are requested from a device at a time.
 const PART: usize = 4096;
 
-/// The text, up to its end or one byte past the greatest length. The rest is left unread.
+/// Reads the text up to its end, or to one byte past the greatest length. The rest is left unread.
 ///
-/// `Read` is returned if the device failed, and `Memory` if a growth was refused. What was read until then is gone.
+/// # Errors
+/// `Read` if the device failed, `Memory` if out of memory. The bytes read until then are dropped.
 pub fn read_text<R: Source>(alloc: Global, reader: &mut R) -> Result<Vec<u8>, RunFault>
     ensures bytes { IfOk result (λ text. Consumes (R.remaining reader.old) (R.remaining reader.new) text.items) }
     ensures long { IfOk result (λ text. length text.items ≤ MAX_READ) }
@@ -31,9 +32,10 @@ pub fn read_text<R: Source>(alloc: Global, reader: &mut R) -> Result<Vec<u8>, Ru
     read_up_to(alloc, reader, MAX_READ, Input::Text)
 }
 
-/// What this input has, up to its end or so many bytes. The rest is left unread.
+/// Reads an input up to its end, or `most` bytes of it. The rest is left unread.
 ///
-/// `Read` of this input is returned if the device failed, and `Memory` if a growth was refused. What was read until then is gone.
+/// # Errors
+/// `Read` of this input if the device failed, `Memory` if out of memory. The bytes read until then are dropped.
 pub fn read_up_to<R: Source>(
     alloc: Global,
     reader: &mut R,

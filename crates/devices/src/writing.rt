@@ -1,4 +1,4 @@
-//! Writes an answer whole.
+//! Writing of whole answers.
 
 ghost use Rattle.std.specs.Prelude.{◌≡◌, ◌≢◌, ◌++◌, List, ℕ, OnOk, OnErr, IsErrOf};
 ghost use Rattle.std.specs.Io.KnownBytes.{Appends};
@@ -9,7 +9,8 @@ use crate::fault::RunFault;
 
 /// Writes all of the bytes, in as few pieces as the device takes.
 ///
-/// `Write` is returned if the device failed; then it has taken a beginning of them.
+/// # Errors
+/// `Write` if the device failed. It has then taken a beginning of the bytes.
 pub fn write_all<W: Sink>(bytes: &[u8], writer: &mut W) -> Result<(), RunFault>
     ensures all { OnOk result (Appends (W.contents writer.old) (W.contents writer.new) bytes.now) }
     ensures same { OnOk result (W.failed writer.new ≡ W.failed writer.old) }

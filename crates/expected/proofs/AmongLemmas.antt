@@ -1,4 +1,4 @@
--- A list of kinds tells which it has.
+-- Which kinds a list has.
 use Rattle.std.proofs.Common.{◌≡◌, Bool, true, false, List, refl, sym, ap, rules}
 use Rattle.std.specs.Cmp.{IsEquivalence}
 use Rattle.std.specs.List.{Contains, list_any}

@@ -1,4 +1,4 @@
--- What each token at the end makes of the open braces.
+-- How each token changes the open braces.
 use Rattle.std.proofs.Common.{◌≡◌, ◌+◌, ◌<◌, ℕ, List, [], ◌∷◌, ◌++◌, Option, Some, length, take, drop, get_or, refl, sym, ap, ◌∙◌, add-one}
 use Rattle.std.specs.Prelude.{slice_get}
 use Rattle.std.proofs.lemmas.List.{take_more}
@@ -16,7 +16,7 @@ open_braces-append outer (t ∷ ts) us = open_braces-append (brace_turn t.kind t
 abbrev pub open_at : List Token → ℕ → ℕ → Option Span
 open_at ts i n = slice_get (open_braces [] (take i ts)) n
 
--- That a token is the one at i, and that the next is at j.
+-- The token at i is this one, and the next one is at j.
 pub record IsAt (ts : List Token) (i j : ℕ) (t : Token) : Type 0 where
   pub within : i < length ts
   pub next : j ≡ i + 1

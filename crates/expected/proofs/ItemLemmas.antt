@@ -1,4 +1,4 @@
--- The items of a text, and how they are put in a row.
+-- The items of a text, and how they are joined.
 use Rattle.std.proofs.Common.{◌≡◌, ◌≢◌, ◌<◌, ◌+◌, ◌-◌, ℕ, Bool, true, false, cond, List, [], ◌∷◌, ◌++◌, length, drop, get_or, map, refl, sym, ap, ◌∙◌, append_assoc, add-one, arith, inl, inr}
 use Rattle.std.proofs.Math.Seq.{drop-cons}
 use Rattle.std.proofs.Math.Nat.{eq-or-lt_of_le}
@@ -52,7 +52,7 @@ following_comma : (last a : List ℕ) (bs : List (List ℕ)) → 0 < length bs �
 following_comma last a [] some = absurd (omega arith)
 following_comma last a (b ∷ bs) some = refl
 
--- what is before an item, by whether it is the last
+-- what comes before an item, by whether it is the last
 pub following_next : (last before item : List ℕ) (items : List (List ℕ)) (i : ℕ) → i < length items → get_or items i item ≡ item
     → (i + 1 ≡ length items → before ≡ last) → (i + 1 ≢ length items → before ≡ codes ", ")
     → rest_of_items last (drop i items) ≡ before ++ (item ++ rest_of_items last (drop (i + 1) items))

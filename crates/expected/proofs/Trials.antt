@@ -1,4 +1,4 @@
--- What parsing a front of a text with one token after it tells of the front.
+-- What parsing a front of a text with one more token shows of the front.
 use Rattle.std.proofs.Common.{◌≡◌, ◌≤◌, ◌<◌, ◌+◌, ℕ, List, [], ◌∷◌, ◌++◌, length, take, drop, map, sym, refl, ap, subst, ◌∙◌, append_assoc, arith, inl, inr}
 use Rattle.std.proofs.lemmas.Bool.{cases_lt}
 use Rattle.std.proofs.lemmas.List.{take-append-drop, take-append-le, take_all, take-map, map-append, length-map, length-take-le, length-append}
@@ -26,7 +26,7 @@ front_seen n ts h =
     let within : n ≤ length (map seen ts) = subst (λ m. n ≤ m) (sym (length-map ts seen)) h in
     ap (take n) (symbols_model ts) ∙ take-append-le n (map seen ts) (End ∷ []) within ∙ take-map seen n ts
 
--- and all of its tokens' those before the end
+-- and all symbols before the end are those of all tokens
 all_seen : (ts : List Token) → take (length ts) (symbols ts) ≡ map seen ts
 all_seen ts = front_seen (length ts) ts (omega arith) ∙ ap (map seen) (take_all (length ts) ts (omega arith))
 
@@ -49,7 +49,7 @@ take_twice m n xs h = elim (cases_lt n (length xs)) [
   | inr all ↦ ap (take m) (take_all n xs all)
 ]
 
--- what begins a viable front is viable
+-- a front of a viable front is viable
 shorter : {X : Type 0} {a : X → List Symbol} (m n : ℕ) (xs : List Symbol) → m ≤ n → Viable a (take n xs) → Viable a (take m xs)
 shorter m n xs h v =
     let split : take n xs ≡ take m xs ++ drop m (take n xs) =
@@ -71,7 +71,7 @@ wrong_within ts k w = elim (cases_lt (length ts) k) [
   | inr within ↦ within
 ]
 
--- where the tokens with one more are a program, it goes on so
+-- if the tokens with one more are a program, a program continues with it
 pub goes_on_to_end : (ts : List Token) (t : Token) (x : List ItemTree) → Spells program x (ts ++ t ∷ []) → IsExpected ts (length ts) t.span t.kind
 goes_on_to_end ts t x is =
     subst (Viable (whole program)) (with_last ts t) (record {
@@ -80,17 +80,17 @@ goes_on_to_end ts t x is =
       begins = is ∙ sym (take-append-drop (length ts + 1) (symbols (ts ++ t ∷ [])));
     })
 
--- where what goes wrong comes after it, a program goes on so
+-- if the first wrong token comes after it, a program continues with it
 pub goes_on : (ts : List Token) (t : Token) (k : ℕ) → IsFirstWrong program (ts ++ t ∷ []) k → length ts < k → IsExpected ts (length ts) t.span t.kind
 goes_on ts t k w later =
     subst (Viable (whole program)) (with_last ts t) (shorter (length ts + 1) k (symbols (ts ++ t ∷ [])) (omega arith) w.good)
 
--- and where it does not, none does
+-- and if not, no program does
 pub goes_wrong : (ts : List Token) (t : Token) (k : ℕ) → IsFirstWrong program (ts ++ t ∷ []) k → k ≤ length ts → IsExpected ts (length ts) t.span t.kind → ⊥
 goes_wrong ts t k w sooner v =
     w.bad (shorter (k + 1) (length ts + 1) (symbols (ts ++ t ∷ [])) (omega arith) (subst (Viable (whole program)) (sym (with_last ts t)) v))
 
--- what a front as a text of its own goes on with, the text itself does after it
+-- a front as a text of its own continues with the same tokens as the text does after that front
 pub of_front : (ts front : List Token) (n : ℕ) (at : Span) (kind : Kind) → n ≤ length ts → front ≡ take n ts
     → (IsExpected front (length front) at kind → IsExpected ts n at kind) × (IsExpected ts n at kind → IsExpected front (length front) at kind)
 of_front ts front n at kind h is =

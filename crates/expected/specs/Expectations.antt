@@ -1,4 +1,4 @@
--- What a person reads of the kinds of tokens that are expected.
+-- The text that lists the expected kinds of tokens.
 use Rattle.std.specs.Prelude.{ℕ, ◌-◌, List, [], ◌∷◌, ◌++◌, length, take, nat_lt, codes, if◌then◌else◌}
 use Rattle.std.specs.Fmt.{decimal}
 use Rattle.source.specs.declared.kind.Kind.{Kind}
@@ -12,12 +12,12 @@ rest_of_items last [] = []
 rest_of_items last (a ∷ []) = last ++ a
 rest_of_items last (a ∷ b ∷ cs) = codes ", " ++ (a ++ rest_of_items last (b ∷ cs))
 
--- items in a row
+-- items one after another
 abbrev pub item_list : List ℕ → List (List ℕ) → List ℕ
 item_list last [] = codes "nothing"
 item_list last (a ∷ bs) = a ++ rest_of_items last bs
 
--- "a, b or c", or where there are too many "a, b, c, or 4 more"
+-- "a, b or c", or if there are too many "a, b, c, or 4 more"
 abbrev pub listed_items : List (List ℕ) → List ℕ
 listed_items items =
     if nat_lt MAX_ITEMS (length items)

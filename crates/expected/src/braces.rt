@@ -5,8 +5,8 @@ ghost use Rattle.expected.specs.OpenBraces.{open_braces};
 
 use source::{Kind, Span, Tokens};
 
-/// The innermost `{` among the first `count` tokens of a text that is not closed by one of them; `None` if there is none. Only `{` and `}`
-/// count. A `}` with no brace open closes nothing.
+/// Returns the innermost `{` among the first `count` tokens of a text that none of them closes, or `None` if there
+/// is none. Only `{` and `}` count. A `}` with no brace open closes nothing.
 pub fn open_brace(tokens: &Tokens, count: usize) -> Option<Span>
     requires { count ≤ length tokens.now.list.items }
     ensures { result ≡ slice_get (open_braces [] (take count tokens.now.list.items)) 0 }

@@ -1,4 +1,4 @@
-//! What a program could go on with.
+//! The kinds of tokens with which a program could continue.
 
 ghost use Rattle.std.specs.Prelude.{◌≡◌, ◌≤◌, ◌↔◌, length, IfOk, OnOk, IsTrue, Contains};
 ghost use Rattle.source.specs.declared.kind.Kind.{Kind};
@@ -9,8 +9,8 @@ use source::{ALL_KINDS, Kind, Memory, Span, Token, Tokens};
 use std::alloc::Global;
 use syntax::{SyntaxFault, parse};
 
-/// Whether a program goes on with a token of this kind that lies at `at`, after all of these. Returns `Memory` if an allocation is refused.
-/// The tokens are as before unless it does.
+/// Returns whether some program continues with a token of this kind, at `at`, after all of these. Returns `Memory`
+/// if an allocation was refused; otherwise the tokens are as before.
 fn goes_on(alloc: Global, front: &mut Tokens, at: Span, kind: Kind) -> Result<bool, Memory>
     ensures same { OnOk result (front.new.list.items ≡ front.old.list.items) }
     ensures exact { IfOk result (λ yes. IsTrue yes
@@ -27,11 +27,11 @@ fn goes_on(alloc: Global, front: &mut Tokens, at: Span, kind: Kind) -> Result<bo
     }
 }
 
-/// The kinds of tokens with which some program goes on after the first `count` tokens of a text, in the order of `ALL_KINDS`. A token of
-/// such a kind is taken to lie at `at`.
+/// Returns the kinds of tokens with which some program continues after the first `count` tokens of a text, in the
+/// order of `ALL_KINDS`. A token of such a kind is assumed to be at `at`.
 ///
-/// Each of the 65 kinds is tried: the first `count` tokens are parsed with a token of the kind after them. So the call takes as long as 65
-/// parses of the front of the text. Returns `Memory` if an allocation is refused.
+/// Each of the 65 kinds is tried: the first `count` tokens are parsed with a token of the kind after them. So the
+/// call takes as long as 65 parses of the front of the text. Returns `Memory` if an allocation was refused.
 pub fn expected_kinds(
     alloc: Global,
     tokens: &Tokens,

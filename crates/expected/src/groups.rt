@@ -6,7 +6,7 @@ ghost use Rattle.expected.specs.Grouping.{has, is_of, word_of_group};
 use source::Kind;
 use syntax::{begins_expression, begins_statement, begins_value};
 
-/// Kinds of tokens that stand for one thing: those that begin it, or those that are it.
+/// Kinds of tokens that a message names by one word: those that begin the named thing, or those that are it.
 #[derive(Clone, Copy, Debug, PartialEq, Eq)]
 pub enum Group {
     Statement,
@@ -27,7 +27,7 @@ pub const GROUPS: [Group; 6] = [
     Group::Access,
 ];
 
-/// What a message calls a group.
+/// Returns what a message calls a group.
 pub(crate) fn word_of_group(group: Group) -> &'static str
     ensures { result.now ≡ word_of_group group }
 {
@@ -55,14 +55,14 @@ static OPERATORS: [Kind; 11] = [
     Kind::OrOr,
 ];
 
-/// Whether a kind is one of these.
+/// Returns whether a kind is one of these.
 pub(crate) fn has(kinds: &[Kind], kind: Kind) -> bool
     ensures { result ≡ has kinds.now kind }
 {
     kinds.iter().any(|other| *other == kind)
 }
 
-/// Whether a kind is of a group.
+/// Returns whether a kind is of a group.
 pub(crate) fn is_of(kind: Kind, group: Group) -> bool
     ensures { result ≡ is_of kind group }
 {

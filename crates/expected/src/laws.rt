@@ -1,4 +1,4 @@
-//! What holds of syntax errors and of words, whatever the code does.
+//! Laws of syntax errors and of words, which hold whatever the code does.
 
 ghost use Rattle.std.specs.Prelude.{◌≡◌, ◌≢◌, ◌≤◌, ℕ, List, length, Some};
 ghost use Rattle.source.specs.Pieces.{kind_of};
@@ -15,7 +15,7 @@ pub fn fault_is_within()
     ensures { (tokens : List Token) (k : ℕ) → IsFirstWrong program tokens k → k ≤ length tokens }
 {}
 
-/// The word of each kind but those of names and numbers is read as a token of this kind.
+/// The word of each kind, except names and numbers, is read as a token of that kind.
 pub fn words_are_read_back()
     ensures { (kind : Kind) → kind ≢ Name → kind ≢ Number → kind_of (word_of kind) ≡ Some kind }
 {}

@@ -1,4 +1,4 @@
-//! With which kinds of tokens a text that is no program could have gone on.
+//! The kinds of tokens with which a text that is not a program could have continued.
 #![tactic(auto)]
 
 mod braces;

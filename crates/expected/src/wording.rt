@@ -1,4 +1,4 @@
-//! What a person reads of the kinds of tokens that are expected.
+//! The text that lists the expected kinds of tokens.
 
 ghost use Rattle.std.specs.Prelude.{◌≡◌, ◌++◌, map, IfOk, OnOk};
 ghost use Rattle.std.specs.String.{string_bytes};
@@ -11,10 +11,10 @@ use crate::groups::{GROUPS, Group, has, is_of, word_of_group};
 use source::{ALL_KINDS, Kind, Memory, text_of};
 use std::alloc::Global;
 
-/// How many items a text lists. If there are more, it says how many.
+/// The most items that a text lists. If there are more, it gives their number.
 pub const MAX_ITEMS: usize = 8;
 
-/// A kind as a person reads it: the symbol or the reserved word itself, else `a name` or `a number`.
+/// Returns a kind as a person reads it: the symbol or the reserved word itself, `a name` or `a number`.
 pub fn word_of(kind: Kind) -> &'static str
     ensures { result.now ≡ word_of kind }
 {
@@ -25,7 +25,7 @@ pub fn word_of(kind: Kind) -> &'static str
     }
 }
 
-/// Whether all kinds of a group are among these.
+/// Returns whether all kinds of a group are among these.
 #[tactic(auto, unfolding(crate::specs::Grouping::has_all))]
 fn has_all(kinds: &[Kind], group: Group) -> bool
     ensures { result ≡ has_all kinds.now group }
@@ -35,7 +35,7 @@ fn has_all(kinds: &[Kind], group: Group) -> bool
         .all(|kind| !is_of(*kind, group) || has(kinds, *kind))
 }
 
-/// These kinds, without those of a group.
+/// Returns these kinds without those of a group.
 fn without(alloc: Global, group: Group, kinds: &[Kind]) -> Result<Vec<Kind>, Memory>
     ensures { IfOk result (λ left. left.items ≡ without group kinds.now) }
 {
@@ -48,7 +48,7 @@ fn without(alloc: Global, group: Group, kinds: &[Kind]) -> Result<Vec<Kind>, Mem
     Ok(left)
 }
 
-/// Adds the word of each kind.
+/// Appends the word of each kind.
 fn add_words(words: &mut Vec<&'static str>, kinds: &[Kind]) -> Result<(), Memory>
     ensures { OnOk result (map (λ word. word.now) words.new.items
         ≡ map (λ word. word.now) words.old.items ++ map word_of kinds.now) }
@@ -59,7 +59,7 @@ fn add_words(words: &mut Vec<&'static str>, kinds: &[Kind]) -> Result<(), Memory
     Ok(())
 }
 
-/// The words for these kinds: those of groups first.
+/// Returns the words for these kinds, those of groups first.
 fn items_for(alloc: Global, kinds: &[Kind]) -> Result<Vec<&'static str>, Memory>
     ensures { IfOk result (λ words. map (λ word. word.now) words.items ≡ items_of GROUPS kinds.now) }
 {
@@ -76,7 +76,7 @@ fn items_for(alloc: Global, kinds: &[Kind]) -> Result<Vec<&'static str>, Memory>
     Ok(words)
 }
 
-/// Adds items after a first one: `, ` before each, but `last` before the last.
+/// Appends items after a first one: `, ` before each, but `last` before the last.
 fn add_following(text: &mut String, last: &str, items: &[&'static str]) -> Result<(), Memory>
     ensures { OnOk result (string_bytes text.new
         ≡ string_bytes text.old ++ rest_of_items last.now (map (λ item. item.now) items.now)) }
@@ -88,7 +88,7 @@ fn add_following(text: &mut String, last: &str, items: &[&'static str]) -> Resul
     Ok(())
 }
 
-/// Adds items in a row.
+/// Appends items one after another, with `last` before the last one, or `nothing` if there are none.
 fn add_joined(text: &mut String, last: &str, items: &[&'static str]) -> Result<(), Memory>
     ensures { OnOk result (string_bytes text.new
         ≡ string_bytes text.old ++ item_list last.now (map (λ item. item.now) items.now)) }
@@ -103,7 +103,7 @@ fn add_joined(text: &mut String, last: &str, items: &[&'static str]) -> Result<(
     Ok(())
 }
 
-/// Adds at most `MAX_ITEMS` items, and how many more there are.
+/// Appends at most `MAX_ITEMS` items, and how many more there are.
 fn add_listed(alloc: Global, text: &mut String, items: &[&'static str]) -> Result<(), Memory>
     ensures { OnOk result (string_bytes text.new
         ≡ string_bytes text.old ++ listed_items (map (λ item. item.now) items.now)) }
@@ -119,9 +119,9 @@ fn add_listed(alloc: Global, text: &mut String, items: &[&'static str]) -> Resul
     Ok(())
 }
 
-/// What a person reads of the kinds that are expected: `expected ;`, or `expected an operator, ) or ,`. If all kinds of a group are among
-/// them, the group is named in their place. At most `MAX_ITEMS` items are listed, as in `.., or 3 more`. Returns `Memory` if an allocation
-/// is refused.
+/// Returns the text that lists the expected kinds: `expected ;`, or `expected an operator, ) or ,`. If all kinds of
+/// a group are among them, the group is named in their place. At most `MAX_ITEMS` items are listed, as in
+/// `.., or 3 more`. Returns `Memory` if an allocation was refused.
 pub fn expectation(alloc: Global, kinds: &[Kind]) -> Result<String, Memory>
     ensures { IfOk result (λ text. string_bytes text ≡ expectation_of kinds.now) }
 {

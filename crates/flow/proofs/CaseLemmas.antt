@@ -1,4 +1,4 @@
--- The cases of a switch, which are laid from the last one on, and the switch on top of them.
+-- The cases of a switch, which are laid from the last one on, and the switch laid after them.
 use Rattle.std.proofs.Common.{◌≡◌, ℕ, ◌+◌, ◌<◌, ◌≤◌, List, [], ◌∷◌, ◌++◌, length, map, reverse, refl, sym, ap, ◌∙◌, arith, append_assoc, append-nil, length-append, subst, Vec}
 use Rattle.std.specs.List.{All, push}
 use Rattle.std.proofs.lemmas.List.{map-append, reverse-append, reverse-reverse}
@@ -26,23 +26,23 @@ use Rattle.flow.proofs.BehindLemmas.{one_more}
 use Rattle.flow.proofs.GrowthLemmas.{seen_length}
 use Rattle.flow.proofs.WithinLemmas.{AllBelow, IsBelow, StaysBelow}
 
--- cases that are laid begin below a bound, and go on below it
+-- laid cases begin below a bound, and each of their instructions continues below it
 pub record CasesBelow (n : ℕ) (laid : LaidCases) : Type 0 where
   pub begin : All (λ p. p < n) (map (λ e. e.next) laid.entrances)
   pub within : All (IsBelow n) laid.instructions
 
--- where all is laid below a bound and the method goes on below it, that is so
+-- `CasesBelow` holds if everything is laid below the bound and the method continues below it
 pub record CasesStay (n : ℕ) (a : LaysCases) : Type 0 where
   pub stay : (from next : ℕ) → next < n → from + length (a from next).instructions ≤ n → CasesBelow n (a from next)
 
 pub none_stay : (n : ℕ) → CasesStay n no_cases
 none_stay n = record { stay = λ from next h fits. record { begin = All-nil (λ p. p < n); within = All-nil (IsBelow n) } }
 
--- where a case begins
+-- the entrance of a case: what it awaits, and where it begins
 abbrev pub entrance_at : Mention → Awaited → List VarId → ℕ → EntranceModel
 entrance_at endpoint awaited targets point = record { endpoint = endpoint; awaited = awaited; targets = targets; next = point }
 
--- a case before others
+-- `CasesStay` holds for a case before others, if it does for its body and for them
 pub case_stays : (n : ℕ) (endpoint : Mention) (awaited : Awaited) (targets : List VarId) (body : Lays) (others : LaysCases) → StaysBelow n body → CasesStay n others → CasesStay n (case_before (entrance_at endpoint awaited targets) body others)
 case_stays n endpoint awaited targets body others inner outer = record {
   stay = λ from next h fits.
@@ -57,7 +57,7 @@ case_stays n endpoint awaited targets body others inner outer = record {
       };
 }
 
--- a switch, whose cases stay below wherever it ends below
+-- a switch stays below a bound if its cases do, whatever point below it they are given as its end
 pub waits_stay : (n : ℕ) (place : Place) (a : ℕ → LaysCases) → ((exit : ℕ) → exit < n → CasesStay n (a exit)) → StaysBelow n (waits place a)
 waits_stay n place a inner = record {
   stays = λ from next h fits.
@@ -71,16 +71,16 @@ waits_stay n place a inner = record {
       };
 }
 
--- a case without where it lies in memory
+-- the model of a case is made of the models of its parts
 case_is : (c : made.Case.Case) → case_model c ≡ stated.Case c.endpoint c.awaited c.targets.items (block_model c.body)
 case_is = folds.fold_out-Case StatementModel BlockModel CaseModel IfModel TestModel statement_step block_step case_step if_step test_step
 
--- how many there are
+-- the number of instructions after cases are laid
 grew_cases_length : (old new : List Instr) (es : List EntranceModel) (laid : LaidCases) → GrewCases old new es laid → length new ≡ length old + length laid.instructions
 grew_cases_length old new es laid g =
     sym (seen_length new) ∙ ap length g.instructions ∙ length-append (map instruction_model old) laid.instructions ∙ ap (λ n. n + length laid.instructions) (seen_length old)
 
--- one case more, on top of those behind it
+-- `GrewCases` holds after one more case is laid
 grew_case : (old mid new : List Instr) (es : List EntranceModel) (e : EntranceModel) (entrance : ℕ → EntranceModel) (body : Lays) (others : LaysCases) (entry next : ℕ) → GrewCases old mid es (others (length old) next) → Grew mid new entry (body (length mid) next) → e ≡ entrance entry
     → GrewCases old new (es ++ e ∷ []) (case_before entrance body others (length old) next)
 grew_case old mid new es e entrance body others entry next g h is =
@@ -93,18 +93,18 @@ grew_case old mid new es e entrance body others entry next g h is =
       entrances = ap (λ l. l ++ e ∷ []) g.entrances ∙ ap (λ x. reverse rest.entrances ++ x ∷ []) (is ∙ ap entrance (h.begins ∙ ap (λ l. l.entry) same)) ∙ sym (reverse-append (entrance first.entry ∷ []) rest.entrances);
     }
 
--- the cases of a row
+-- what these cases lay from a point on
 abbrev pub laid_cases : (exit again from next : ℕ) → List made.Case.Case → LaidCases
 laid_cases exit again from next done = cases (case_sequence (map case_model done)) exit again from next
 
--- nothing is laid yet
+-- `CasesBehind` holds before any case is laid
 pub cases_begin : (all rest : List made.Case.Case) (old : List Instr) (exit again next : ℕ) → rest ≡ all → CasesBehind all rest [] old old [] (laid_cases exit again (length old) next)
 cases_begin all rest old exit again next is = record {
   split = sym is ∙ sym (append-nil rest);
   grew = record { instructions = sym (append-nil (map instruction_model old)); entrances = refl };
 }
 
--- one more is laid, before those that are
+-- `CasesBehind` holds after the next case is laid, in front of the laid ones
 pub cases_go_on : {B : Type 0} (f : B → made.Case.Case) (all rest left : List made.Case.Case) (ys : List B) (y : B) (old mid new : List Instr) (es fs : List Entrance) (e : Entrance) (exit again entry next : ℕ) → rest ≡ push left (f y)
     → CasesBehind all rest (map f (reverse ys)) old mid (map entrance_model es) (laid_cases exit again (length old) next)
     → Grew mid new entry (block (block_model (f y).body) exit again (length mid) next)
@@ -129,7 +129,7 @@ map_reverse : {A B : Type 0} (f : A → B) (xs : List A) → map f (reverse xs) 
 map_reverse f [] = refl
 map_reverse f (x ∷ xs) = ap (map f) (reverse-append (x ∷ []) xs) ∙ map-append f (reverse xs) (x ∷ []) ∙ ap (λ l. l ++ f x ∷ []) (map_reverse f xs) ∙ sym (reverse-append (f x ∷ []) (map f xs))
 
--- a switch on top of its cases
+-- a switch laid after its cases
 pub switch_laid : (old mid new : List Instr) (place : Place) (a : ℕ → LaysCases) (es : List Entrance) (listed : List Entrance) (cs : Cases) (entry next : ℕ) → GrewCases old mid (map entrance_model es) (a next (length old) next) → listed ≡ reverse es
     → cases_model cs ≡ map entrance_model listed → new ≡ mid ++ instr.Switch place cs ∷ [] → entry ≡ length mid → Grew old new entry (waits place a (length old) next)
 switch_laid old mid new place a es listed cs entry next g is same grown at =
@@ -141,11 +141,11 @@ switch_laid old mid new place a es listed cs entry next g is same grown at =
       begins = at ∙ grew_cases_length old mid (map entrance_model es) all g;
     }
 
--- all cases are laid
+-- once all cases are laid, the instructions grew by those of all cases
 pub cases_end : (all rest done : List made.Case.Case) (old new : List Instr) (es : List EntranceModel) (lays : List made.Case.Case → LaidCases) → length rest ≡ 0 → CasesBehind all rest done old new es lays → GrewCases old new es (lays all)
 cases_end all [] done old new es lays none b = subst (λ d. GrewCases old new es (lays d)) (sym b.split) b.grew
 cases_end all (x ∷ rest) done old new es lays none b = absurd (cc)
 
--- a switch in memory
+-- the model of a switch is made of the models of its cases
 pub switch_model : (place : Place) (cs : Vec made.Case.Case Global) → statement_model (variants.Switch place cs) ≡ stated.Switch place (case_sequence (map case_model cs.items))
 switch_model place cs = ap statement_model (sym (variants.rolls-Switch place cs)) ∙ folds.fold-roll-Statement StatementModel BlockModel CaseModel IfModel TestModel statement_step block_step case_step if_step test_step (layer.Switch place cs)

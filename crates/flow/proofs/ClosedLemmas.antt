@@ -1,4 +1,4 @@
--- A method goes on at points of its graph.
+-- A method continues only at points of its graph.
 use Rattle.std.proofs.Common.{◌≡◌, ℕ, ◌<◌, length, length-append, arith, subst, sym}
 use Rattle.program.specs.Methods.{MethodModel}
 use Rattle.program.specs.Statements as stated
@@ -10,7 +10,7 @@ use Rattle.flow.proofs.CaseLemmas.{CasesStay, none_stay, case_stays, waits_stay}
 use Rattle.flow.proofs.WithinLemmas.{AllBelow, StaysBelow, nothing_stays, both_stay, parts_stay, turns_stay, reads_stay, forgets_stay, ending_stays, called_stay, started_stay, new_stays, sent_stays, effect_stays}
 
 mutual
-  -- a statement stays below a bound where the end of its loop and the condition lie below it
+  -- a statement stays below a bound if the end of its loop and the condition are below it
   statement_stays : (x : StatementModel) (n exit again : ℕ) → exit < n → again < n → StaysBelow n (statement x exit again)
   statement_stays (stated.Simple mentions does) n exit again e a = both_stay n (reads mentions) (lay_effect does exit again) (reads_stay n mentions) (effect_stays n does exit again e a)
   statement_stays (stated.New x) n exit again e a = new_stays n x
@@ -22,7 +22,7 @@ mutual
   statement_stays (stated.While (stated.Test place mentions w body)) n exit again e a = turns_stay n place w (reads mentions) (block body) (reads_stay n mentions) (block_stays body n)
   statement_stays (stated.Switch place cs) n exit again e a = waits_stay n place (λ end. cases cs end again) (λ end h. cases_stay cs n end again h a)
 
-  -- statements in a row
+  -- statements in order
   statements_stay : (xs : StatementsModel) (n exit again : ℕ) → exit < n → again < n → StaysBelow n (statements xs exit again)
   statements_stay stated.NoStatement n exit again e a = nothing_stays n
   statements_stay (stated.MoreStatements x xs) n exit again e a = both_stay n (statement x exit again) (statements xs exit again) (statement_stays x n exit again e a) (statements_stay xs n exit again e a)
@@ -31,12 +31,12 @@ mutual
   block_stays : (b : BlockModel) (n exit again : ℕ) → exit < n → again < n → StaysBelow n (block b exit again)
   block_stays (stated.Braces xs f) n exit again e a = both_stay n (statements xs exit again) (forgets f) (statements_stay xs n exit again e a) (forgets_stay n f)
 
-  -- a condition and its block, where what is done otherwise stays below
+  -- a condition with its block, if what follows a false condition stays below
   condition_stays : (t : TestModel) (n : ℕ) (otherwise : Lays) (exit again : ℕ) → exit < n → again < n → StaysBelow n otherwise → StaysBelow n (condition t otherwise exit again)
   condition_stays (stated.Test place mentions w body) n otherwise exit again e a o =
       both_stay n (reads mentions) (parts place w (block body exit again) otherwise) (reads_stay n mentions) (parts_stay n place w (block body exit again) otherwise (block_stays body n exit again e a) o)
 
-  -- what is done where a condition is false
+  -- what follows the first block of an `if`
   others_stay : (x : OthersModel) (n exit again : ℕ) → exit < n → again < n → StaysBelow n (others x exit again)
   others_stay stated.NoOther n exit again e a = nothing_stays n
   others_stay (stated.Else b) n exit again e a = block_stays b n exit again e a
@@ -48,7 +48,8 @@ mutual
   cases_stay (stated.MoreCases (stated.Case endpoint awaited targets body) rest) n exit again e a =
       case_stays n endpoint awaited targets (block body exit again) (cases rest exit again) (block_stays body n exit again e a) (cases_stay rest n exit again e a)
 
--- The graph of a method is closed. Outside of loops a `break` and a `continue` go on at point 0, where the last Return stands.
+-- The graph of a method is closed. Outside of loops a `break` and a `continue` would continue at point 0, the end
+-- of the method.
 pub closed : (m : MethodModel) → IsClosed (graph_of m)
 closed m =
     let last = one (λ next. ending m) in
@@ -58,6 +59,6 @@ closed m =
     let all : AllBelow n (method m 0 0) = (both_stay n body last (statements_stay m.statements n 0 0 some_point some_point) (ending_stays n m)).stays 0 0 some_point (omega arith) in
     record { begins = all.begins; within = all.within }
 
--- so is a graph that is that of a method
+-- a graph that equals that of a method is closed
 pub closed_as : (g : GraphModel) (m : MethodModel) → g ≡ graph_of m → IsClosed g
 closed_as g m is = subst IsClosed (sym is) (closed m)

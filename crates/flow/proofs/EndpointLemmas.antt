@@ -1,4 +1,4 @@
--- The endpoints of cases, case by case.
+-- The endpoints of cases, one case after another.
 use Rattle.std.proofs.Common.{◌≡◌, ℕ, ◌+◌, ◌<◌, ◌≤◌, Bool, true, false, not, cond, ◌||◌, ◌==◌, List, [], ◌∷◌, ◌++◌, length, drop, map, slice_index_or, if◌then◌else◌, refl, sym, ap, ◌∙◌, append_assoc, arith}
 use Rattle.std.specs.BTreeSet.{BTreeSet, contains, IsEmpty, Updates}
 use Rattle.std.specs.BTreeMap.{is_at}
@@ -15,17 +15,17 @@ use Rattle.flow.specs.declared.graph.Entrance.{Entrance}
 abbrev behind : List ℕ → List Entrance → List Mention
 behind seen cases = first_mentions seen (map entrance_model cases)
 
--- so many cases were looked at: the endpoints that they name are in the set, and these were found
+-- This many cases were examined: the set has the endpoints that they name, and these were found.
 pub record Named (set : BTreeSet ℕ) (cases : List Entrance) (done : ℕ) (found : List Mention) : Type 0 where
   pub seen : List ℕ
   pub has : (q : ℕ) → contains nat_cmp set q ≡ is_among seen q
   pub same : first_mentions [] (map entrance_model cases) ≡ found ++ behind seen (drop done cases)
 
--- none was looked at
+-- no case was examined yet
 pub named_first : (set : BTreeSet ℕ) (cases : List Entrance) → IsEmpty set → Named set cases 0 []
 named_first set cases empty = record { seen = []; has = λ q. ap (list_any (is_at (nat_cmp q))) empty; same = refl }
 
--- what is found in the cases from this one on
+-- what the cases from this one on add, by whether its endpoint was seen before
 named_at : (cases : List Entrance) (done : ℕ) (x : Entrance) (seen : List ℕ) (b : Bool) → done < length cases → slice_index_or cases done x ≡ x → is_among seen x.endpoint.variable.0 ≡ b
     → behind seen (drop done cases) ≡ (if b then behind seen (drop (done + 1) cases) else (x.endpoint ∷ behind (x.endpoint.variable.0 ∷ seen) (drop (done + 1) cases)))
 named_at cases done x seen b lt at is =
@@ -51,7 +51,7 @@ there_again : (b x : Bool) → (b ≡ true → x ≡ true) → cond b true x ≡
 there_again true x h = sym (h refl)
 there_again false x h = refl
 
--- the next one names an endpoint that was named before
+-- the next case names an endpoint that was seen before
 pub named_again : (set more : BTreeSet ℕ) (cases : List Entrance) (done : ℕ) (x : Entrance) (found : List Mention) (added : Bool) → done < length cases → slice_index_or cases done x ≡ x
     → added ≡ false → added ≡ not (contains nat_cmp set x.endpoint.variable.0) → Updates nat_cmp set more x.endpoint.variable.0 true → Named set cases done found → Named more cases (done + 1) found
 named_again set more cases done x found added lt at old is updates h =
@@ -65,7 +65,7 @@ named_again set more cases done x found added lt at old is updates h =
       same = h.same ∙ ap (λ l. found ++ l) (named_at cases done x h.seen true lt at there);
     }
 
--- the next one names another
+-- the next case names a new endpoint
 pub named_more : (set more : BTreeSet ℕ) (cases : List Entrance) (done : ℕ) (x : Entrance) (found : List Mention) (added : Bool) → done < length cases → slice_index_or cases done x ≡ x
     → added ≡ true → added ≡ not (contains nat_cmp set x.endpoint.variable.0) → Updates nat_cmp set more x.endpoint.variable.0 true → Named set cases done found → Named more cases (done + 1) (found ++ x.endpoint ∷ [])
 named_more set more cases done x found added lt at fresh is updates h =
@@ -76,6 +76,6 @@ named_more set more cases done x found added lt at fresh is updates h =
       same = h.same ∙ ap (λ l. found ++ l) (named_at cases done x h.seen false lt at (sym (h.has v) ∙ was_not added _ fresh is)) ∙ sym (append_assoc found (x.endpoint ∷ []) _);
     }
 
--- all were looked at
+-- once all cases are examined, the endpoints found are those of `first_mentions`
 pub named_all : (set : BTreeSet ℕ) (cases : List Entrance) (done : ℕ) (found : List Mention) → length cases ≤ done → Named set cases done found → found ≡ first_mentions [] (map entrance_model cases)
 named_all set cases done found le h = sym (h.same ∙ ap (λ l. found ++ l) (at_drop_all (behind h.seen) cases done le) ∙ append-nil found)

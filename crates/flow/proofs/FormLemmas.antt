@@ -1,4 +1,4 @@
--- Blocks and loops in memory, laid behind others.
+-- Blocks and loops in memory, laid after others.
 use Rattle.std.proofs.Common.{◌≡◌, ℕ, List, [], ◌∷◌, ◌++◌, length, map, sym, subst}
 use Rattle.std.specs.Prelude.{slice_set}
 use Rattle.program.specs.Statements as stated
@@ -14,15 +14,15 @@ use Rattle.flow.specs.Lowering.{Lays, branches, reads, forgets, statement, state
 use Rattle.flow.proofs.LoopLemmas.{grew_turns}
 use Rattle.flow.proofs.GrowthLemmas.{grew_both}
 
--- a block without where it lies in memory
+-- the model of a block is made of the models of its parts
 block_is : (b : made.Block.Block) → block_model b ≡ stated.Braces (statement_sequence (map statement_model b.statements.items)) b.forget
 block_is = folds.fold_out-Block StatementModel BlockModel CaseModel IfModel TestModel statement_step block_step case_step if_step test_step
 
--- a condition and its block likewise
+-- the model of a condition is made of the models of its parts
 test_is : (t : made.Test.Test) → test_model t ≡ stated.Test t.place t.reads.items t.ways (block_model t.body)
 test_is = folds.fold_out-Test StatementModel BlockModel CaseModel IfModel TestModel statement_step block_step case_step if_step test_step
 
--- a block: what goes out of scope, and its statements on top of that
+-- a block: first its Forget is laid, then its statements
 pub block_laid : (b : made.Block.Block) (ss : List made.Statement.Statement) (old mid new : List Instr) (exit again behind entry next : ℕ) → ss ≡ b.statements.items → Grew old mid behind (forgets b.forget (length old) next) → Grew mid new entry (statements (statement_sequence (map statement_model ss)) exit again (length mid) behind) → Grew old new entry (block (block_model b) exit again (length old) next)
 block_laid b ss old mid new exit again behind entry next same g h =
     let row : Lays = statements (statement_sequence (map statement_model b.statements.items)) exit again in

@@ -1,4 +1,4 @@
--- Instructions that are laid behind others.
+-- Instructions that are laid after others.
 use Rattle.std.proofs.Common.{◌≡◌, ℕ, ◌+◌, List, [], ◌∷◌, ◌++◌, length, map, refl, sym, ap, ◌∙◌, append_assoc, length-append, append-nil}
 use Rattle.std.proofs.lemmas.List.{length-map, map-append}
 use Rattle.flow.specs.declared.graph.Instr.{Instr}
@@ -6,16 +6,16 @@ use Rattle.flow.specs.Graphs.{Instruction, instruction_model}
 use Rattle.flow.specs.Growths.{Grew}
 use Rattle.flow.specs.Lowering.{Laid, Lays, nothing, one, both}
 
--- as many instructions without where they lie in memory
+-- there are as many models as instructions
 pub seen_length : (xs : List Instr) → length (map instruction_model xs) ≡ length xs
 seen_length xs = length-map xs instruction_model
 
--- how many there are
+-- the number of instructions after a piece is laid
 pub grew_length : (old new : List Instr) (entry : ℕ) (laid : Laid) → Grew old new entry laid → length new ≡ length old + length laid.instructions
 grew_length old new entry laid g =
     sym (seen_length new) ∙ ap length g.instructions ∙ length-append (map instruction_model old) laid.instructions ∙ ap (λ n. n + length laid.instructions) (seen_length old)
 
--- where nothing is laid
+-- nothing is laid
 pub grew_none : (old : List Instr) (next : ℕ) → Grew old old next (nothing (length old) next)
 grew_none old next = record { instructions = sym (append-nil (map instruction_model old)); begins = refl }
 
@@ -26,7 +26,7 @@ grew_one old new at next i f is at_end e = record {
   begins = at_end;
 }
 
--- the second, and then the first on top of it
+-- the second piece is laid, then the first
 pub grew_both : (old mid new : List Instr) (a b : Lays) (behind entry next : ℕ) → Grew old mid behind (b (length old) next) → Grew mid new entry (a (length mid) behind) → Grew old new entry (both a b (length old) next)
 grew_both old mid new a b behind entry next first second =
     let below = b (length old) next in

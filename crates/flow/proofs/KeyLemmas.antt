@@ -1,4 +1,4 @@
--- The case for what comes at an endpoint, by the position of its key.
+-- The case for what arrives at an endpoint, by the position of its key.
 use Rattle.std.proofs.Common.{◌≡◌, ℕ, suc, ◌+◌, Bool, true, false, not, cond, ◌&&◌, ◌==◌, List, [], ◌∷◌, length, map, Option, Some, None, if◌then◌else◌, ltb, sym, refl, ap, ◌∙◌, arith, ⊎_elim}
 use Rattle.std.specs.Prelude.{position, slice_get}
 use Rattle.std.specs.List.{position_or_len}
@@ -44,7 +44,7 @@ case_step : (b : Bool) (c : EntranceModel) (cases : List EntranceModel) (other :
 case_step true c cases other at is = refl
 case_step false c cases other at is = is ∙ sym (ap (slice_get (c ∷ cases)) (one_more at))
 
--- the case for it stands where its key stands first
+-- the case is the first one with its key
 case_there : (cases : List EntranceModel) (endpoint : ℕ) (message : Option ℕ) → case_for cases endpoint message ≡ slice_get cases (position_or_len (is_key endpoint message) (map key_of cases))
 case_there [] endpoint message = refl
 case_there (c ∷ cases) endpoint message =
@@ -53,7 +53,7 @@ case_there (c ∷ cases) endpoint message =
     case_step here c cases (case_for cases endpoint message) at (case_there cases endpoint message)
     ∙ ap (λ b. slice_get (c ∷ cases) (cond (not b) (1 + at) 0)) (sym (key_same endpoint message c))
 
--- and nowhere where its key stands nowhere
+-- there is none if no case has the key
 pub case_at : (cases : List EntranceModel) (endpoint : ℕ) (message : Option ℕ) → case_for cases endpoint message ≡ option_and_then (slice_get cases) (position (is_key endpoint message) (map key_of cases))
 case_at cases endpoint message =
     let keys = map key_of cases in

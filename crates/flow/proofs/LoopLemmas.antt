@@ -1,4 +1,4 @@
--- Loops that are laid behind others.
+-- Loops that are laid after others.
 use Rattle.std.proofs.Common.{◌≡◌, ℕ, ◌+◌, List, [], ◌∷◌, ◌++◌, length, map, sym, ap, subst, ◌∙◌, append_assoc, length-append}
 use Rattle.std.specs.Prelude.{slice_set}
 use Rattle.std.proofs.Math.Seq.{set-append_seam}
@@ -13,7 +13,7 @@ use Rattle.flow.specs.Growths.{Grew}
 use Rattle.flow.specs.Lowering.{Lays, branches, turns}
 use Rattle.flow.proofs.GrowthLemmas.{seen_length, grew_length}
 
--- a loop: its Branch, what its condition reads, its block, and then the Branch once more
+-- A loop: its Branch, what its condition reads, its block; then the Branch is overwritten with its two points.
 pub grew_turns : (old one two three new : List Instr) (place : Place) (w : Ways) (blank : Branches) (test : Lays) (body : ℕ → ℕ → Lays) (branch head inside next : ℕ) → one ≡ old ++ instr.Branch place blank ∷ [] → branch ≡ length old → Grew one two head (test (length one) branch) → Grew two three inside (body next head (length two) head) → new ≡ slice_set three branch (instr.Branch place (branches w inside next)) → Grew old new head (turns place w test body (length old) next)
 grew_turns old one two three new place w blank test body branch head inside next is at_end g h set =
     let long : length one ≡ length old + 1 = ap length is ∙ length-append old (instr.Branch place blank ∷ []) in

@@ -1,4 +1,4 @@
--- What is laid below a bound goes on below it.
+-- What is laid below a bound continues below it.
 use Rattle.std.proofs.Common.{ℕ, Bool, true, false, ◌+◌, ◌<◌, ◌≤◌, List, [], ◌∷◌, ◌++◌, length, length-append, arith, Option, None, Some, if◌then◌else◌}
 use Rattle.std.specs.List.{All}
 use Rattle.std.proofs.lemmas.List.Elements.{All-nil, All-cons, All-append}
@@ -17,20 +17,20 @@ use Rattle.flow.specs.Graphs.{Instruction, Act, New, Send, Branch, Forget, Call,
 use Rattle.flow.specs.Lowering.{Laid, Lays, nothing, one, both, go_to, branches, parts, turns, reads, forgets, lay_call, lay_effect, lay_start, made_new, lay_send, ending}
 use Rattle.flow.specs.Within.{goes_on}
 
--- an instruction goes on below a bound
+-- an instruction continues below a bound
 abbrev pub IsBelow : ℕ → Instruction → Type 0
 IsBelow n i = All (λ p. p < n) (goes_on i)
 
--- what is laid begins below a bound, and goes on below it
+-- a laid piece begins below a bound, and its instructions continue below it
 pub record AllBelow (n : ℕ) (laid : Laid) : Type 0 where
   pub begins : laid.entry < n
   pub within : All (IsBelow n) laid.instructions
 
--- where all is laid below a bound and the method goes on below it, that is so
+-- `AllBelow` holds if everything is laid below the bound and the method continues below it
 pub record StaysBelow (n : ℕ) (a : Lays) : Type 0 where
   pub stays : (from next : ℕ) → next < n → from + length (a from next).instructions ≤ n → AllBelow n (a from next)
 
--- one point below
+-- a list of one point below the bound
 one_point : (n point : ℕ) → point < n → All (λ p. p < n) (point ∷ [])
 one_point n point h = All-cons (λ p. p < n) point [] h (All-nil (λ p. p < n))
 
@@ -44,7 +44,7 @@ one_stays n f below = record {
   stays = λ from next h fits. record { begins = omega arith; within = All-cons (IsBelow n) (f next) [] (below next h) (All-nil (IsBelow n)) };
 }
 
--- the first and then the second
+-- the first piece and then the second
 pub both_stay : (n : ℕ) (a b : Lays) → StaysBelow n a → StaysBelow n b → StaysBelow n (both a b)
 both_stay n a b first second = record {
   stays = λ from next h fits.
@@ -56,7 +56,7 @@ both_stay n a b first second = record {
       record { begins = top.begins; within = All-append (IsBelow n) behind.instructions more.instructions under.within top.within };
 }
 
--- laid where the method goes on at a point below
+-- a piece that continues at a point below the bound
 pub gone_stays : (n to : ℕ) (a : Lays) → to < n → StaysBelow n a → StaysBelow n (go_to to a)
 gone_stays n to a h s = record { stays = λ from next ignored fits. s.stays from to h fits }
 
@@ -85,7 +85,7 @@ parts_stay n place w body otherwise inner outer = record {
       };
 }
 
--- a loop, whose body stays below wherever it is told to leave to below
+-- a loop stays below a bound if its body does, whatever points below it the body is given
 pub turns_stay : (n : ℕ) (place : Place) (w : Ways) (test : Lays) (body : ℕ → ℕ → Lays) → StaysBelow n test → ((exit again : ℕ) → exit < n → again < n → StaysBelow n (body exit again)) → StaysBelow n (turns place w test body)
 turns_stay n place w test body asks inner = record {
   stays = λ from next h fits.
@@ -111,7 +111,7 @@ pub forgets_stay : (n : ℕ) (f : Option made.Forget.Forget) → StaysBelow n (f
 forgets_stay n None = nothing_stays n
 forgets_stay n (Some f) = one_stays n (Forget f) (one_point n)
 
--- a Return and a Stop go on nowhere
+-- a Return and a Stop continue nowhere
 pub return_stays : (n : ℕ) (place : Place) (value : Option Mention) (scope : Option VarId) → StaysBelow n (one (λ next. Return place value scope))
 return_stays n place value scope = one_stays n (λ next. Return place value scope) (λ next h. All-nil (λ p. p < n))
 
@@ -142,7 +142,7 @@ sent_stays n s = both_stay n (reads s.reads) (one (Send s.place s.endpoint s.mes
 pub new_stays : (n : ℕ) (x : NewModel) → StaysBelow n (made_new x)
 new_stays n x = both_stay n (reads x.reads) (one (New x.target x.arguments)) (reads_stay n x.reads) (one_stays n (New x.target x.arguments) (one_point n))
 
--- what a simple statement does
+-- the effect of a simple statement
 pub effect_stays : (n : ℕ) (does : Effect) (exit again : ℕ) → exit < n → again < n → StaysBelow n (lay_effect does exit again)
 effect_stays n effects.Nothing exit again e a = nothing_stays n
 effect_stays n (effects.Act action) exit again e a = one_stays n (Act action) (one_point n)

@@ -1,4 +1,4 @@
--- The cases of a switch: the endpoints that they name, and the case for what comes at one of them.
+-- The cases of a switch: their endpoints, and the case for what arrives at one of them.
 use Rattle.std.specs.Prelude.{◌≡◌, ℕ, ◌==◌, Bool, true, false, ◌&&◌, List, [], ◌∷◌, Option, Some, None, map, if◌then◌else◌}
 use Rattle.std.specs.BTreeMap.{BTreeMap, get}
 use Rattle.std.specs.Option.{option_cmp}
@@ -12,7 +12,7 @@ use Rattle.program.specs.declared.statement.Awaited.TheVariants.{Message, Closed
 use Rattle.program.specs.declared.statement.Mention.{Mention}
 use Rattle.flow.specs.declared.graph.Entrance.{Entrance}
 
--- a case of a switch: its endpoint, what it waits for, what it binds, and the point at which the method goes on then
+-- a case of a switch: its endpoint, what it awaits, the variables that it binds, and the point at which the method continues
 pub record EntranceModel : Type 0 where
   pub endpoint : Mention
   pub awaited : Awaited
@@ -22,26 +22,26 @@ pub record EntranceModel : Type 0 where
 abbrev pub entrance_model : Entrance → EntranceModel
 entrance_model e = record { endpoint = e.endpoint; awaited = e.awaited; targets = e.targets.items; next = e.next }
 
--- the endpoints of cases, each where it is named first, but for these
+-- the endpoints of cases, each where it is named first, without those already seen
 abbrev pub first_mentions : List ℕ → List EntranceModel → List Mention
 first_mentions seen [] = []
 first_mentions seen (c ∷ cases) =
     if is_among seen c.endpoint.variable.0 then first_mentions seen cases
     else (c.endpoint ∷ first_mentions (c.endpoint.variable.0 ∷ seen) cases)
 
--- a case waits for this message, or where there is none, for the close
+-- whether a case awaits this message, or the close if there is no message
 abbrev pub awaits : Awaited → Option ℕ → Bool
 awaits (Message id) (Some message) = id.0 == message
 awaits Closed None = true
 awaits _ _ = false
 
--- the first case for it at this endpoint
+-- the first case at this endpoint that awaits it
 abbrev pub case_for : List EntranceModel → ℕ → Option ℕ → Option EntranceModel
 case_for [] endpoint message = None
 case_for (c ∷ cases) endpoint message = if (c.endpoint.variable.0 == endpoint) && awaits c.awaited message then Some c
     else case_for cases endpoint message
 
--- what tells cases apart: the number of the endpoint, and of the message where it waits for one
+-- the key of a case: the number of its endpoint, and that of the message if it awaits one
 abbrev pub CaseKey : Type 0
 CaseKey = ℕ × Option ℕ
 
@@ -52,10 +52,10 @@ awaited_number Closed = None
 abbrev pub key_of : EntranceModel → CaseKey
 key_of c = (c.endpoint.variable.0, awaited_number c.awaited)
 
--- how these are compared
+-- the order of keys
 abbrev pub key_cmp : CaseKey → CaseKey → Ordering
 key_cmp x y = ordering_then (nat_cmp x.0 y.0) (option_cmp nat_cmp x.1 y.1)
 
--- the map has for each key the position of the first case that has it
+-- the map has for each key the position of the first case with it
 abbrev pub AreCasePositions : List EntranceModel → BTreeMap CaseKey ℕ → Type 0
 AreCasePositions cases positions = (k : CaseKey) → get key_cmp positions k ≡ first_position key_cmp (map key_of cases) k

@@ -11,7 +11,7 @@ use source::Memory;
 use std::alloc::Global;
 use std::collections::{BTreeMap, BTreeSet};
 
-/// The cases of a switch in order of the text. It finds the case for what comes at an endpoint by their numbers.
+/// The cases of a switch in order of the text. It finds the case for what arrives at an endpoint by their numbers.
 #[derive(Drop)]
 pub struct Cases {
     list: Vec<Entrance>,
@@ -25,9 +25,10 @@ impl Cases {
     ghost use Rattle.flow.specs.Cases.{case_for};
     ghost use Rattle.flow.specs.Graphs.{cases_model};
 
-    /// These cases.
+    /// Makes the cases of a switch from this list.
     ///
-    /// `Memory` is answered where a growth was refused.
+    /// # Errors
+    /// `Memory` if out of memory.
     pub fn new(alloc: Global, list: Vec<Entrance>) -> Result<Cases, Memory>
         ensures { IfOk result (λ cases. cases_model cases ≡ map entrance_model list.items) }
     {
@@ -40,21 +41,21 @@ impl Cases {
         })
     }
 
-    /// Its cases, in order of the text.
+    /// Returns its cases, in order of the text.
     pub fn list(&self) -> &[Entrance]
         ensures { map entrance_model result.now ≡ cases_model self.now }
     {
         &self.list
     }
 
-    /// Its endpoints, each where a case names it first.
+    /// Returns its endpoints, each at its first mention in a case.
     pub fn endpoints(&self) -> &[Mention]
         ensures { result.now ≡ first_mentions [] (cases_model self.now) }
     {
         &self.endpoints
     }
 
-    /// The case for a message at an endpoint, or, where there is no message, for the close.
+    /// Returns the first case for a message at an endpoint, or for the close if there is no message.
     pub fn find(&self, endpoint: VarId, message: Option<MessageId>) -> Option<&Entrance>
         ensures { option_map (λ e. entrance_model e.now) result
             ≡ case_for (cases_model self.now) endpoint.0 (option_map (λ m. m.0) message) }
@@ -65,7 +66,7 @@ impl Cases {
     }
 }
 
-/// The endpoints of these cases, each where it is named first.
+/// Returns the endpoints of these cases, each at its first mention.
 fn endpoints_of(alloc: Global, cases: &[Entrance]) -> Result<Vec<Mention>, Memory>
     ensures { IfOk result (λ endpoints. endpoints.items ≡ first_mentions [] (map entrance_model cases.now)) }
 {
@@ -79,7 +80,7 @@ fn endpoints_of(alloc: Global, cases: &[Entrance]) -> Result<Vec<Mention>, Memor
     Ok(endpoints)
 }
 
-/// The number of a message, if there is one.
+/// Returns the number of a message, if there is one.
 fn number_of(message: Option<MessageId>) -> Option<u32>
     ensures { result ≡ option_map (λ m. m.0) message }
 {
@@ -89,7 +90,7 @@ fn number_of(message: Option<MessageId>) -> Option<u32>
     }
 }
 
-/// What tells cases apart.
+/// Returns the key of a case: the numbers of its endpoint and of the message that it waits for, if it waits for one.
 fn key_of(case: &Entrance) -> (usize, Option<u32>)
     ensures { result ≡ key_of (entrance_model case.now) }
 {
@@ -99,7 +100,7 @@ fn key_of(case: &Entrance) -> (usize, Option<u32>)
     }
 }
 
-/// What tells each of these cases apart.
+/// Returns the keys of these cases.
 fn keys_of(alloc: Global, cases: &[Entrance]) -> Result<Vec<(usize, Option<u32>)>, Memory>
     ensures { IfOk result (λ keys. keys.items ≡ map (λ c. key_of (entrance_model c)) cases.now) }
 {

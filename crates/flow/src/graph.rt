@@ -1,20 +1,20 @@
-//! Instructions, and where each goes on.
+//! Instructions, and the points at which a method continues after each.
 
 use crate::cases::Cases;
 use program::{Action, Argument, Awaited, Forget, Mention, MessageId, MethodId, VarId};
 use source::Place;
 
-/// Where a condition goes on.
+/// Where a method continues after a condition.
 #[derive(Clone, Copy)]
 pub enum Branches {
-    /// At the one point where it is true, at the other where it is false.
+    /// At `inside` if it is true, at `past` if it is false.
     Either { inside: usize, past: usize },
-    /// At this point alone: the condition is just `true` or just `false`.
+    /// At this point only: the condition is just `true` or just `false`.
     Only(usize),
 }
 
-/// A case of a switch: its endpoint, what it waits for there, the variables that take what the message brings for each of its
-/// parameters of the exchange heap, in order, and the point at which the method goes on then.
+/// A case of a switch: its endpoint, what it waits for there, the variables that take the message's parameters of the exchange heap,
+/// in order, and the point at which the method then continues.
 #[derive(Drop)]
 pub struct Entrance {
     pub endpoint: Mention,
@@ -23,7 +23,7 @@ pub struct Entrance {
     pub next: usize,
 }
 
-/// A message goes to the other end of a channel: what is given for each of its parameters of the exchange heap.
+/// A send of a message to the other end of a channel, with what is given for each of its parameters of the exchange heap.
 #[derive(Drop)]
 pub struct Sending {
     pub place: Place,
@@ -33,8 +33,8 @@ pub struct Sending {
     pub next: usize,
 }
 
-/// Calls a method: what is given for each parameter of the exchange heap, and the variable that takes the block which it gives, if it
-/// gives one.
+/// A call of a method, with what is given for each parameter of the exchange heap, and the variable that takes the block which the
+/// method returns, if it returns one.
 #[derive(Drop)]
 pub struct Calling {
     pub place: Place,
@@ -44,7 +44,7 @@ pub struct Calling {
     pub next: usize,
 }
 
-/// Starts a method as a process of its own.
+/// A start of a method as a process of its own.
 #[derive(Drop)]
 pub struct Starting {
     pub place: Place,
@@ -53,8 +53,8 @@ pub struct Starting {
     pub next: usize,
 }
 
-/// The method ends, and gives what this variable has, if there is one. The last variable of the exchange heap in scope, if there is
-/// one, names all of them.
+/// The end of a method, with the variable whose block it returns, if there is one. The last variable of the exchange heap in scope, if
+/// there is one, leads to all of them.
 #[derive(Clone, Copy)]
 pub struct Returning {
     pub place: Place,
@@ -62,50 +62,50 @@ pub struct Returning {
     pub scope: Option<VarId>,
 }
 
-/// An instruction, and the point at which the method goes on behind it. A point is the number of an instruction in its graph.
+/// An instruction, and the point at which the method continues after it. A point is the index of an instruction in its graph.
 #[derive(Drop)]
 pub enum Instr {
-    /// Something is done with what variables and fields have.
+    /// Acts on what variables and fields have.
     Act {
         action: Action,
         next: usize,
     },
-    /// The target takes a new block, which takes what the arguments have.
+    /// Gives the target a new block, which takes what the arguments have.
     New {
         target: Mention,
         arguments: Vec<Mention>,
         next: usize,
     },
-    /// A message is sent.
+    /// Sends a message.
     Send(Sending),
     /// Waits for a message at one of the endpoints of these cases, or for the end of their peers.
     Switch {
         place: Place,
         cases: Cases,
     },
-    /// A condition, at its `if` or `while`.
+    /// Tests a condition, at its `if` or `while`.
     Branch {
         place: Place,
         branches: Branches,
     },
-    /// Variables go out of scope.
+    /// Takes variables out of scope.
     Forget {
         forget: Forget,
         next: usize,
     },
-    /// A method is called.
+    /// Calls a method.
     Call(Calling),
-    /// A method is started.
+    /// Starts a method.
     Start(Starting),
-    /// The method ends.
+    /// Ends the method.
     Return(Returning),
-    /// The end of a method that ought to have given something.
+    /// The end of a method that should have returned something.
     Stop {
         place: Place,
     },
 }
 
-/// The instructions of a method, and the point at which it begins. They are laid from the end of the method on.
+/// The instructions of a method, laid from its end on, and the point at which it begins.
 #[derive(Drop)]
 pub struct Graph {
     pub instructions: Vec<Instr>,

@@ -1,4 +1,4 @@
-//! Instructions and simple statements, laid on top of those that are laid already.
+//! Instructions and simple statements, laid on top of what is laid already.
 
 ghost use Rattle.std.specs.Prelude.{◌≡◌, IfOk, [], ◌∷◌, ◌++◌, length};
 ghost use Rattle.program.specs.Statements.{call_model, new_model, send_model, simple_model};
@@ -11,14 +11,14 @@ use program::{Action, Call, Case, Effect, Forget, Mention, New, Send, Simple, Wa
 use source::{Memory, Place};
 use std::alloc::Global;
 
-/// Where a `break` and a `continue` go on.
+/// Where a method continues after a `break` and after a `continue`.
 #[derive(Clone, Copy)]
 pub(crate) struct Exits {
     pub(crate) end: usize,
     pub(crate) again: usize,
 }
 
-/// Where a condition goes on, by the ways that it can go.
+/// Returns where a method continues after a condition, by the ways that the condition can go.
 pub(crate) fn branches(ways: Ways, inside: usize, past: usize) -> Branches
     ensures { result ≡ laid.branches ways inside past }
 {
@@ -29,7 +29,7 @@ pub(crate) fn branches(ways: Ways, inside: usize, past: usize) -> Branches
     }
 }
 
-/// Lays one more instruction. The answer is its point.
+/// Lays one more instruction and returns its point.
 pub(crate) fn lay(instructions: &mut Vec<Instr>, instruction: Instr) -> Result<usize, Memory>
     ensures { IfOk result (λ at. (instructions.new.items ≡ instructions.old.items ++ instruction ∷ [])
         × (at ≡ length instructions.old.items)) }
@@ -39,7 +39,7 @@ pub(crate) fn lay(instructions: &mut Vec<Instr>, instruction: Instr) -> Result<u
     Ok(at)
 }
 
-/// Lays a condition's Branch. The answer is its point.
+/// Lays the Branch of a condition and returns its point.
 pub(crate) fn lay_branches(
     instructions: &mut Vec<Instr>,
     place: Place,
@@ -74,7 +74,7 @@ pub(crate) fn lay_reads(
     Ok(entry)
 }
 
-/// Lays that variables go out of scope, if there are some.
+/// Lays a Forget for the variables that go out of scope, if there are any.
 pub(crate) fn lay_forget(
     instructions: &mut Vec<Instr>,
     forget: Option<Forget>,
@@ -89,7 +89,7 @@ pub(crate) fn lay_forget(
     }
 }
 
-/// Lays what a simple statement does behind its reads.
+/// Lays the effect of a simple statement, which comes after its reads.
 fn lay_effect(
     instructions: &mut Vec<Instr>,
     effect: Effect,
@@ -119,7 +119,7 @@ fn lay_effect(
     }
 }
 
-/// Lays a simple statement: what it does, and on top of it what it reads.
+/// Lays a simple statement: its effect, and on top of it its reads.
 pub(crate) fn lay_simple(
     instructions: &mut Vec<Instr>,
     simple: &Simple,
@@ -133,7 +133,7 @@ pub(crate) fn lay_simple(
     lay_reads(instructions, &simple.reads, behind)
 }
 
-/// Lays a New, and on top of it what the length of an array reads.
+/// Lays a New, and on top of it the reads of the length of an array.
 pub(crate) fn lay_new(
     alloc: Global,
     instructions: &mut Vec<Instr>,
@@ -152,7 +152,7 @@ pub(crate) fn lay_new(
     lay_reads(instructions, &new.reads, at)
 }
 
-/// Lays a call: what is used behind it, the call, and on top of it what its arguments read.
+/// Lays a call: the uses after it, the call, and on top of it the reads of its arguments.
 pub(crate) fn lay_call(
     alloc: Global,
     instructions: &mut Vec<Instr>,
@@ -174,7 +174,7 @@ pub(crate) fn lay_call(
     lay_reads(instructions, &call.reads, at)
 }
 
-/// Lays a start, and on top of it what its arguments read.
+/// Lays a start, and on top of it the reads of its arguments.
 pub(crate) fn lay_start(
     alloc: Global,
     instructions: &mut Vec<Instr>,
@@ -194,7 +194,7 @@ pub(crate) fn lay_start(
     lay_reads(instructions, &call.reads, at)
 }
 
-/// Lays a send, and on top of it what its arguments read.
+/// Lays a send, and on top of it the reads of its arguments.
 pub(crate) fn lay_send(
     alloc: Global,
     instructions: &mut Vec<Instr>,
@@ -215,7 +215,7 @@ pub(crate) fn lay_send(
     lay_reads(instructions, &send.reads, at)
 }
 
-/// Where a case begins.
+/// Returns the entrance of a case that begins at `next`.
 pub(crate) fn entrance_of(alloc: Global, case: &Case, next: usize) -> Result<Entrance, Memory>
     ensures { IfOk result (λ e. entrance_model e
         ≡ record { endpoint = case.now.endpoint; awaited = case.now.awaited; targets = case.now.targets.items; next = next }) }

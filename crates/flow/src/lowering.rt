@@ -1,4 +1,4 @@
-//! From statements to instructions, laid from the end of a method on.
+//! Lowering of statements to instructions, laid from the end of a method on.
 
 ghost use Rattle.std.specs.Prelude.{◌≡◌, ℕ, List, IfOk, [], length, map, option_map};
 ghost use Rattle.program.specs.Methods.{method_model};
@@ -22,19 +22,19 @@ use program::{Block, Case, If, Method, Statement, Test};
 use source::{Memory, Place};
 use std::alloc::Global;
 
-/// The graph of a method.
+/// Returns the graph of a method.
 ///
-/// A statement reads first, a `Use` for each mention of a variable of the exchange heap before `.` or `[`, in order of
-/// the text, and then does what it does; a statement that only changes scalars is its reads alone. A condition reads
-/// and then goes on at its block or behind it; what goes out of scope is forgotten behind a block, at a `break` and at
-/// a `continue`. A call reads, calls, and then uses what it is written into. A switch stands before its cases, behind each
-/// of which the method goes on where the switch ends; a `break` leaves a case for there too. At the end of the method stands a
-/// `Return`, which looks at all its variables in scope, or a `Stop` where the method gives something. Instructions that
-/// nothing leads to are laid all the same.
+/// A statement first reads, with a `Use` for each mention of a variable of the exchange heap before `.` or `[` in order of the text.
+/// Then it takes effect; a statement that only changes scalars is its reads alone. A condition reads, and then continues at its block
+/// or after it. Variables that go out of scope are forgotten after a block, at a `break` and at a `continue`. A call reads, calls, and
+/// then uses what it is written into. A switch comes before its cases. After each case the method continues where the switch ends, as
+/// it does after a `break` in a case. A method ends with a `Return`, which checks all its variables in scope, or with a `Stop` if it
+/// returns something. Instructions that cannot be reached are laid all the same.
 ///
-/// The method begins at a point of the graph, and each instruction goes on at such points alone.
+/// The method begins at a point of the graph, and each instruction continues only at such points.
 ///
-/// `Memory` is answered where a growth was refused.
+/// # Errors
+/// `Memory` if out of memory.
 pub fn lower(alloc: Global, method: &Method) -> Result<Graph, Memory>
     ensures graph { IfOk result (λ g. graph_model g ≡ graph_of (method_model method.now)) }
     ensures closed { IfOk result (λ g. IsClosed (graph_model g)) }
@@ -49,7 +49,7 @@ pub fn lower(alloc: Global, method: &Method) -> Result<Graph, Memory>
     })
 }
 
-/// What stands at the end of a method.
+/// Returns the last instruction of a method.
 fn ending(method: &Method) -> Instr
     ensures { instruction_model result ≡ laid.ending (method_model method.now) }
 {
@@ -64,7 +64,7 @@ fn ending(method: &Method) -> Instr
     })
 }
 
-/// Lays these statements, behind which the method goes on at `next`. The answer is the point at which they begin.
+/// Lays statements, after which the method continues at `next`. Returns the point at which they begin.
 #[cycle(statements)]
 fn lay_statements(
     alloc: Global,
@@ -111,7 +111,7 @@ fn lay_statement(
     }
 }
 
-/// Lays a block, and behind it what goes out of scope.
+/// Lays a block, and after it a Forget for the variables that go out of scope.
 #[cycle(statements)]
 fn lay_block(
     alloc: Global,
@@ -127,7 +127,7 @@ fn lay_block(
     lay_statements(alloc, instructions, &block.statements, exits, behind)
 }
 
-/// Lays what is done where all conditions of an `if` are false.
+/// Lays what runs if all conditions of an `if` are false.
 #[cycle(statements)]
 fn lay_otherwise(
     alloc: Global,
@@ -146,7 +146,7 @@ fn lay_otherwise(
     }
 }
 
-/// Lays an `if`: its conditions from the last on, where what is done otherwise is laid already.
+/// Lays an `if`: what runs otherwise, and on top of it the conditions from the last on.
 #[cycle(statements)]
 fn lay_if(
     alloc: Global,
@@ -166,8 +166,8 @@ fn lay_if(
     lay_condition(alloc, instructions, &branches.first, exits, other, next)
 }
 
-/// Lays a condition and its block on top of what is done where the condition is false, which begins at `other`. Behind both
-/// the method goes on at `next`.
+/// Lays a condition and its block on top of what runs if the condition is false, which begins at `other`. After both the method
+/// continues at `next`.
 #[cycle(statements)]
 fn lay_condition(
     alloc: Global,
@@ -187,7 +187,7 @@ fn lay_condition(
     lay_reads(instructions, &test.reads, branch)
 }
 
-/// Lays a loop: its Branch, what its condition reads, its body, and then where the Branch goes on.
+/// Lays a loop: its Branch, the reads of its condition and its body. Then it sets where the Branch continues.
 #[cycle(statements)]
 fn lay_while(
     alloc: Global,

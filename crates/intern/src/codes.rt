@@ -1,4 +1,4 @@
-//! The numbers of leaves, which stand in words.
+//! The numbers of leaves in words.
 
 ghost use Rattle.std.specs.Prelude.{◌≡◌, ◌<◌};
 ghost use Rattle.rows.specs.Leaves.{IsNumbered};
@@ -11,7 +11,7 @@ use rows::Leaf;
 /// The numbers of leaves are below this: one each for nothing, a block and an endpoint that is cut off, and one for each state.
 pub const LEAF_CODES: u64 = MOST_STATES as u64 + 3;
 
-/// The number of a leaf. No two leaves have one number.
+/// Returns the number of a leaf. No two leaves have the same number.
 pub fn code_of(leaf: Leaf) -> u64
     requires { IsNumbered leaf }
     ensures value { result ≡ code leaf }
@@ -25,7 +25,7 @@ pub fn code_of(leaf: Leaf) -> u64
     }
 }
 
-/// The leaf of a number.
+/// Returns the leaf with this number.
 pub fn leaf_at(number: u64) -> Leaf
     requires { number < LEAF_CODES }
     ensures { code result ≡ number }

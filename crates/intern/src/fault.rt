@@ -1,14 +1,14 @@
-//! Why there is no answer.
+//! The errors of interning.
 
 use thiserror::Error;
 
-/// Why there is no id.
+/// Why a row got no id.
 #[derive(Clone, Copy, Debug, PartialEq, Eq, Error)]
 pub enum InternFault {
     /// Each slot of the table has a word, and no id names the row.
     #[error("the table of rows is full")]
     Full,
-    /// A growth of memory was refused.
+    /// An allocation was refused.
     #[error("out of memory")]
     Memory,
 }
@@ -18,13 +18,13 @@ pub enum InternFault {
 #[error("a word of the row has no place near")]
 pub struct Far;
 
-/// Why there is no table.
+/// Why no table was made.
 #[derive(Clone, Copy, Debug, PartialEq, Eq, Error)]
 pub enum InternNew {
-    /// The slots are none, or more than `MOST_SLOTS`.
+    /// There are no slots, or more than `MOST_SLOTS`.
     #[error("slots not 1 to 16777216")]
     Slots,
-    /// A growth of memory was refused.
+    /// An allocation was refused.
     #[error("out of memory")]
     Memory,
 }

@@ -1,4 +1,4 @@
-//! Laws of words and ids: they hold of every table.
+//! Laws of words and ids. They hold for every table.
 
 ghost use Rattle.std.specs.Prelude.{◌≡◌, ◌+◌, ◌*◌, ◌<◌, ℕ, List, length, slice_index};
 ghost use Rattle.std.specs.Thread.{IsSync};
@@ -21,7 +21,7 @@ ghost use Rattle.intern.specs.declared.row_id.RowId.TheVariants.{At};
 
 use crate::row_table::Rows;
 
-/// The limits in digits, and the word.
+/// The limits in digits, and the layout of a word.
 pub fn limits()
     ensures slots { MOST_SLOTS ≡ 16777216 }
     ensures looks { MOST_LOOKS ≡ 64 }
@@ -29,41 +29,41 @@ pub fn limits()
     ensures word { (n leaf tail : ℕ) → word n leaf tail ≡ n + 1024 * leaf + 1073741824 * tail }
 {}
 
-/// Each leaf has a number of its own, which a word has room for.
+/// Each leaf has a number of its own, and a word has room for it.
 pub fn each_leaf_has_a_number()
     ensures own { (a b : Leaf) → code a ≡ code b → a ≡ b }
     ensures room { (leaf : Leaf) → IsNumbered leaf → code leaf < LEAVES }
 {}
 
-/// What a seat knows: one word at a slot and one slot for a word, all within the limits and at slots of its table, and each tail
-/// one shorter. So of any two ids that it knows, they are equal exactly where their rows are.
+/// What a seat knows: one word at a slot and one slot for a word, all within the limits and at slots of its table, and each tail one
+/// shorter. So any two ids that it knows are equal exactly if their rows are.
 pub fn what_a_seat_knows_is_sound()
     ensures sound { (seat : Seat) → IsSoundView (view seat) }
     ensures inside { (rows : Rows) (seat : Seat) → IsSeatOf rows seat → IsInside (slots_of rows) (view seat) }
     ensures faithful { (seat : Seat) → IsFaithful (view seat) }
 {}
 
-/// An id that a seat knows is known at any later time, and names the same row.
+/// An id that a seat knows stays known, and names the same row.
 pub fn an_id_names_its_row_for_good()
     ensures known { (v u : View) → ViewGrows v u → (row_id : RowId) → IsKnown v row_id → IsKnown u row_id }
     ensures names { (v u : View) → ViewGrows v u → (row_id : RowId) (row : List Leaf) → Names v row_id row → Names u row_id row }
 {}
 
-/// An id is known exactly where its words are: that of its slot and, while the length is above 1, that of the slot which it
-/// names, down to length 1.
+/// An id is known exactly if its words are: that of its slot and, while the length is above 1, that of the slot which the word names,
+/// down to length 1.
 pub fn an_id_is_a_walk()
     ensures walk { (v : View) (slot : ℕ) (row : List Leaf) → Names v (At slot) row → LeadsDown v (length row) slot }
     ensures known { (v : View) → IsSoundView v → (n slot : ℕ) → LeadsDown v n slot → IsKnown v (At slot) }
 {}
 
-/// A row for which a seat once knew no room has none, whatever the seat learns.
+/// A row for which a seat once knew no room never has room, whatever the seat learns.
 pub fn a_full_table_stays_full()
     ensures { (rows : Rows) (v : View) (seat : Seat) → IsSeatOf rows seat → ViewGrows v (view seat)
         → (row : List Leaf) → HasNoRoom (slots_of rows) v row → HasNoRoom (slots_of rows) (view seat) row }
 {}
 
-/// If no other seat of a table was ever made, and the one that was knows no word, the table has none: each word is 0 in every state
-/// that meets the rule.
+/// If no other seat of a table was ever made, and its only seat knows no word, the table has none: each word is 0 in every state that
+/// meets the rule.
 pub fn an_empty_table_has_no_word()
     ensures { (slots : ℕ) (s : State (Unit {0}) Knowledge) (seat : Seat) → Filled slots s → IsStateFor seat s → IsOfEmptyTable seat
         → (i : ℕ) → slice_index s.words i ≡ 0 }

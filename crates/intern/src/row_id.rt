@@ -1,11 +1,11 @@
 //! The names of rows.
 
-/// The name of a row in one table: the empty row's own, or the slot of the row's word. Two ids that are known under one seat
-/// are equal exactly where their rows are.
+/// The name of a row in one table: that of the empty row, or the slot of the row's word. Two ids that are known under one seat are
+/// equal exactly if their rows are.
 #[derive(Clone, Copy, Debug, PartialEq, Eq, PartialOrd, Ord)]
 pub enum RowId {
     /// The row of no leaves, which has no word.
     Empty,
-    /// The row whose word stands at this slot.
+    /// The row whose word is at this slot.
     At(u32),
 }

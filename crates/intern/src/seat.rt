@@ -5,7 +5,7 @@ ghost use Rattle.intern.specs.View.{IsInside, IsSoundView};
 
 use crate::table::Knowledge;
 
-/// What one thread knows of a table of rows: the words that it saw there, which stay. It takes no memory, and may go to another
+/// What one thread knows of a table of rows: the words that it saw there, which stay. A seat takes no memory, and may go to another
 /// thread.
 #[derive(Drop)]
 pub struct Seat {

@@ -1,4 +1,4 @@
-//! A table with its first seat, and seats that are split and joined.
+//! Making a table with its first seat, and splitting and joining seats.
 
 ghost use Rattle.std.specs.Prelude.{◌≡◌, ◌↔◌, IfErr, IfOk, IsOkAnd};
 ghost use Rattle.intern.specs.declared.fault.InternNew.TheVariants.{Slots};
@@ -17,9 +17,10 @@ use source::Memory;
 use std::alloc::Global;
 
 impl Rows {
-    /// A table of so many slots, in which nothing stands, and its first seat.
+    /// Makes an empty table of `slots` slots, and its first seat.
     ///
-    /// `Slots` is answered where the slots are none, or more than `MOST_SLOTS`; `Memory` where a growth was refused.
+    /// # Errors
+    /// `Slots` if there are no slots, or more than `MOST_SLOTS`; `Memory` if out of memory.
     pub fn new(alloc: Global, slots: usize) -> Result<(Rows, Seat), InternNew>
         ensures seat { IfOk result (λ made. IsSeatOf made.0 made.1) }
         ensures empty { IfOk result (λ made. IsOfEmptyTable made.1) }
@@ -40,7 +41,7 @@ impl Rows {
         }
     }
 
-    /// Two seats, each of which knows all that the seat knew. It takes no memory, and never answers `Memory`.
+    /// Splits a seat into two, each of which knows all that the seat knew. Allocates nothing, and never returns `Memory`.
     #[tactic(auto, using(crate::proofs::IdLemmas::faithful))]
     pub fn split(&self, seat: Seat) -> Result<(Seat, Seat), (Seat, Memory)>
         requires { IsSeatOf self.now seat }
@@ -53,8 +54,8 @@ impl Rows {
         Ok((seat, Seat { inner }))
     }
 
-    /// A seat that knows all that both seats knew. Of any two ids that it knows, whichever seat got them, they are equal
-    /// exactly where their rows are. It takes no memory, and never answers `Memory`.
+    /// Joins two seats into one that knows all that both knew. Any two ids that it knows, whichever seat got them, are equal exactly if
+    /// their rows are. Allocates nothing, and never returns `Memory`.
     pub fn join(&self, a: Seat, b: Seat) -> Result<Seat, (Seat, Seat, Memory)>
         requires a { IsSeatOf self.now a }
         requires b { IsSeatOf self.now b }

@@ -1,4 +1,4 @@
-//! The rule of the table, and what each kind of step tells the seat that takes it.
+//! The rule of the table, and what a seat learns from each kind of step.
 
 ghost use Rattle.std.specs.Prelude.{[], ◌++◌, false, true};
 ghost use Rattle.intern.specs.Rule.{Claimed, Filled, Looked};
@@ -6,7 +6,7 @@ ghost use Rattle.intern.specs.Rule.{Claimed, Filled, Looked};
 use atomic_table::{Join, Play, Split, TableRule};
 use std::collections::LinkedList;
 
-/// What a seat knows: slots with their words, and whether it is the only seat of the table. No value of it is made.
+/// What a seat knows: slots with their words, and whether it is the only seat of the table. No value of this type is made.
 pub type Knowledge = (LinkedList<(u64, u64)>, bool);
 
 /// The rule between any two steps. Its key is the number of slots.
@@ -32,7 +32,7 @@ impl Play<(), Knowledge> for Claim {
     ghost then = { Claimed };
 }
 
-/// Both halves of a seat know all that it knew, and a joined seat what both knew. None of these is the only seat any more.
+/// Both halves of a seat know all that it knew, and a joined seat knows what both knew. They no longer count as the only seat.
 pub struct Halves;
 
 impl Split<Knowledge> for Halves {

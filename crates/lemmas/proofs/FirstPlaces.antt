@@ -54,7 +54,7 @@ same_first p q same (x ∷ xs) = ap (λ b. cond (not b) (1 + position_or_len p x
 pub same_position : {X : Type 0} (p q : X → Bool) → ((x : X) → p x ≡ q x) → (xs : List X) → position p xs ≡ position q xs
 same_position p q same xs = ap (λ i. found i (length xs)) (same_first p q same xs)
 
--- a key that stands in the list already changes no position
+-- a key that is already in the list changes no position
 pub position_kept : {K : Type 0} (e : K → K → Bool) → IsEquivalence e → (xs : List K) (y q : K) → is_some (position (e y) xs) ≡ true → position (e q) (xs ++ y ∷ []) ≡ position (e q) xs
 position_kept {K} e laws xs y q there =
     ⊎_elim
@@ -85,7 +85,7 @@ position_added {K} e laws xs y q none =
         (λ empty. cond-false (is_some (position (e q) xs)) (position (e q) xs) (cond (e q y) (Some (length xs)) None) empty ∙ cond-false (e q y) (Some (length xs)) None isn't ∙ sym (none_is (position (e q) xs) empty))
         (cases_Bool (is_some (position (e q) xs)))
 
--- an element that passes is not before the first one
+-- an element that passes is not before the first one that does
 pub first_by : {X : Type 0} (p : X → Bool) (xs : List X) (k : ℕ) (x : X) → k < length xs → get_or xs k x ≡ x → p x ≡ true → position_or_len p xs ≤ k
 first_by p [] k x lt at passes = absurd (omega (arith, lt))
 first_by p (y ∷ ys) zero x lt at passes =
@@ -97,7 +97,7 @@ first_by p (y ∷ ys) (suc k) x lt at passes =
     (λ stop. let e = cond-false {A = ℕ} (not (p y)) (1 + position_or_len p ys) 0 stop in omega (arith, e))
     (cases_Bool (not (p y)))
 
--- what passes a test and stands in the list gives a position
+-- the position of the first element that passes
 pub record Stands {X : Type 0} (p : X → Bool) (xs : List X) (d : X) : Type 0 where
   pub at : ℕ
   pub is : position p xs ≡ Some at
@@ -119,14 +119,14 @@ equal_is x y e = eqb-true x y (sym (unsigned_tied x y) ∙ e)
 pub is_equal : (x : ℕ) → is_eq (nat_cmp x x) ≡ true
 is_equal x = unsigned_tied x x ∙ eq-eqb x x refl
 
--- a number that stands in the list has a position, at which it stands
+-- a number in the list has a position, and the list has it there
 pub number_there : (ids : List ℕ) (x : ℕ) → Contains ids x → (i : ℕ) × (first_position nat_cmp ids x ≡ Some i) × (i < length ids) × (get_or ids i x ≡ x)
 number_there ids x c =
     let s = position_there (λ y. is_eq (nat_cmp x y)) ids x c (is_equal x) in
     (s.at, s.is, s.within, sym (equal_is x (get_or ids s.at x) s.passes))
 
--- A key that is entered with the length of the list where it is not there yet, and else keeps what it has: the positions are those of
--- the list with the key behind it.
+-- A new key is entered with the length of the list, and a known key keeps its position:
+-- the positions are those of the list with the key appended.
 pub position_entered : {K : Type 0} (e : K → K → Bool) → IsEquivalence e → (xs : List K) (y q : K) (w : ℕ)
     → w ≡ unwrap_or (position (e y) xs) (length xs) → cond (e y q) (Some w) (position (e q) xs) ≡ position (e q) (xs ++ y ∷ [])
 position_entered {K} e laws xs y q w is = by (position (e y) xs) refl

@@ -12,7 +12,7 @@ front_of xs front x is =
     let n : length xs - 1 ≡ length front = omega (arith, size) in
     ap (λ k. take k xs) n ∙ ap (take (length front)) is ∙ take-append_seam front (x ∷ [])
 
--- where two lists in a row are none, each is
+-- if two lists in a row are empty, each is
 
 pub nil_left : {X : Type 0} (a b : List X) → a ++ b ≡ [] → a ≡ []
 nil_left [] b none = refl
@@ -22,7 +22,7 @@ pub nil_right : {X : Type 0} (a b : List X) → a ++ b ≡ [] → b ≡ []
 nil_right [] b none = none
 nil_right (x ∷ a) b none = cc
 
--- the last has the number behind the others
+-- the last element has the number after all others
 pub enumerate_push : {X : Type 0} (n : ℕ) (xs : List X) (x : X) → enumerate_from n (xs ++ x ∷ []) ≡ enumerate_from n xs ++ (n + length xs, x) ∷ []
 enumerate_push n [] x = ap (λ k. (k, x) ∷ []) (omega arith)
 enumerate_push n (y ∷ ys) x =
@@ -35,7 +35,7 @@ flat_more f g xs i x lt is =
     let taken = ap (map g) (take_more xs i x lt ∙ ap (λ y. take i xs ++ y ∷ []) (sym is)) ∙ map-append g (take i xs) (x ∷ []) in
     ap (flat_map f) taken ∙ sym (flat_map_more f [] (map g (take i xs)) (g x))
 
--- whether a count is none
+-- whether a count is 0
 
 pub some_of : (n m : ℕ) → n ≡ m → (n == 0) ≡ false → 0 < m
 some_of zero m is h = cc
@@ -44,12 +44,12 @@ some_of (suc n) m is h = omega (arith, is)
 pub none_of : (n m : ℕ) → n ≡ m → (n == 0) ≡ true → m ≡ 0
 none_of n m is h = sym is ∙ eqb-true n 0 h
 
--- the last one is there
+-- the last element is at its index
 pub last_there : {X : Type 0} (xs : List X) (x : X) → slice_get (xs ++ x ∷ []) (length xs) ≡ Some x
 last_there [] x = refl
 last_there (z ∷ xs) x = last_there xs x
 
--- of no elements none is left
+-- nothing is left of an empty list
 pub none_left : {X : Type 0} (i : ℕ) → drop {A = X} i [] ≡ []
 none_left zero = refl
 none_left (suc i) = refl

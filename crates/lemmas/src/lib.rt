@@ -1,4 +1,4 @@
-//! What several crates need of lists, options and tables, beside what the standard library has.
+//! What several crates need for lists, options and tables, beyond the standard library.
 #![tactic(auto)]
 
 mod positions;

@@ -1,4 +1,4 @@
-//! Where keys stand in a list.
+//! The positions of keys in a list.
 
 ghost use Rattle.std.specs.Prelude.{◌≡◌, IfOk, OnOk, Some, cond};
 ghost use Rattle.std.specs.BTreeMap.{get};
@@ -9,7 +9,7 @@ ghost use Rattle.lemmas.specs.Places.{first_position};
 use std::alloc::{AllocError, Global};
 use std::collections::BTreeMap;
 
-/// For each key of the list, the position at which it stands first.
+/// Returns the first position of each key of the list.
 pub fn first_positions<K: Ord + Copy>(
     alloc: Global,
     keys: &[K],
@@ -23,7 +23,7 @@ pub fn first_positions<K: Ord + Copy>(
     Ok(positions)
 }
 
-/// Enters a key with this index, unless it has one.
+/// Enters a key with this index, unless it already has one.
 fn enter<K: Ord + Copy>(
     positions: &mut BTreeMap<K, usize>,
     key: K,

@@ -1,4 +1,4 @@
--- Bindings: what a search finds among them, and what an edit does to what variables have.
+-- Bindings: what a search among them finds, and how an edit changes what variables have.
 use Rattle.std.proofs.Common.{◌≡◌, ℕ, zero, suc, ◌+◌, ◌-◌, ◌<◌, ◌≤◌, eqb, ◌≢◌, List, [], ◌∷◌, ◌++◌, length, get_or, map, set, Some, None, Result, Ok, Err, IfOk, IfErr, refl, sym, ap, ◌∙◌, subst, inl, inr, arith}
 use Rattle.std.specs.Prelude.{Bool, Option, if◌then◌else◌, true, false}
 use Rattle.std.specs.List.{insert, range_with_len}
@@ -19,7 +19,7 @@ use Rattle.machine.specs.declared.variables.Binding.{Binding}
 abbrev pub NoneBefore : List Binding → ℕ → ℕ → Type 0
 NoneBefore l v i = (j : ℕ) → j < i → variable_at l j ≢ v
 
--- the new bindings say x of the variable v, and what the old ones say of any other
+-- with the new bindings v has x, and any other variable has what it had
 abbrev pub AddressAfter : List Binding → List Binding → ℕ → Option ℕ → Type 0
 AddressAfter old new v x = (q : ℕ) → address_in new q ≡ (if eqb v q then x else address_in old q)
 
@@ -34,25 +34,25 @@ pub address_absent : (l : List Binding) (v : ℕ) → NoneBefore l v (length l) 
 address_absent [] v none = refl
 address_absent (b ∷ l) v none = grind (arith, nat_tests, none 0 (omega arith), address_absent l v (none_before_tail b l v _ none))
 
--- the first binding of a variable says what it has
+-- a variable has what its first binding says
 pub address_present : (l : List Binding) (v i : ℕ) → IsAt l v i → NoneBefore l v i → address_in l v ≡ address_of (get_or l i no_binding)
 address_present [] v i at none = absurd (omega (arith, at.within))
 address_present (b ∷ l) v zero at none = grind (arith, nat_tests, at.same)
 address_present (b ∷ l) v (suc i) at none = grind (arith, nat_tests, none 0 (omega arith), address_present l v i (at_tail b l v i at) (none_before_tail b l v i none))
 
--- a first binding that is written over
+-- the first binding of a variable is overwritten
 pub address_set : (l : List Binding) (v i : ℕ) (b : Binding) → b.variable ≡ v → IsAt l v i → NoneBefore l v i → AddressAfter l (set l i b) v (address_of b)
 address_set [] v i b is at none q = absurd (omega (arith, at.within))
 address_set (x ∷ l) v zero b is at none q = grind (arith, nat_tests, at.same)
 address_set (x ∷ l) v (suc i) b is at none q = grind (arith, nat_tests, none 0 (omega arith), address_set l v i b is (at_tail x l v i at) (none_before_tail x l v i none) q)
 
--- a new binding, before any of its variable
+-- a new binding is inserted before all others of its variable
 pub address-insert : (l : List Binding) (v i : ℕ) (b : Binding) → b.variable ≡ v → NoneBefore l v i → AddressAfter l (insert l i b) v (address_of b)
 address-insert l v zero b is none q = grind (arith, nat_tests)
 address-insert [] v (suc i) b is none q = grind (arith, nat_tests)
 address-insert (x ∷ l) v (suc i) b is none q = grind (arith, nat_tests, none 0 (omega arith), address-insert l v i b is (none_before_tail x l v i none) q)
 
--- the list of what variables have, by what each has
+-- the list of what variables have, in terms of each variable
 pub length_variables : (count : ℕ) (l : List Binding) → length (variables_in count l) ≡ count
 unfolding variables_in
 length_variables count l = length-map-range_with_len (address_in l) 0 count
@@ -101,14 +101,14 @@ has_some count (b ∷ l) v a is = elim (cases_eq b.variable v) [
   | inr other ↦ one_on count b l v (has_some count l v a (grind (arith, nat_tests)))
 ]
 
--- A binding of a variable is written over by one of the same variable.
+-- a binding is overwritten by one of the same variable
 pub set_at_same : (l : List Binding) (at : ℕ) (b : Binding) → at < length l → variable_at l at ≡ b.variable → (i : ℕ) → variable_at (set l at b) i ≡ variable_at l i
 set_at_same l at b lt same i = elim (cases_eq i at) [
   | inl is ↦ subst (λ n. variable_at (set l at b) n ≡ variable_at l n) (sym is) (ap (λ (x : Binding). x.variable) (get_or-set_same l at b no_binding lt) ∙ sym same)
   | inr isnt ↦ ap (λ (x : Binding). x.variable) (get_or-set_other l at i b no_binding isnt)
 ]
 
--- the variables of the bindings when one is inserted
+-- the variables of the bindings after an insertion
 pub insert_below : (l : List Binding) (at : ℕ) (b : Binding) → at ≤ length l → (i : ℕ) → i < at → variable_at (insert l at b) i ≡ variable_at l i
 insert_below l at b le i lt = ap (λ (x : Binding). x.variable) (get_or-insert_below l at b no_binding i lt le)
 
@@ -121,7 +121,7 @@ insert_above l at b le i lt =
     (ap (λ (x : Binding). x.variable) (get_or-insert_above l at b no_binding (i - 1) (omega arith) le))
 
 module _ (count : ℕ) (l : List Binding) (sorted : AreSorted count l) where
-  -- the comparisons with a variable rise along the list, as a binary search asks
+  -- the comparisons with a variable never decrease along the list, as a binary search requires
   comparisons_rise : (v : ℕ) → IsNonDecreasingBy (λ (b : Binding). ordering_index (nat_cmp b.variable v)) l
   comparisons_rise v = IsNonDecreasingBy-from_default (λ (b : Binding). ordering_index (nat_cmp b.variable v)) l no_binding (λ i j le within.
       let variables_rise : variable_at l i ≤ variable_at l j = grind (arith, sorted.rise i j, λ (same : i ≡ j). ap (variable_at l) same) in
@@ -140,7 +140,7 @@ module _ (count : ℕ) (l : List Binding) (sorted : AreSorted count l) where
     greater = λ j le lt. ranked _ v _ (sym ((parted (comparisons_rise v)).1 j no_binding le lt));
   }
 
-  -- what a variable has is what its first binding says, also past the number of variables, where no binding is
+  -- a variable has what its first binding says; one past the number of variables has no binding
   past_absent : (v : ℕ) → count ≤ v → address_in l v ≡ None
   past_absent v past = address_absent l v (λ j lt same. omega (arith, sorted.below j lt))
 
@@ -153,7 +153,7 @@ module _ (count : ℕ) (l : List Binding) (sorted : AreSorted count l) where
   none_before_at : (v at : ℕ) → IsAt l v at → NoneBefore l v at
   none_before_at v at is j lt same = omega (arith, sorted.rise j at lt is.within, is.same)
 
-  -- what a variable with a binding has, and one with none
+  -- what a variable has, with a binding and without one
   pub read_at : (v at : ℕ) (b : Binding) → IsAt l v at → b ≡ get_or l at no_binding → read (variables_in count l) v ≡ address_of b
   read_at v at b is here = read_is v ∙ (address_present l v at is (none_before_at v at is) ∙ ap address_of (sym here))
 
@@ -164,7 +164,7 @@ module _ (count : ℕ) (l : List Binding) (sorted : AreSorted count l) where
   pub read_may : (v a : ℕ) → read (variables_in count l) v ≡ Some a → MayTake count l v
   read_may v a is = has_some count l v a (sym (read_is v) ∙ is)
 
-  -- a binding written over
+  -- a binding is overwritten
   pub put_variables : (v at : ℕ) (b : Binding) → IsAt l v at → b.variable ≡ v → variables_in count (set l at b) ≡ set (variables_in count l) v (address_of b)
   put_variables v at b is same = set_variables count l (set l at b) v (address_of b) (address_set l v at b same is (none_before_at v at is))
 
@@ -176,7 +176,7 @@ module _ (count : ℕ) (l : List Binding) (sorted : AreSorted count l) where
         below = λ i within. rw (here i) (sorted.below i (omega (arith, length-set l at b)));
       }
 
-  -- nothing to write
+  -- nothing is written if the variable has no binding and needs none
   pub put_gap : (v at : ℕ) (x : Option ℕ) → IsGap l v at → ((a : ℕ) → x ≡ Some a → MayTake count l v) → variables_in count l ≡ set (variables_in count l) v x
   put_gap v at None gap listed = sym (set_same (read_gap v at gap))
     where
@@ -188,7 +188,7 @@ module _ (count : ℕ) (l : List Binding) (sorted : AreSorted count l) where
       past (has_binding i at_i) = absurd (grind (arith, gap.smaller i, gap.greater i, at_i.within, at_i.same))
       past (no_variable le) = sym (set_past (variables_in count l) v (Some a) (omega (arith, length_variables count l)))
 
-  -- a new binding
+  -- a new binding is inserted
   pub list_sorted : (v at : ℕ) (b : Binding) → IsGap l v at → v < count → b.variable ≡ v → AreSorted count (insert l at b)
   list_sorted v at b gap below same =
       let longer = length-insert l at b gap.within in
@@ -200,12 +200,12 @@ module _ (count : ℕ) (l : List Binding) (sorted : AreSorted count l) where
         below = λ i within. grind (arith, low i, mid i, high i, sorted.below i, sorted.below (i - 1));
       }
 
--- sorted, whether there was memory for the new binding or not
+-- the bindings are sorted whether the new one could be stored or not
 pub either_sorted : (count : ℕ) (made : Bool) (new old : List Binding) → AreSorted count new → AreSorted count old → AreSorted count (if made then new else old)
 either_sorted count true new old is was = is
 either_sorted count false new old is was = was
 
--- a variable with a new binding still has what it has
+-- a new binding without an address changes nothing
 pub list_variables : (count : ℕ) (l : List Binding) (v at : ℕ) (b : Binding) → IsGap l v at → b.variable ≡ v → address_of b ≡ None → variables_in count (insert l at b) ≡ variables_in count l
 list_variables count l v at b gap same nothing =
     same_variables count l (insert l at b) (λ q.
@@ -216,7 +216,7 @@ list_variables count l v at b gap same nothing =
       | inr isnt ↦ grind (arith, nat_tests)
     ])
 
--- One more variable, which has something: its binding goes to the end.
+-- the binding of one more variable goes to the end of the list
 pub pushed_some : (count : ℕ) (l : List Binding) (b : Binding) (x : Option ℕ) → AreSorted count l → b.variable ≡ count → address_of b ≡ x
     → variables_in (count + 1) (insert l (length l) b) ≡ variables_in count l ++ x ∷ []
 pushed_some count l b x sorted same is =

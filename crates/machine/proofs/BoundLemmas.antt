@@ -27,7 +27,7 @@ one_bound edges first sign m n one y = ∥∥₁_elim one (ℕ_set m n) (λ x.
     let down = least edges first sign n m y x in
     omega (arith, up, down))
 
--- it is the one of the program
+-- that bound is the program's
 pub bound_is : (p : ProgramModel) (bound : QueueBounds) (n : ℕ) (side : Side) (parts : Parts) (k : ℕ) → AreBounds p bound
     → option_map (λ (c : ContractModel). c.parts) (slice_get p.contracts n) ≡ Some parts → ∥ IsBound parts.edges parts.first (sign_to side) k ∥₁ → k ≡ bound n side
 bound_is p bound n side parts k are there is = at (slice_get p.contracts n) refl there
@@ -41,6 +41,6 @@ bound_is p bound n side parts k are there is = at (slice_get p.contracts n) refl
 outside : (contracts : List ContractModel) (n : ℕ) → slice_get contracts n ≡ None → length contracts ≤ n
 outside contracts n none = ⊎_elim (λ h. absurd (let there = h.2 in cc)) (λ h. h.0) (slice_get_cases contracts n).1
 
--- where there is no contract, there is no room
+-- a contract that does not exist has bound 0
 pub bound_past : (p : ProgramModel) (bound : QueueBounds) (n : ℕ) (side : Side) → AreBounds p bound → slice_get p.contracts n ≡ None → 0 ≡ bound n side
 bound_past p bound n side are none = sym (are.past n side (outside p.contracts n none))

@@ -1,5 +1,5 @@
--- The owners lead up from a block in a chain, which is no longer than there are blocks. So what is inside a block, through any number
--- of blocks, goes with it.
+-- The owners from a block upward are a chain, which is no longer than the list of blocks. So whatever is inside
+-- a block, directly or not, goes with it.
 use Rattle.std.proofs.Common.{◌≡◌, ◌==◌, ℕ, zero, suc, ◌+◌, ◌<◌, ◌≤◌, Bool, true, false, List, [], ◌∷◌, length, refl, sym, ap, ◌∙◌}
 use Rattle.std.proofs.Common.{subst, arith, inl, inr, ⊎_elim}
 use Rattle.std.proofs.lemmas.Bool.{cases_Bool, cases_eq, cases_lt, eqb-true}
@@ -13,7 +13,7 @@ use Rattle.machine.proofs.ChangeLemmas.{eqb_apart, eqb_same, true≢false}
 use Rattle.machine.proofs.HeapLemmas.{past}
 
 -- ---- numbers below a bound
--- how often the numbers below this one stand in a list, all together
+-- the number of elements of a list that are less than n
 abbrev below_in : List ℕ → ℕ → ℕ
 below_in xs zero = 0
 below_in xs (suc n) = occurs xs n + below_in xs n
@@ -22,7 +22,7 @@ below_none : (n : ℕ) → below_in [] n ≡ 0
 below_none zero = refl
 below_none (suc n) = let e = below_none n in omega arith
 
--- one more in the list counts by itself
+-- one more element adds its own share
 below_more : (x : ℕ) (xs : List ℕ) (n : ℕ) → below_in (x ∷ xs) n ≡ below_in (x ∷ []) n + below_in xs n
 below_more x xs zero = refl
 below_more x xs (suc n) = let e = below_more x xs n in omega arith
@@ -50,7 +50,7 @@ below_one x (suc n) lt = ⊎_elim
     omega arith)
     (cases_eq x n)
 
--- all of a list are below
+-- all elements are less than n
 abbrev AllBelow : List ℕ → ℕ → Type 0
 AllBelow [] n = Unit {0}
 AllBelow (x ∷ xs) n = (x < n) × AllBelow xs n
@@ -63,7 +63,7 @@ below_few : (xs : List ℕ) (n : ℕ) → ((x : ℕ) → occurs xs x ≤ 1) → 
 below_few xs zero h = omega arith
 below_few xs (suc n) h = let e = below_few xs n h in let o = h n in omega arith
 
--- numbers below a bound, none of them twice, are at most as many
+-- a list without duplicates whose elements are less than n has at most n elements
 few_below : (xs : List ℕ) (n : ℕ) → AllBelow xs n → ((x : ℕ) → occurs xs x ≤ 1) → length xs ≤ n
 few_below xs n within once = let e = below_all xs n within in let f = below_few xs n once in omega arith
 
@@ -74,7 +74,7 @@ inside_same o b c e f = let g : Inside b ≡ Inside c = sym e ∙ f in cc
 pub is_inside_same : (b : ℕ) → is_inside (Inside b) b ≡ true
 is_inside_same b = eqb_same b b refl
 
--- an owner is a block, or it is none
+-- an owner is a block or not
 pub inside_or : (o : Owner) → ((b : ℕ) × (o ≡ Inside b)) ⊎ ((b : ℕ) → is_inside o b ≡ false)
 inside_or (Process n) = inr (λ b. refl)
 inside_or (Queue n) = inr (λ b. refl)
@@ -91,12 +91,12 @@ is_inside_is Freed b e = absurd (cc)
 
 -- ---- chains
 module _ (bs : List Block) where
-  -- through how many blocks an address lies in one that lies in none
+  -- the number of blocks around an address
   abbrev pub depth : (x : ℕ) → Rooted bs x → ℕ
   depth x (top a out) = 0
   depth x (below a b is r) = suc (depth b r)
 
-  -- it is one number
+  -- it does not depend on the proof
   pub depth_one : (x y : ℕ) → x ≡ y → (r : Rooted bs x) (s : Rooted bs y) → depth x r ≡ depth y s
   depth_one x y e (top a out) (top c out2) = refl
   depth_one x y e (top a out) (below c d is s) =
@@ -109,7 +109,7 @@ module _ (bs : List Block) where
       let k : (block_at bs x).owner ≡ Inside d = ap (λ (n : ℕ). (block_at bs n).owner) e ∙ is2 in
       ap suc (depth_one b d (inside_same (block_at bs x).owner b d is k) r s)
 
-  -- the addresses that lie in a block, from this one outward
+  -- the addresses from this one upward that are inside a block
   abbrev chain : (x : ℕ) → Rooted bs x → List ℕ
   chain x (top a out) = []
   chain x (below a b is r) = x ∷ chain b r
@@ -118,7 +118,7 @@ module _ (bs : List Block) where
   chain_long x (top a out) = refl
   chain_long x (below a b is r) = ap suc (chain_long b r)
 
-  -- what lies in a block is there
+  -- an address that is inside a block exists
   pub inside_there : (x b : ℕ) → (block_at bs x).owner ≡ Inside b → x < length bs
   inside_there x b is = ⊎_elim (λ e. e)
       (λ long. absurd (let k : Channel ≡ Inside b = sym (ap (λ (y : Block). y.owner) (past bs x long)) ∙ is in cc))
@@ -128,7 +128,7 @@ module _ (bs : List Block) where
   chain_within x (top a out) = tt
   chain_within x (below a b is r) = (inside_there x b is, chain_within b r)
 
-  -- each address of a chain lies no deeper than where the chain begins
+  -- no address of a chain is deeper than the first one
   chain_depth : (x y : ℕ) (r : Rooted bs x) → 0 < occurs (chain x r) y → (s : Rooted bs y) → depth y s ≤ depth x r
   chain_depth x y (top a out) some s = absurd (omega arith)
   chain_depth x y (below a b is r) some s = ⊎_elim
@@ -140,7 +140,7 @@ module _ (bs : List Block) where
       omega arith)
       (cases_Bool (x == y))
 
-  -- so no address stands in it twice
+  -- so no address is in the chain twice
   chain_once : (x : ℕ) (r : Rooted bs x) (y : ℕ) → occurs (chain x r) y ≤ 1
   chain_once x (top a out) y = omega arith
   chain_once x (below a b is r) y = ⊎_elim
@@ -155,11 +155,11 @@ module _ (bs : List Block) where
           let k = chain_depth b y r less (subst (λ (n : ℕ). Rooted bs n) e (below x b is r)) in
           omega arith)) (λ le. omega arith) (cases_lt 0 (occurs (chain b r) y))
 
-  -- an address lies in no more blocks than there are
+  -- no address is deeper than the number of blocks
   pub depth_few : (x : ℕ) (r : Rooted bs x) → depth x r ≤ length bs
   depth_few x r = let k = few_below (chain x r) (length bs) (chain_within x r) (chain_once x r) in let e = chain_long x r in omega arith
 
-  -- ---- what lies in a block, by its chain
+  -- ---- what is inside a block, by its chain
   abbrev pub reaches : (a x : ℕ) → Rooted bs x → Bool
   reaches a x (top y out) = x == a
   reaches a x (below y b is r) = (x == a) || reaches a b r
@@ -197,7 +197,7 @@ module _ (bs : List Block) where
         by (top y out) = eqb_same a a refl
         by (below y b is r) = ap (λ (t : Bool). t || reaches a b r) (eqb_same a a refl)
 
-    -- what lies directly in a block goes where that goes
+    -- what is directly inside a block that goes, goes too
     pub goes_down : (a x b : ℕ) → (block_at bs x).owner ≡ Inside b → goes_with bs a b ≡ true → goes_with bs a x ≡ true
     goes_down a x b is goes =
         let r = below x b is (rooted b) in
@@ -208,7 +208,7 @@ module _ (bs : List Block) where
         by true = refl
         by false = refl
 
-    -- and nothing else goes
+    -- nothing else goes
     pub goes_up : (a x : ℕ) → goes_with bs a x ≡ true
         → (x ≡ a) ⊎ ((b : ℕ) × ((block_at bs x).owner ≡ Inside b) × (goes_with bs a b ≡ true))
     goes_up a x goes = by (rooted x) (sym (goes_reaches a x) ∙ goes)
@@ -223,7 +223,7 @@ module _ (bs : List Block) where
     pub all_inside : (a : ℕ) → AreAllInside bs a (goes_with bs a)
     all_inside a = record { itself = goes_self a; down = goes_down a; up = goes_up a }
 
-    -- of two such sets of blocks each has what the other has
+    -- of two sets that are all that is inside a block, each contains the other
     among : (a : ℕ) (these those : ℕ → Bool) → AreAllInside bs a these → AreAllInside bs a those → (y : ℕ) → Rooted bs y → these y ≡ true
         → those y ≡ true
     among a these those h k y (top c out) t = ⊎_elim (λ e. ap those e ∙ k.itself)
@@ -233,7 +233,7 @@ module _ (bs : List Block) where
         (subst (λ (n : ℕ). these n ≡ true) (inside_same (block_at bs y).owner u.0 b u.1 is) u.2)))
         (h.up y t)
 
-    -- nothing else is all that is inside a block
+    -- `goes_with` is the only such set
     pub goes_alone : (a : ℕ) (these : ℕ → Bool) → AreAllInside bs a these → (x : ℕ) → these x ≡ goes_with bs a x
     goes_alone a these h x = ⊎_elim
         (λ t. t ∙ sym (among a these (goes_with bs a) h (all_inside a) x (rooted x) t))

@@ -31,7 +31,7 @@ changed_same f g same (b ∷ bs) =
     let more : change_each (λ a. f (suc a)) bs ≡ change_each (λ a. g (suc a)) bs = changed_same (λ a. f (suc a)) (λ a. g (suc a)) (λ j. same (suc j)) bs in
     cc
 
--- nothing changes
+-- a change that leaves each block as it is
 pub changed_none : (f : ℕ → Block → Block) → ((j : ℕ) (b : Block) → f j b ≡ b) → (bs : List Block) → change_each f bs ≡ bs
 changed_none f same [] = refl
 changed_none f same (b ∷ bs) =
@@ -39,12 +39,12 @@ changed_none f same (b ∷ bs) =
     let more : change_each (λ a. f (suc a)) bs ≡ bs = changed_none (λ a. f (suc a)) (λ j. same (suc j)) bs in
     cc
 
--- one change after another
+-- two changes in sequence are one
 pub changed_twice : (f g : ℕ → Block → Block) (bs : List Block) → change_each g (change_each f bs) ≡ change_each (λ j b. g j (f j b)) bs
 changed_twice f g [] = refl
 changed_twice f g (b ∷ bs) = ap (λ xs. g 0 (f 0 b) ∷ xs) (changed_twice (λ a. f (suc a)) (λ a. g (suc a)) bs)
 
--- what is written at one address
+-- a change of only one address is a write at that address
 pub changed_set : (f : ℕ → Block → Block) (bs : List Block) (a : ℕ) → a < length bs → ((j : ℕ) (b : Block) → j ≢ a → f j b ≡ b) → set bs a (f a (block_at bs a)) ≡ change_each f bs
 changed_set f [] a short same = refl
 changed_set f (b ∷ bs) zero short same =
@@ -55,7 +55,7 @@ changed_set f (b ∷ bs) (suc a) short same =
     let more : set bs a (f (suc a) (block_at bs a)) ≡ change_each (λ j. f (suc j)) bs = changed_set (λ j. f (suc j)) bs a less (λ j c apart. same (suc j) c (λ e. apart (omega arith))) in
     cc
 
--- past the end nothing is written
+-- a change of only an address past the end changes nothing
 pub changed_past : (f : ℕ → Block → Block) (bs : List Block) (a : ℕ) → length bs ≤ a → ((j : ℕ) (b : Block) → j ≢ a → f j b ≡ b) → change_each f bs ≡ bs
 changed_past f [] a past same = refl
 changed_past f (b ∷ bs) zero past same = absurd (omega arith)
@@ -65,11 +65,11 @@ changed_past f (b ∷ bs) (suc a) past same =
     let rest : change_each (λ j. f (suc j)) bs ≡ bs = changed_past (λ j. f (suc j)) bs a more (λ j c apart. same (suc j) c (λ e. apart (omega arith))) in
     cc
 
--- a change of the addresses below a bound
+-- the change at addresses below i only
 abbrev pub below_changed : (ℕ → Block → Block) → ℕ → ℕ → Block → Block
 below_changed f i j b = if nat_lt j i then f j b else b
 
--- a change of one address
+-- the change at address i only
 abbrev pub only_changed : (ℕ → Block → Block) → ℕ → ℕ → Block → Block
 only_changed f i j b = if j == i then f j b else b
 
@@ -123,14 +123,14 @@ seen_at [] i d short = absurd (omega arith)
 seen_at (x ∷ bs) zero d short = refl
 seen_at (x ∷ bs) (suc i) d short = let less : i < length bs = omega arith in seen_at bs i d less
 
--- one block is written
+-- a write at one address
 pub written : (f : ℕ → Block → Block) (now : List made.Block.Block) (i : ℕ) (d b : made.Block.Block) → i < length now → block_model b ≡ f i (block_model (get_or now i d)) → blocks_model (set now i b) ≡ change_each (only_changed f i) (blocks_model now)
 written f now i d b short is =
     let long : length (blocks_model now) ≡ length now = seen_length now in
     let at : block_at (blocks_model now) i ≡ block_model (get_or now i d) = seen_at now i d short in
     seen_set now i b ∙ (ap (set (blocks_model now) i) (is ∙ ap (f i) (sym at)) ∙ only_set f (blocks_model now) i (omega arith))
 
--- a scan is one further
+-- a loop over the blocks changed one more
 pub scanned : (f : ℕ → Block → Block) (old : List Block) (now : List made.Block.Block) (i : ℕ) (d b : made.Block.Block) → i < length now → blocks_model now ≡ change_each (below_changed f i) old → block_model b ≡ f i (block_model (get_or now i d)) → blocks_model (set now i b) ≡ change_each (below_changed f (i + 1)) old
 scanned f old now i d b short before is =
     written f now i d b short is

@@ -11,13 +11,13 @@ use Rattle.machine.specs.declared.worlds.Block as made_block
 use Rattle.machine.specs.declared.worlds.Held as made_held
 use Rattle.machine.proofs.ChangeLemmas.{eqb_apart, seen_length}
 
--- a count that is not 0 is there
+-- a count that is not 0 is in the list
 pub some_in : (xs : List ℕ) (q : ℕ) → 0 < get_or xs q 0 → q < length xs
 some_in [] q some = absurd (omega arith)
 some_in (x ∷ xs) zero some = omega arith
 some_in (x ∷ xs) (suc q) some = let less : q < length xs = some_in xs q some in omega arith
 
--- one less at one place
+-- one count is decremented
 pub one_less : (xs : List ℕ) (q p : ℕ) → 0 < get_or xs q 0 → get_or (set xs q (get_or xs q 0 - 1)) p 0 + one_if (q == p) ≡ get_or xs p 0
 one_less xs q p some =
     let short : q < length xs = some_in xs q some in
@@ -34,7 +34,7 @@ one_less xs q p some =
     omega arith)
     (eqb_tells q p)
 
--- one more at one place
+-- one count is incremented
 pub one_more : (xs : List ℕ) (q p : ℕ) → q < length xs → get_or (set xs q (get_or xs q 0 + 1)) p 0 ≡ get_or xs p 0 + one_if (q == p)
 one_more xs q p short =
     ⊎_elim
@@ -54,7 +54,7 @@ pub one_or_none : (b : Bool) → one_if b ≤ 1
 one_or_none true = omega arith
 one_or_none false = omega arith
 
--- no process has more blocks than there are
+-- no process owns more blocks than exist
 pub owned_most : (bs : List Block) (q : ℕ) → owned_by bs q ≤ length bs
 owned_most [] q = omega arith
 owned_most (b ∷ bs) q =
@@ -62,13 +62,13 @@ owned_most (b ∷ bs) q =
     let more : owned_by bs q ≤ length bs = owned_most bs q in
     omega arith
 
--- a process that has a block at an address has one
+-- a process that owns a block has a count of at least 1
 pub owned_some : (bs : List Block) (a q : ℕ) → is_process (block_at bs a).owner q ≡ true → 0 < owned_by bs q
 owned_some [] a q own = absurd (cc)
 owned_some (b ∷ bs) zero q own = let one : one_if (is_process b.owner q) ≡ 1 = ap one_if own in omega arith
 owned_some (b ∷ bs) (suc a) q own = let more : 0 < owned_by bs q = owned_some bs a q own in omega arith
 
--- a block is put in the place of another
+-- a block is overwritten
 pub owned_set : (bs : List Block) (a q : ℕ) (b : Block) → a < length bs
     → owned_by (set bs a b) q + one_if (is_process (block_at bs a).owner q) ≡ owned_by bs q + one_if (is_process b.owner q)
 owned_set [] a q b short = absurd (omega arith)
@@ -78,12 +78,12 @@ owned_set (x ∷ bs) (suc a) q b short =
     let more : owned_by (set bs a b) q + one_if (is_process (block_at bs a).owner q) ≡ owned_by bs q + one_if (is_process b.owner q) = owned_set bs a q b less in
     omega arith
 
--- a block comes
+-- a block is appended
 pub owned_added : (bs : List Block) (b : Block) (q : ℕ) → owned_by (bs ++ b ∷ []) q ≡ owned_by bs q + one_if (is_process b.owner q)
 owned_added [] b q = omega arith
 owned_added (x ∷ bs) b q = let more : owned_by (bs ++ b ∷ []) q ≡ owned_by bs q + one_if (is_process b.owner q) = owned_added bs b q in omega arith
 
--- changes that leave owners as they are
+-- a change that leaves owners as they are
 pub owned_kept : (f : ℕ → Block → Block) (bs : List Block) (q : ℕ) → ((j : ℕ) (b : Block) → (f j b).owner ≡ b.owner) → owned_by (change_each f bs) q ≡ owned_by bs q
 owned_kept f [] q kept = refl
 owned_kept f (b ∷ bs) q kept =
@@ -103,7 +103,7 @@ none_owned (b ∷ bs) q = none_with (is_process b.owner q) (owned_by bs q) (owns
 pub counted_kept : (f : ℕ → Block → Block) (bs : List Block) (counts : List ℕ) → ((j : ℕ) (b : Block) → (f j b).owner ≡ b.owner) → IsCounted bs counts → IsCounted (change_each f bs) counts
 counted_kept f bs counts kept is = record { counts_are = λ q. is.counts_are q ∙ sym (owned_kept f bs q kept) }
 
--- a block goes from one owner to another
+-- a block changes its owner
 pub counted_moved : (bs : List Block) (olds mids news : List ℕ) (a : ℕ) (b : Block) → a < length bs → IsCounted bs olds
     → ((q : ℕ) → get_or mids q 0 + one_if (is_process (block_at bs a).owner q) ≡ get_or olds q 0)
     → ((q : ℕ) → get_or news q 0 ≡ get_or mids q 0 + one_if (is_process b.owner q))
@@ -120,7 +120,7 @@ counted_moved bs olds mids news a b short is less more = record {
 pub counted_added : (bs : List Block) (olds news : List ℕ) (b : Block) → IsCounted bs olds → ((q : ℕ) → get_or news q 0 ≡ get_or olds q 0 + one_if (is_process b.owner q)) → IsCounted (bs ++ b ∷ []) news
 counted_added bs olds news b is more = record { counts_are = λ q. more q ∙ (ap (λ n. n + one_if (is_process b.owner q)) (is.counts_are q) ∙ sym (owned_added bs b q)) }
 
--- the count of a process that has a block is one of them
+-- a process that owns a block has a positive count
 pub some_counted : (bs : List Block) (counts : List ℕ) (a q : ℕ) → IsCounted bs counts → is_process (block_at bs a).owner q ≡ true → 0 < get_or counts q 0
 some_counted bs counts a q is own =
     let some : 0 < owned_by bs q = owned_some bs a q own in
@@ -130,7 +130,7 @@ some_counted bs counts a q is own =
 pub listed_own : (bs : List Block) (counts : List ℕ) (a q : ℕ) → IsCounted bs counts → is_process (block_at bs a).owner q ≡ true → q < length counts
 listed_own bs counts a q is own = some_in counts q (some_counted bs counts a q is own)
 
--- a count of 0 for a process that has none
+-- a count of 0 is appended
 pub counted_listed : (bs : List Block) (counts : List ℕ) → IsCounted bs counts → IsCounted bs (counts ++ 0 ∷ [])
 counted_listed bs counts is = record { counts_are = λ q. with_zero counts q ∙ is.counts_are q }
   where
@@ -140,13 +140,13 @@ counted_listed bs counts is = record { counts_are = λ q. with_zero counts q ∙
     with_zero (x ∷ xs) zero = refl
     with_zero (x ∷ xs) (suc q) = with_zero xs q
 
--- blocks were changed so far, and the counts with them
+-- the blocks that were changed so far, with the counts
 pub record Handed (f : ℕ → Block → Block) (old now : List made_block.Block) (olds counts : List ℕ) : Type 0 where
   pub seen : blocks_model now ≡ change_each f (blocks_model old)
   pub counted : IsCounted (blocks_model now) counts
   pub listed : length counts ≡ length olds
 
--- what the messages so far bring, and the next one
+-- the addresses that the messages so far bring, and those of the next one
 pub brings_more : (queue : List made_held.Held) (i : ℕ) (d : made_held.Held) → i < length queue
     → brings (map held_model (take (i + 1) queue)) ≡ brings (map held_model (take i queue)) ++ (get_or queue i d).payload.items
 brings_more [] i d short = absurd (omega arith)
@@ -165,7 +165,7 @@ counted_most blocks counts is q =
     let long : length (blocks_model blocks) ≡ length blocks = seen_length blocks in
     omega arith
 
--- a count can grow
+-- a count can be incremented without overflow
 pub room_for : {Z : Type 0} (blocks : Vec made_block.Block Z) (counts : List ℕ) → IsCounted (blocks_model blocks.items) counts → (q : ℕ) → get_or counts q 0 < 2 ^ 63
 room_for blocks counts is q =
     let most : get_or counts q 0 ≤ length blocks.items = counted_most blocks.items counts is q in

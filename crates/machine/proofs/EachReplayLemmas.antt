@@ -1,4 +1,4 @@
--- Events have a replay.
+-- Any events have a replay.
 use Rattle.std.proofs.Common.{◌≡◌, ℕ, zero, suc, ◌+◌, ◌⊎◌, inl, inr, List, [], ◌∷◌, length, take, Option, None, Some, Err, refl, sym}
 use Rattle.std.proofs.Common.{subst, arith, ⊎_elim}
 use Rattle.std.specs.Option.{option_map}
@@ -20,7 +20,7 @@ use Rattle.machine.specs.declared.halts.Fault.{Fault}
 use Rattle.machine.specs.declared.halts.Halt.{Halt}
 use Rattle.machine.specs.declared.halts.Halt.TheVariants as halt
 
--- a fault has a place
+-- the instruction of a fault has a place
 place_at : (p : ProgramModel) (bound : QueueBounds) (w : World) (e : Event) (fault : Fault) (f : Frame) (rest : List Frame)
     (i : Option Instruction)
     → outcome_of p bound w e f rest i ≡ Faulty fault → (at : Place) × (option_map place_of i ≡ Some at)
@@ -32,13 +32,13 @@ place_in : (p : ProgramModel) (bound : QueueBounds) (w : World) (e : Event) (fau
 place_in p bound w e fault [] is = absurd (cc)
 place_in p bound w e fault (f ∷ rest) is = place_at p bound w e fault f rest (instruction_at p f) is
 
--- an event that is no step of a world, and why
+-- why an event is no step in a world
 record IsStopped (p : ProgramModel) (bound : QueueBounds) (w : World) (e : Event) : Type 0 where
   pub why : Halt
   pub tells : TellsStep {X = Unit {0}} (Err why) (event_outcome p bound w e) (process_place p w e.process) w
   pub known : MayEndReplay (Some why)
 
--- an event is a step, or there is a reason why not
+-- an event is a step, or there is a reason why it is none
 step_or_stop : (p : ProgramModel) (bound : QueueBounds) (w : World) (e : Event) (o : Outcome) → event_outcome p bound w e ≡ o
     → ((v : World) × (event_outcome p bound w e ≡ Moved v)) ⊎ IsStopped p bound w e
 step_or_stop p bound w e (Moved v) is = inl (v, is)
@@ -49,11 +49,11 @@ step_or_stop p bound w e Waits is = inr (record { why = halt.Waits; tells = is; 
 step_or_stop p bound w e NoProcess is = inr (record { why = halt.NoSuchProcess; tells = is; known = tt })
 step_or_stop p bound w e NoChoice is = inr (record { why = halt.NoSuchChoice; tells = is; known = tt })
 
--- what a list of events is read as past its end
+-- the event that is read past the end of a list
 abbrev no_event : Event
 no_event = record { process = 0; choice = 0 }
 
--- a replay, of which so many steps are taken and so many events are left
+-- a replay, given that this many steps were taken and this many events are left
 replay_from : (p : ProgramModel) (bound : QueueBounds) (m : ℕ) (events : List Event) (left steps : ℕ) (w : World) → steps + left ≡ length events
     → RunsTo p bound (start_of p m) (take steps events) w → (r : ReplayModel) × IsReplay p bound m events r
 replay_from p bound m events zero steps w all led =

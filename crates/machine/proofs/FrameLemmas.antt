@@ -1,4 +1,4 @@
--- The variables of a frame, one after the other.
+-- The variables of a frame, one after another.
 use Rattle.std.proofs.Common.{◌≡◌, ℕ, ◌+◌, ◌<◌, ◌≤◌, true, false, List, [], ◌∷◌, ◌++◌, length, drop, slice_index_or, refl, sym, ap, ◌∙◌, ◌⊎◌, inl, inr, set, Some, None, map, arith}
 use Rattle.std.specs.Prelude.{IfNone, Option, if◌then◌else◌, is_some}
 use Rattle.std.proofs.lemmas.List.{append-nil, append_assoc, at_drop_all, at_drop_more, length_push}
@@ -15,13 +15,13 @@ use Rattle.machine.specs.World.{Block, is_own, let_go, read}
 use Rattle.machine.specs.declared.halts.Fault.TheVariants.{F1}
 use Rattle.machine.proofs.GiveLemmas.{passes, refuses}
 
--- one more argument is let go
+-- one more argument is given away
 pub lets_more : (variables less : List (Option ℕ)) (arguments : List Argument) (n : ℕ) (d : Argument) → n < length arguments → less ≡ let_go variables (slice_index_or arguments n d ∷ [])
     → let_go less (drop (n + 1) arguments) ≡ let_go variables (drop n arguments)
 lets_more variables less arguments n d lt is =
     ap (λ xs. let_go xs (drop (n + 1) arguments)) is ∙ sym (at_drop_more (let_go variables) arguments n d lt)
 
--- one more payload is let go
+-- one more payload is given away
 pub claims_more : (variables less : List (Option ℕ)) (payloads : List Mention) (n : ℕ) (d : Mention) → n < length payloads
     → less ≡ set variables (slice_index_or payloads n d).variable.0 None
     → let_go less (payloads_claimed (drop (n + 1) payloads)) ≡ let_go variables (payloads_claimed (drop n payloads))
@@ -29,7 +29,7 @@ claims_more variables less payloads n d lt is =
     ap (λ xs. let_go xs (payloads_claimed (drop (n + 1) payloads))) is
     ∙ sym (at_drop_more (λ l. let_go variables (payloads_claimed l)) payloads n d lt)
 
--- nothing more is bound
+-- nothing is left to bind
 pub bound_none : (variables : List (Option ℕ)) (bound : List VarId) (payload : List ℕ) (n : ℕ) → (length bound ≤ n) ⊎ (length payload ≤ n)
     → bound_to variables (drop n bound) (drop n payload) ≡ variables
 bound_none variables bound payload n (inl le) = at_drop_all (λ l. bound_to variables l (drop n payload)) bound n le ∙ no_bound (drop n payload)
@@ -43,7 +43,7 @@ bound_none variables bound payload n (inr le) = at_drop_all (bound_to variables 
     no_payload [] = refl
     no_payload (v ∷ vs) = refl
 
--- one more is bound
+-- one more variable is bound
 pub bound_more : (variables less : List (Option ℕ)) (bound : List VarId) (payload : List ℕ) (n : ℕ) (d : VarId) (e : ℕ) → n < length bound → n < length payload
     → less ≡ set variables (slice_index_or bound n d).0 (Some (slice_index_or payload n e))
     → bound_to less (drop (n + 1) bound) (drop (n + 1) payload) ≡ bound_to variables (drop n bound) (drop n payload)
@@ -52,11 +52,11 @@ bound_more variables less bound payload n d e first second is =
     ∙ at_drop_more (bound_to variables (slice_index_or bound n d ∷ drop (n + 1) bound)) payload n e second
     ∙ ap (λ r. bound_to r (drop (n + 1) bound) (drop (n + 1) payload)) (sym is))
 
--- what is given for the arguments
+-- what the variables of the arguments have
 abbrev pub given_for : List (Option ℕ) → List Argument → List (Option ℕ)
 given_for variables arguments = map (λ a. read variables a.mention.variable.0) arguments
 
--- So many variables of a method that begins are filled, with so many arguments.
+-- this many variables of a method that begins are filled, from this many arguments
 pub record Filled (has : List (Option ℕ)) (variables : List Variable) (arguments : List Argument) (done given : ℕ) (so_far : List (Option ℕ)) : Type 0 where
   pub within : given ≤ length arguments
   pub many : length so_far ≡ done
@@ -65,7 +65,7 @@ pub record Filled (has : List (Option ℕ)) (variables : List Variable) (argumen
 pub filled_none : (has : List (Option ℕ)) (variables : List Variable) (arguments : List Argument) → Filled has variables arguments 0 0 []
 filled_none has variables arguments = record { within = omega arith; many = refl; is = refl }
 
--- one more
+-- one more variable is filled
 pushed_on : (so_far more xs : List (Option ℕ)) (x : Option ℕ) → more ≡ so_far ++ x ∷ [] → so_far ++ x ∷ xs ≡ more ++ xs
 pushed_on so_far more xs x is = sym (append_assoc so_far (x ∷ []) xs) ∙ ap (λ l. l ++ xs) (sym is)
 
@@ -133,7 +133,7 @@ pub filled_all : (has : List (Option ℕ)) (variables : List Variable) (argument
 filled_all has variables arguments done given so_far le h =
     sym (h.is ∙ (ap (λ l. so_far ++ l) (at_drop_all (λ l. variables_at_entry (map variable_model l) (given_for has (drop given arguments))) variables done le) ∙ append-nil so_far))
 
--- so many were looked at
+-- the tests of this many endpoints passed
 pub record Own (blocks : List Block) (self : ℕ) (variables : List (Option ℕ)) (endpoints : List Mention) (done : ℕ) : Type 0 where
   pub tests : (more : List FaultTest) (o : Outcome) → after_tests (own_tests blocks self variables endpoints ++ more) o ≡ after_tests (own_tests blocks self variables (drop done endpoints) ++ more) o
 
@@ -165,7 +165,7 @@ own_fails blocks self variables endpoints done d lt is h more o =
 pub own_all : (blocks : List Block) (self : ℕ) (variables : List (Option ℕ)) (endpoints : List Mention) (done : ℕ) → length endpoints ≤ done → Own blocks self variables endpoints done → Pass (own_tests blocks self variables endpoints)
 own_all blocks self variables endpoints done le h = λ more o. h.tests more o ∙ at_drop_all (λ l. after_tests (own_tests blocks self variables l ++ more) o) endpoints done le
 
--- what holds where nothing is, and nothing is
+-- a fact for the case of nothing, if there is nothing
 pub none_of : (o : Option ℕ) (P : Type 0) → is_some o ≡ false → IfNone o P → P
 none_of None P isnt h = h
 none_of (Some x) P isnt h = absurd (cc)

@@ -1,4 +1,4 @@
--- A block is freed with all that is inside it, a step at a time.
+-- A block is freed with all that is inside it, one step at a time.
 use Rattle.std.proofs.Common.{◌≡◌, ◌≢◌, ◌==◌, ℕ, zero, suc, ◌+◌, ◌<◌, Bool, not, List, [], ◌∷◌, ◌++◌, Option, Some, None, length}
 use Rattle.std.proofs.Common.{refl, sym, ap, ◌∙◌, subst, arith, false, true, inl, inr}
 use Rattle.std.specs.Prelude.{if◌then◌else◌}
@@ -19,7 +19,7 @@ use Rattle.machine.proofs.Holding.{unqueued, unqueued_same}
 abbrev weight : Block → ℕ
 weight b = length b.fields + one_if (not (is_freed b.owner))
 
--- how many addresses fields hold, and how many blocks are not freed
+-- the number of addresses in fields, plus the number of blocks that are not freed
 abbrev size : List Block → ℕ
 size [] = 0
 size (b ∷ bs) = weight b + size bs
@@ -69,8 +69,8 @@ size_freed bs x short empty lives = size_less (freed_one x) bs x short
     let l : one_if (not (is_freed (block_at bs x).owner)) ≡ 1 = ap (λ (t : Bool). one_if (not t)) lives in
     omega arith)
 
--- ---- the way
--- what is left when the way ends, or what is true where it goes on
+-- ---- the path
+-- what is true when the path has ended, or while it goes on
 abbrev pub IsOnWay : List Block → ℕ → List Block → Option ℕ → Type 0
 IsOnWay old a now None = (now ≡ change_each (freed_block (goes_with old a)) old) × QueuesBring now
 IsOnWay old a now (Some x) = Frees old a now x × QueuesBring now
@@ -85,7 +85,7 @@ way_begins bs a h is own = (begins bs a h own, is)
 pub way_there : (old : List Block) (a : ℕ) (now : List Block) (x : ℕ) → IsOnWay old a now (Some x) → x < length now
 way_there old a now x h = x_there old a now x h.0
 
--- the way goes on, or ends
+-- after a step the path goes on or has ended
 pub way_on : (old : List Block) (a : ℕ) (now new : List Block) (x : ℕ) (r : Option ℕ) → IsOnWay old a now (Some x) → IsStep now new x r
     → IsOnWay old a new r
 way_on old a now new x None h s = (
@@ -103,7 +103,7 @@ way_on old a now new x (Some y) h (inr s) =
       brought_freed now x (x_there old a now x h.0) (x_no_queue old a now x h.0) h.1,
     )
 
--- and less is left to do
+-- each step leaves less to do
 pub way_less : (old : List Block) (a : ℕ) (now new : List Block) (x : ℕ) (r : Option ℕ) → IsOnWay old a now (Some x) → IsStep now new x r
     → left_over new r < left_over now (Some x)
 way_less old a now new x None h s =
@@ -119,7 +119,7 @@ way_less old a now new x (Some y) h (inr s) =
     let k : size new ≡ size (change_each (freed_one x) now) = ap size s.0.blocks in
     omega arith
 
--- ---- one block has fewer fields
+-- ---- a block with fewer fields
 pub left_other : (x : ℕ) (rest : List ℕ) (j : ℕ) (b : Block) → j ≢ x → fields_left x rest j b ≡ b
 left_other x rest j b apart = ap (λ (t : Bool). with_parts b b.owner b.queue (if t then rest else b.fields)) (eqb_apart j x apart)
 

@@ -42,7 +42,8 @@ queue_one (Inside n) x = refl
 queue_one Channel x = refl
 queue_one Freed x = refl
 
--- Its queue is taken, what that brought goes to the channel, and it is nobody's: that is to free it, if its fields hold nothing.
+-- To free a block whose fields hold nothing: its queue is emptied, what that brought goes to the channel, and
+-- nobody owns the block.
 pub freed_is : (bs : List Block) (x : ℕ) → QueuesBring bs → (block_at bs x).fields ≡ []
     → change_each (with_new_owner Freed (x ∷ [])) (change_each (with_new_owner Channel (brings (block_at bs x).queue)) (change_each (left_in x []) bs))
     ≡ change_each (freed_one x) bs
@@ -67,7 +68,7 @@ freed_is bs x is empty =
         (eqb_same j x e))))
         (λ n. sym (ap (λ (t : Bool). if t then [] else (block_at bs j).fields) (eqb_apart j x n))) (cases_eq j x)
 
--- ---- queues still bring what they own
+-- ---- queues bring what they own
 same_both : (t : Bool) (q : List MessageHeld) → (if t then q else q) ≡ q
 same_both true q = refl
 same_both false q = refl
@@ -83,7 +84,7 @@ freed_at true false false a b j q o e none queue is =
     sym (ap (λ n. one_if (is_queue o n)) (eqb-true b a e) ∙ ap one_if queue)
 freed_at false false false a b j q o e none queue is = is
 
--- a block is freed that no queue owns
+-- if no queue owns the block, queues still bring what they own after it is freed
 pub brought_freed : (bs : List Block) (x : ℕ) → x < length bs → ((c : ℕ) → is_queue (block_at bs x).owner c ≡ false) → QueuesBring bs
     → QueuesBring (change_each (freed_one x) bs)
 brought_freed bs x short none is =

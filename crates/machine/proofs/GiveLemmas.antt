@@ -1,4 +1,4 @@
--- What is given, one argument after the other.
+-- What arguments give, one after another.
 use Rattle.std.proofs.Common.{◌≡◌, ℕ, ◌+◌, ◌==◌, ◌<◌, ◌≤◌, Bool, true, false, List, [], ◌∷◌, ◌++◌, Some, refl, sym, ap, subst, ◌∙◌, drop, length, take}
 use Rattle.std.specs.Prelude.{Option, if◌then◌else◌, ◌||◌, get_or}
 use Rattle.std.proofs.lemmas.List.{append-nil, append_assoc, drop_all, drop_more, get_or-map, length-map, take-append-drop, take-map, take_more}
@@ -25,11 +25,11 @@ pub refuses : (b : Bool) (f : Fault) (ts : List FaultTest) (o : Outcome) → b �
 refuses b f ts o h = ap (λ t. after_tests (test t f ∷ ts) o) h
 
 -- ---- what is claimed
--- what an argument claims, in front of what was claimed before
+-- what an argument claims, followed by what was claimed before
 abbrev one_claimed : List (Option ℕ) → List ℕ → Argument → List ℕ
 one_claimed variables taken x = if x.claimed then address (read variables x.mention.variable.0) ∷ taken else taken
 
--- arguments claim what the first of them claim, and then what the others do
+-- the claims of joined lists are those of the first, then those of the second
 claimed_both : (variables : List (Option ℕ)) (taken : List ℕ) (xs ys : List Argument)
     → claimed_in variables taken (xs ++ ys) ≡ claimed_in variables (claimed_in variables taken xs) ys
 claimed_both variables taken [] ys = refl
@@ -42,7 +42,7 @@ claimed_more : (variables : List (Option ℕ)) (arguments : List Argument) (done
 claimed_more variables arguments done d lt =
     ap (claimed_in variables []) (take_more arguments done d lt) ∙ claimed_both variables [] (take done arguments) (get_or arguments done d ∷ [])
 
--- what is claimed stays so
+-- what was claimed remains claimed
 claimed_stays : (variables : List (Option ℕ)) (taken : List ℕ) (a : ℕ) (xs : List Argument) → is_among taken a ≡ true → is_among (claimed_in variables taken xs) a ≡ true
 claimed_stays variables taken a [] is = is
 claimed_stays variables taken a (x ∷ xs) is =
@@ -56,7 +56,7 @@ claimed_stays variables taken a (x ∷ xs) is =
     at true b taken is = or_true (b == a) (is_among taken a) is
     at false b taken is = is
 
--- the argument at hand claims the block at an address
+-- the argument at an index claims the block at an address
 pub claims : (variables : List (Option ℕ)) (arguments : List Argument) (n a : ℕ) (d : Argument) → n < length arguments
     → (get_or arguments n d).claimed ≡ true → address (read variables (get_or arguments n d).mention.variable.0) ≡ a
     → is_among (claimed_in variables [] arguments) a ≡ true
@@ -71,7 +71,7 @@ claims variables arguments n a d lt claimed is =
     ∙ (ap (λ l. is_among (claimed_in variables taken l) a) (drop_more arguments n d lt)
     ∙ claimed_stays variables (one_claimed variables taken x) a (drop (n + 1) arguments) here))
 
--- it does not
+-- the argument at an index does not claim it
 pub claims_not : (variables : List (Option ℕ)) (arguments : List Argument) (n a : ℕ) (d : Argument) → n < length arguments
     → is_among (claimed_in variables [] (take n arguments)) a ≡ false
     → ((get_or arguments n d).claimed ≡ true → address (read variables (get_or arguments n d).mention.variable.0) ≡ a → ⊥)
@@ -85,16 +85,16 @@ claims_not variables arguments n a d lt none misses =
     at false b taken none misses = none
 
 -- ---- the tests
--- So many arguments were looked at, and their tests passed.
+-- the tests of this many arguments passed
 pub record Given (blocks : List Block) (self : ℕ) (variables : List (Option ℕ)) (arguments : List Argument) (done : ℕ) : Type 0 where
   pub tests : (more : List FaultTest) (o : Outcome) → after_tests (argument_tests blocks self variables [] arguments ++ more) o
       ≡ after_tests (argument_tests blocks self variables (claimed_in variables [] (take done arguments)) (drop done arguments) ++ more) o
 
--- none was looked at
+-- no argument was tested yet
 pub given_none : (blocks : List Block) (self : ℕ) (variables : List (Option ℕ)) (arguments : List Argument) → Given blocks self variables arguments 0
 given_none blocks self variables arguments = record { tests = λ more o. refl }
 
--- the argument at hand is the first of those that are left
+-- the argument at this index is the next one to test
 tests_left : (blocks : List Block) (self : ℕ) (variables : List (Option ℕ)) (arguments : List Argument) (done : ℕ) (d : Argument) (more : List FaultTest) (o : Outcome) → done < length arguments
     → Given blocks self variables arguments done
     → after_tests (argument_tests blocks self variables [] arguments ++ more) o
@@ -102,7 +102,7 @@ tests_left : (blocks : List Block) (self : ℕ) (variables : List (Option ℕ)) 
 tests_left blocks self variables arguments done d more o lt h =
     h.tests more o ∙ ap (λ l. after_tests (argument_tests blocks self variables (claimed_in variables [] (take done arguments)) l ++ more) o) (drop_more arguments done d lt)
 
--- the next one is not the process's, or is claimed before
+-- the next argument is not owned, or was claimed before
 pub given_fails : (blocks : List Block) (self : ℕ) (variables : List (Option ℕ)) (arguments : List Argument) (done : ℕ) (d : Argument) (fault : Fault)
     → done < length arguments → Given blocks self variables arguments done
     → is_own_still blocks self (claimed_in variables [] (take done arguments)) (read variables (get_or arguments done d).mention.variable.0) ≡ false
@@ -116,7 +116,7 @@ given_fails blocks self variables arguments done d fault lt h fails is more o =
     (argument_tests blocks self variables (one_claimed variables taken x) (drop (done + 1) arguments) ++ more) o fails
     ∙ ap Faulty (sym is))
 
--- it is the process's still
+-- the next argument is owned and was not claimed before
 pub given_more : (blocks : List Block) (self : ℕ) (variables : List (Option ℕ)) (arguments : List Argument) (done : ℕ) (d : Argument)
     → done < length arguments → Given blocks self variables arguments done
     → is_own_still blocks self (claimed_in variables [] (take done arguments)) (read variables (get_or arguments done d).mention.variable.0) ≡ true
@@ -133,7 +133,7 @@ given_more blocks self variables arguments done d lt h own =
           ∙ ap (λ l. after_tests (argument_tests blocks self variables l rest ++ more) o) (sym (claimed_more variables arguments done d lt)));
     }
 
--- all were looked at
+-- all arguments were tested
 pub given_pass : (blocks : List Block) (self : ℕ) (variables : List (Option ℕ)) (arguments : List Argument) (done : ℕ) → length arguments ≤ done
     → Given blocks self variables arguments done → Pass (argument_tests blocks self variables [] arguments)
 given_pass blocks self variables arguments done le h =
@@ -141,7 +141,7 @@ given_pass blocks self variables arguments done le h =
     ∙ ap (λ l. after_tests (argument_tests blocks self variables (claimed_in variables [] (take done arguments)) l ++ more) o) (drop_all done arguments le)
 
 -- ---- the tests with a set
--- So many arguments were looked at, their tests passed, and the set has what they claim.
+-- the tests of this many arguments passed, and the set has what they claim
 pub record GivenBySet (blocks : List Block) (self : ℕ) (variables : List (Option ℕ)) (arguments : List Argument) (done : ℕ) (taken : BTreeSet ℕ) : Type 0 where
   pub given : Given blocks self variables arguments done
   pub are : AreIn (claimed_in variables [] (take done arguments)) taken
@@ -165,7 +165,7 @@ set_more blocks self variables arguments done taken more d a lt h has own takes 
     }
 
 -- ---- the addresses
--- the address in one more variable
+-- the address of one more argument
 pub address_more : (variables : List (Option ℕ)) (arguments : List Argument) (done : ℕ) (given pushed : List ℕ) (d : Argument) (a : ℕ) → done < length arguments
     → addresses variables arguments ≡ given ++ addresses variables (drop done arguments)
     → a ≡ address (read variables (get_or arguments done d).mention.variable.0) → pushed ≡ given ++ a ∷ []
@@ -188,7 +188,7 @@ sent_at payloads n d lt = get_or-map payload payloads n d (payload d) lt
 sent_short : (payloads : List Mention) (n : ℕ) → n < length payloads → n < length (payloads_claimed payloads)
 sent_short payloads n lt = subst (λ l. n < l) (sym (length-map payloads payload)) lt
 
--- the payload at hand is the block at an address
+-- the payload at an index is the block at an address
 pub sent_claims : (variables : List (Option ℕ)) (payloads : List Mention) (n a : ℕ) (d : Mention) → n < length payloads
     → address (read variables (get_or payloads n d).variable.0) ≡ a → is_among (claimed_in variables [] (payloads_claimed payloads)) a ≡ true
 sent_claims variables payloads n a d lt is =
@@ -196,7 +196,7 @@ sent_claims variables payloads n a d lt is =
     claims variables (payloads_claimed payloads) n a (payload d) (sent_short payloads n lt) (ap (λ x. x.claimed) at)
     (ap (λ x. address (read variables x.mention.variable.0)) at ∙ is)
 
--- it is not
+-- the payload at an index is not the block at an address
 pub sent_claims_not : (variables : List (Option ℕ)) (payloads : List Mention) (n a : ℕ) (d : Mention) → n < length payloads
     → is_among (claimed_in variables [] (take n (payloads_claimed payloads))) a ≡ false
     → (address (read variables (get_or payloads n d).variable.0) ≡ a → ⊥)
@@ -205,7 +205,7 @@ sent_claims_not variables payloads n a d lt none misses =
     claims_not variables (payloads_claimed payloads) n a (payload d) (sent_short payloads n lt) none
     (λ claimed is. misses (sym (ap (λ x. address (read variables x.mention.variable.0)) (sent_at payloads n d lt)) ∙ is))
 
--- the test of a payload, as that of an argument
+-- a payload is tested like a claimed argument
 sent_own : (blocks : List Block) (self : ℕ) (variables : List (Option ℕ)) (payloads : List Mention) (n : ℕ) (d : Mention) (own : Bool) → n < length payloads
     → is_own_still blocks self (claimed_in variables [] (payloads_claimed (take n payloads))) (read variables (get_or payloads n d).variable.0) ≡ own
     → is_own_still blocks self (claimed_in variables [] (take n (payloads_claimed payloads))) (read variables (get_or (payloads_claimed payloads) n (payload d)).mention.variable.0) ≡ own

@@ -37,7 +37,7 @@ other_queue (Inside x) a b here apart = refl
 other_queue Channel a b here apart = refl
 other_queue Freed a b here apart = refl
 
--- ---- how often a number is there
+-- ---- occurrences of a number
 occurs_both : (xs ys : List ℕ) (n : ℕ) → occurs (xs ++ ys) n ≡ occurs xs n + occurs ys n
 occurs_both [] ys n = omega arith
 occurs_both (x ∷ xs) ys n = let more : occurs (xs ++ ys) n ≡ occurs xs n + occurs ys n = occurs_both xs ys n in omega arith
@@ -94,25 +94,25 @@ queue_at f bs j none =
     ⊎_elim (λ h. ap (λ (b : Block). b.queue) (at_changed f bs j h))
     (λ h. ap (λ (b : Block). b.queue) (at_past f bs j h) ∙ (sym (none h) ∙ ap (λ b. (f j b).queue) (sym (past bs j h)))) (cases_lt j (length bs))
 
--- a process's block is there
+-- a block that a process owns exists
 pub own_there : (bs : List Block) (a : ℕ) → of_process (block_at bs a).owner ≡ true → a < length bs
 own_there bs a own = ⊎_elim (λ h. h) (λ h. absurd (let bad : false ≡ true = ap (λ (b : Block). of_process b.owner) (sym (past bs a h)) ∙ own in cc)) (cases_lt a (length bs))
 
 owned_there : (bs : List Block) (given : List ℕ) (j : ℕ) → AreOwned bs given → length bs ≤ j → is_among given j ≡ false
 owned_there bs given j owned long = ⊎_elim (λ t. absurd (let short : j < length bs = own_there bs j (owned.own j t) in omega arith)) (λ f. f) (cases_Bool (is_among given j))
 
--- an endpoint with a message is there
+-- an endpoint with a message exists
 queue_there : (bs : List Block) (a : ℕ) (m : MessageHeld) (ms : List MessageHeld) → (block_at bs a).queue ≡ m ∷ ms → a < length bs
 queue_there bs a m ms is = ⊎_elim (λ h. h) (λ h. absurd (let bad : [] ≡ m ∷ ms = ap (λ (b : Block). b.queue) (sym (past bs a h)) ∙ is in cc)) (cases_lt a (length bs))
 
--- ---- what stays true
+-- ---- what is preserved
 pub brought_by : (f : ℕ → Block → Block) (bs : List Block) → ((j : ℕ) → length bs ≤ j → (f j no_block).owner ≡ Channel) → ((a : ℕ) → length bs ≤ a → (f a no_block).queue ≡ [])
     → ((a j : ℕ) → occurs (brings (f a (block_at bs a)).queue) j ≡ one_if (is_queue (f j (block_at bs j)).owner a)) → QueuesBring (change_each f bs)
 brought_by f bs none empty is = record {
   brings_are = λ a j. ap (λ l. occurs (brings l) j) (queue_at f bs a (empty a)) ∙ (is a j ∙ ap (λ o. one_if (is_queue o a)) (sym (owner_at f bs j (none j))));
 }
 
--- owners and queues stay
+-- owners and queues are unchanged
 pub brought_kept : (f : ℕ → Block → Block) (bs : List Block) → ((j : ℕ) (b : Block) → (f j b).owner ≡ b.owner) → ((j : ℕ) (b : Block) → (f j b).queue ≡ b.queue) → QueuesBring bs → QueuesBring (change_each f bs)
 brought_kept f bs owners queues is =
     brought_by f bs (λ j h. owners j no_block) (λ a h. queues a no_block)
@@ -122,7 +122,7 @@ handed_at : (among : Bool) (to o : Owner) (a n : ℕ) → is_queue to a ≡ fals
 handed_at true to o a n free own is = is ∙ (ap one_if (no_queue o a (own refl)) ∙ ap one_if (sym free))
 handed_at false to o a n free own is = is
 
--- blocks of processes go to an owner that is no queue
+-- blocks of processes get an owner that is no queue
 pub brought_handed : (to : Owner) (bs : List Block) (given : List ℕ) → ((a : ℕ) → is_queue to a ≡ false) → AreOwned bs given → QueuesBring bs → QueuesBring (change_each (with_new_owner to given) bs)
 brought_handed to bs given free owned is =
     brought_by (with_new_owner to given) bs (λ j h. ap (λ t. if t then to else Channel) (owned_there bs given j owned h)) (λ a h. refl)
@@ -151,7 +151,7 @@ brought_sent bs at state to m owned once short is =
     (λ a h. ap (λ t. if t && not false then m ∷ [] else []) (eqb_apart a to (λ e. omega arith)))
     (λ a j. sent_at (a == to) (is_among m.payload j) to a j m (block_at bs a).queue (block_at bs j).owner (owned.own j) (once.once j) (is.brings_are a j) (eqb_swap to a))
 
--- a block that the front of a queue brings is the queue's
+-- a block that the front message of a queue brings is owned by the queue
 pub front_is : (bs : List Block) (at j : ℕ) (m : MessageHeld) (ms : List MessageHeld) → (block_at bs at).queue ≡ m ∷ ms → QueuesBring bs
     → occurs m.payload j + occurs (brings ms) j ≡ one_if (is_queue (block_at bs j).owner at)
 front_is bs at j m ms here is = sym (occurs_both m.payload (brings ms) j) ∙ (ap (λ l. occurs (brings l) j) (sym here) ∙ is.brings_are at j)

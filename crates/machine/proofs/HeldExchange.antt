@@ -1,4 +1,4 @@
--- A block and what a field of another holds change places: fields hold what is inside their block as before.
+-- A block and what a field of another holds change places: fields still hold exactly what is inside their block.
 use Rattle.std.proofs.Common.{◌≡◌, ◌≢◌, ◌==◌, ℕ, zero, suc, ◌+◌, ◌<◌, Bool, true, false, List, [], ◌∷◌, Some, set}
 use Rattle.std.proofs.Common.{refl, sym, ap, ◌∙◌, subst, arith, inl, inr, ⊎_elim}
 use Rattle.std.proofs.lemmas.Bool.{cases_eq}
@@ -26,7 +26,7 @@ occurs_there (y ∷ xs) zero x e =
     omega arith
 occurs_there (y ∷ xs) (suc i) x e = let k = occurs_there xs i x e in omega arith
 
--- one number of a list takes the place of another
+-- an element of a list is overwritten
 occurs_set : (xs : List ℕ) (i x y j : ℕ) → slice_get xs i ≡ Some x
     → occurs (set xs i y) j + one_if (x == j) ≡ occurs xs j + one_if (y == j)
 occurs_set [] i x y j e = absurd (cc)
@@ -36,7 +36,7 @@ occurs_set (z ∷ xs) zero x y j e =
     omega arith
 occurs_set (z ∷ xs) (suc i) x y j e = let k = occurs_set xs i x y j e in omega arith
 
--- an address that a field holds is inside the block
+-- an address that a field holds is inside the block of the field
 pub field_inside : (bs : List Block) (a i x : ℕ) → FieldsHold bs → slice_get (block_at bs a).fields i ≡ Some x
     → (block_at bs x).owner ≡ Inside a
 field_inside bs a i x h e =
@@ -173,7 +173,7 @@ module _ (bs : List Block) (self at field given held : ℕ) (h : FieldsHold bs) 
       (λ g. ⊎_elim (λ s. absurd (let k : Process self ≡ Inside b = sym (owner_held j s) ∙ is in cc))
       (λ s. inr (sym (owner_other j g s) ∙ is)) (cases_eq j held)) (cases_eq j given)
 
-  -- fields hold what is inside their block as before
+  -- fields still hold what is inside their block
   pub exchange_held : FieldsHold changes
   exchange_held = record {
     holds_are = holds_now;

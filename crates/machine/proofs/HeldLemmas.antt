@@ -22,7 +22,7 @@ use Rattle.machine.proofs.HeldNew as new
 use Rattle.machine.proofs.Holding.{held_same, inside_not_queue, not_inside, owned_there, process_no_queue, queue_not_inside}
 use Rattle.machine.proofs.WayKept.{with_parts}
 
--- fields stay, and what is inside which block
+-- fields are unchanged, and so is what is inside which block
 held_by : (f : ℕ → Block → Block) (bs : List Block) → ((j : ℕ) (b : Block) → (f j b).fields ≡ b.fields)
     → ((j a : ℕ) → is_inside (f j (block_at bs j)).owner a ≡ is_inside (block_at bs j).owner a) → FieldsHold bs → FieldsHold (change_each f bs)
 held_by f bs fields inside h = held_same bs (change_each f bs) (λ a. ⊎_elim
@@ -32,7 +32,7 @@ held_by f bs fields inside h = held_same bs (change_each f bs) (λ a. ⊎_elim
     (λ p. ap (λ (b : Block). is_inside b.owner a) (at_past f bs j p) ∙ sym (ap (λ (b : Block). is_inside b.owner a) (past bs j p)))
     (cases_lt j (length bs))) h
 
--- owners and fields stay
+-- owners and fields are unchanged
 pub held_kept : (f : ℕ → Block → Block) (bs : List Block) → ((j : ℕ) (b : Block) → (f j b).owner ≡ b.owner)
     → ((j : ℕ) (b : Block) → (f j b).fields ≡ b.fields) → FieldsHold bs → FieldsHold (change_each f bs)
 held_kept f bs owners fields h = held_by f bs fields (λ j a. ap (λ (o : Owner). is_inside o a) (owners j (block_at bs j))) h
@@ -42,7 +42,7 @@ to_same : (t : Bool) (to o : Owner) (a : ℕ) → is_inside to a ≡ false → (
 to_same true to o a out was = out ∙ sym (was refl)
 to_same false to o a out was = refl
 
--- blocks of processes go to an owner that is no block
+-- blocks of processes get an owner that is no block
 pub held_handed : (to : Owner) (bs : List Block) (given : List ℕ) → ((a : ℕ) → is_inside to a ≡ false) → AreOwned bs given → FieldsHold bs
     → FieldsHold (change_each (with_new_owner to given) bs)
 held_handed to bs given out owned h = held_by (with_new_owner to given) bs (λ j b. refl)
@@ -81,7 +81,7 @@ inside_added (x ∷ bs) b (suc j) a own = inside_added bs b j a own
 pub held_added : (bs : List Block) (b : Block) → of_process b.owner ≡ true → b.fields ≡ [] → FieldsHold bs → FieldsHold (bs ++ b ∷ [])
 held_added bs b own empty h = held_same bs (bs ++ b ∷ []) (λ a. fields_added bs b a empty) (λ j a. inside_added bs b j a own) h
 
--- what queues bring is the same, and what they own
+-- what queues bring is unchanged, and so is what they own
 brought_same : (bs bs' : List Block) → ((a : ℕ) → (block_at bs' a).queue ≡ (block_at bs a).queue)
     → ((j a : ℕ) → is_queue (block_at bs' j).owner a ≡ is_queue (block_at bs j).owner a) → QueuesBring bs → QueuesBring bs'
 brought_same bs bs' queues owners is = record {
@@ -98,7 +98,7 @@ exchanged_one self at field given held j b =
     ∙ ap (λ (t : Bool). with_parts b (if j == given then Inside at else (if t then Process self else b.owner)) b.queue
     (if j == at then set b.fields field given else b.fields)) (or_false (held == j) ∙ eqb_swap held j)
 
--- a field is written, what it held goes to the process, and what is given goes into the block
+-- a field is written, what it held goes to the process, and the given block is inside the block of the field
 pub exchanged_is : (self at field given held : ℕ) (bs : List Block)
     → change_each (with_new_owner (Inside at) (given ∷ [])) (change_each (with_new_owner (Process self) (held ∷ [])) (change_each (with_field at field given) bs))
     ≡ change_each (exchanged_block self at field given held) bs
@@ -130,19 +130,19 @@ module _ (bs : List Block) (self at field given held : ℕ) (h : FieldsHold bs) 
   pub exchange_holds : FieldsHold (change_each (exchanged_block self at field given held) bs)
   exchange_holds = exchange.exchange_held bs self at field given held h owned_at owned_given apart found
 
--- ---- a process has a new block, into which goes what it gives
+-- ---- a process has a new block with what it gives inside
 changed_append : (f : ℕ → Block → Block) (bs : List Block) (b : Block) → change_each f (bs ++ b ∷ []) ≡ change_each f bs ++ f (length bs) b ∷ []
 changed_append f [] b = refl
 changed_append f (x ∷ bs) b = ap (λ (xs : List Block). f 0 x ∷ xs) (changed_append (λ a. f (suc a)) bs b)
 
--- the new block, whose queue is empty, and whose fields are what is given
+-- the new block: its queue is empty, and its fields hold what is given
 pub made_model : (ty : HeapType) (self : ℕ) (given : List ℕ) (queue : List made_held.Held) (fields : List ℕ) → queue ≡ [] → fields ≡ given
     → with_parts (new_block ty self 0 0 given) (Process self) (map held_model queue) fields ≡ new_block ty self 0 0 given
 made_model ty self given queue fields empty same =
     ap (λ (q : List made_held.Held). with_parts (new_block ty self 0 0 given) (Process self) (map held_model q) fields) empty
     ∙ ap (with_parts (new_block ty self 0 0 given) (Process self) []) same
 
--- it is put behind the others
+-- the new block is appended
 pub made_pushed : (made : Block) (old new : List made_block.Block) (b : made_block.Block) → new ≡ old ++ b ∷ [] → block_model b ≡ made
     → blocks_model new ≡ blocks_model old ++ made ∷ []
 made_pushed made old new b pushed same =
@@ -151,7 +151,7 @@ made_pushed made old new b pushed same =
 module _ (bs : List Block) (self : ℕ) (given : List ℕ) (ty : HeapType) (h : FieldsHold bs)
     (mine : (x : ℕ) → is_among given x ≡ true → owns bs self x ≡ true)
     (once : (x : ℕ) → occurs given x ≡ one_if (is_among given x)) where
-  -- The block stands behind the others, and then what is given goes into it.
+  -- appending the block first and then putting inside what is given has the same result
   pub made_is : change_each (with_new_owner (Inside (length bs)) given) (bs ++ new_block ty self 0 0 given ∷ [])
       ≡ change_each (with_new_owner (Inside (length bs)) given) bs ++ new_block ty self 0 0 given ∷ []
   made_is = changed_append (with_new_owner (Inside (length bs)) given) bs (new_block ty self 0 0 given)
@@ -162,7 +162,7 @@ module _ (bs : List Block) (self : ℕ) (given : List ℕ) (ty : HeapType) (h : 
       none = ⊎_elim (λ t. absurd (let k = owned_there bs self (length bs) (mine (length bs) t) in omega arith)) (λ f. f)
           (cases_Bool (is_among given (length bs)))
 
-  -- the same of the blocks as they were on the way
+  -- the same, stated with the intermediate lists
   pub grown_is : (n : ℕ) (before pushed now : List Block) → n ≡ length bs → before ≡ bs
       → pushed ≡ before ++ new_block ty self 0 0 given ∷ []
       → now ≡ change_each (with_new_owner (Inside n) given) pushed

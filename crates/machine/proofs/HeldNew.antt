@@ -1,4 +1,4 @@
--- A new block, with what is given for its fields: fields hold what is inside their block as before.
+-- A new block with what is given for its fields: fields still hold exactly what is inside their block.
 use Rattle.std.proofs.Common.{◌≡◌, ◌≢◌, ℕ, zero, suc, ◌<◌, ◌≤◌, Bool, true, false, List, [], ◌∷◌, ◌++◌, length}
 use Rattle.std.proofs.Common.{refl, sym, ap, ◌∙◌, arith, inl, inr, ⊎_elim}
 use Rattle.std.proofs.lemmas.Bool.{cases_Bool, cases_eq, cases_lt}
@@ -56,7 +56,7 @@ module _ (bs : List Block) (self : ℕ) (given : List ℕ) (ty : HeapType) (h : 
       })
       (⊎_elim (λ t. absurd (let k = owned_there bs self j (mine j t) in omega arith)) (λ e. e) (cases_Bool (is_among given j))))
 
-  -- an address that was there before
+  -- an address that existed before
   pub grown_old : (j : ℕ) → j < length bs → block_at grown j ≡ with_new_owner (Inside new_at) given j (block_at bs j)
   grown_old j less = added_old put_in made j (let e = put_long in omega arith) ∙ put_at j
 
@@ -66,7 +66,7 @@ module _ (bs : List Block) (self : ℕ) (given : List ℕ) (ty : HeapType) (h : 
   pub grown_past : (j : ℕ) → length bs < j → block_at grown j ≡ no_block
   grown_past j more = past grown j (let e = put_long in let k = length_push put_in made in omega arith)
 
-  -- each address: there before, the new one, or none
+  -- an address existed before, or is the new one, or does not exist
   abbrev Where : ℕ → Type 0
   Where j = (j < length bs) ⊎ ((j ≡ new_at) ⊎ (length bs < j))
 
@@ -139,7 +139,7 @@ module _ (bs : List Block) (self : ℕ) (given : List ℕ) (ty : HeapType) (h : 
       (λ t. inr (is_inside_is (block_at bs j).owner b
       (sym (inside_stays j b t) ∙ (ap (λ (o : Owner). is_inside o b) is ∙ is_inside_same b)))) (cases_Bool (is_among given j))
 
-  -- fields hold what is inside their block as before
+  -- fields still hold what is inside their block
   pub new_held : FieldsHold grown
   new_held = record {
     holds_are = holds_grown;

@@ -1,4 +1,4 @@
--- Fields hold what is inside their block, and owners lead up in finitely many steps: what keeps this true.
+-- Fields hold what is inside their block, and owners lead up in finitely many steps: how this is preserved.
 use Rattle.std.proofs.Common.{◌≡◌, ◌≢◌, ℕ, ◌<◌, Bool, true, false, List, [], length}
 use Rattle.std.proofs.Common.{refl, sym, ap, ◌∙◌, subst, arith, ⊎_elim}
 use Rattle.std.proofs.lemmas.Bool.{cases_Bool}
@@ -40,15 +40,15 @@ inside_not_process o b q e = ap (λ (x : Owner). is_process x q) e
 pub inside_not_queue : (o : Owner) (b a : ℕ) → o ≡ Inside b → is_queue o a ≡ false
 inside_not_queue o b a e = ap (λ (x : Owner). is_queue x a) e
 
--- a block of a process is there
+-- a block of a process exists
 pub owned_there : (bs : List Block) (q a : ℕ) → owns bs q a ≡ true → a < length bs
 owned_there bs q a o = own_there bs a (of_some (block_at bs a).owner q o)
 
--- the owner of a block that stays, when the queues of endpoints that meet a condition are emptied
+-- an owner after the queues of endpoints with this property were emptied
 abbrev pub unqueued : (ℕ → Bool) → Owner → Owner
 unqueued P o = if in_queue_of o P then Channel else o
 
--- what is the same of a queue and of the channel stays
+-- a property that treats queues and the channel alike is unchanged
 pub unqueued_same : {X : Type 0} (f : Owner → X) (P : ℕ → Bool) (o : Owner) → ((q : ℕ) → f Channel ≡ f (Queue q)) → f (unqueued P o) ≡ f o
 unqueued_same f P (Process n) same = refl
 unqueued_same f P (Queue n) same = by (P n)
@@ -60,8 +60,8 @@ unqueued_same f P (Inside n) same = refl
 unqueued_same f P Channel same = refl
 unqueued_same f P Freed same = refl
 
--- ---- chains stay finite
--- nothing is put into a block
+-- ---- chains remain finite
+-- nothing is put inside a block
 pub rooted_less : (bs bs' : List Block) → ((j b : ℕ) → (block_at bs' j).owner ≡ Inside b → (block_at bs j).owner ≡ Inside b)
     → (x : ℕ) → Rooted bs x → Rooted bs' x
 rooted_less bs bs' less x (top a out) = top x (λ b. ⊎_elim
@@ -73,7 +73,8 @@ rooted_less bs bs' less x (below a b is r) = ⊎_elim
     (λ out. top x out)
     (inside_or (block_at bs' x).owner)
 
--- Blocks are put into one that is inside no other. Other owners stay, or blocks come out of blocks.
+-- Blocks are put inside one that is itself inside no other; the remaining owners are unchanged, or blocks come out
+-- of blocks.
 pub rooted_put : (bs bs' : List Block) (at : ℕ) → ((b : ℕ) → is_inside (block_at bs' at).owner b ≡ false)
     → ((j b : ℕ) → (block_at bs' j).owner ≡ Inside b → (b ≡ at) ⊎ ((block_at bs j).owner ≡ Inside b)) → (x : ℕ) → Rooted bs x → Rooted bs' x
 rooted_put bs bs' at root put x (top a out) = ⊎_elim
@@ -86,7 +87,7 @@ rooted_put bs bs' at root put x (below a c is s) = ⊎_elim
     (rooted_put bs bs' at root put c s))) (put x k.0 k.1))
     (λ out. top x out) (inside_or (block_at bs' x).owner)
 
--- ---- nothing is put into a block, and nothing comes out
+-- ---- nothing goes into a block or comes out
 pub held_same : (bs bs' : List Block) → ((a : ℕ) → (block_at bs' a).fields ≡ (block_at bs a).fields)
     → ((j a : ℕ) → is_inside (block_at bs' j).owner a ≡ is_inside (block_at bs j).owner a) → FieldsHold bs → FieldsHold bs'
 held_same bs bs' fields inside h = record {
@@ -103,7 +104,7 @@ module _ (bs : List Block) (a : ℕ) (h : FieldsHold bs) (own : of_process (bloc
   abbrev left : List Block
   left = change_each (freed_block goes) bs
 
-  -- what goes is the block itself, or is directly inside what goes
+  -- what goes is the block itself, or directly inside a block that goes
   up : (x : ℕ) → goes x ≡ true → (x ≡ a) ⊎ ((b : ℕ) × ((block_at bs x).owner ≡ Inside b) × (goes b ≡ true))
   up = goes_up bs h.rooted a
 
@@ -127,7 +128,7 @@ module _ (bs : List Block) (a : ℕ) (h : FieldsHold bs) (own : of_process (bloc
   owner_then : (j : ℕ) → (block_at left j).owner ≡ owner_left (goes j) (block_at bs j).owner
   owner_then j = ap (λ (b : Block). b.owner) (left_at j)
 
-  -- what stays is inside the same block as before
+  -- what remains is inside the same block as before
   inside_left : (j b : ℕ) → goes j ≡ false → is_inside (block_at left j).owner b ≡ is_inside (block_at bs j).owner b
   inside_left j b f = ap (λ (o : Owner). is_inside o b) (owner_then j)
       ∙ (ap (λ (t : Bool). is_inside (owner_left t (block_at bs j).owner) b) f
@@ -163,7 +164,7 @@ module _ (bs : List Block) (a : ℕ) (h : FieldsHold bs) (own : of_process (bloc
               (λ k. ap (λ (o : Owner). is_inside o b) k.1 ∙ eqb_apart k.0 b (λ e. true≢false k.2 (ap goes e ∙ s))) (up j t)
       by false false s t = ap (λ (xs : List ℕ). occurs xs j) (fields_stay b s) ∙ (h.holds_are b j ∙ sym (ap one_if (inside_left j b t)))
 
-  -- fields hold what is inside their block as before
+  -- fields still hold what is inside their block
   pub held_freed : FieldsHold left
   held_freed = record {
     holds_are = holds_left;
@@ -173,12 +174,12 @@ module _ (bs : List Block) (a : ℕ) (h : FieldsHold bs) (own : of_process (bloc
         (sym (inside_left j b f) ∙ (ap (λ (o : Owner). is_inside o b) is ∙ is_inside_same b))) (cases_Bool (goes j))) x (h.rooted x);
   }
 
-  -- no queue owned what goes
+  -- no queue owned a block that goes
   pub gone_no_queue : (x c : ℕ) → goes x ≡ true → is_queue (block_at bs x).owner c ≡ false
   gone_no_queue x c g = ⊎_elim
       (λ e. no_queue (block_at bs x).owner c (ap (λ (n : ℕ). of_process (block_at bs n).owner) e ∙ own))
       (λ k. inside_not_queue (block_at bs x).owner k.0 c k.1) (up x g)
 
-  -- no process owned what goes, but for the block itself
+  -- no process owned a block that goes, except the block itself
   pub gone_no_process : (x q : ℕ) → goes x ≡ true → x ≢ a → owns bs q x ≡ false
   gone_no_process x q g n = ⊎_elim (λ e. absurd (n e)) (λ k. inside_not_process (block_at bs x).owner k.0 q k.1) (up x g)

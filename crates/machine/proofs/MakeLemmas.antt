@@ -1,4 +1,4 @@
--- A new block, into which goes what is given: its tests, and what they say.
+-- A new block with what is given inside: its tests, and what follows from them.
 use Rattle.std.proofs.Common.{◌≡◌, ℕ, List, [], ◌∷◌, ◌++◌, Some, ap, ◌∙◌, refl, subst, sym, length, set}
 use Rattle.std.specs.Prelude.{Option}
 use Rattle.program.specs.declared.call.Argument.{Argument}
@@ -15,7 +15,7 @@ use Rattle.machine.specs.declared.worlds.Owner.TheVariants.{Inside}
 use Rattle.machine.proofs.CallLemmas.{pass_alone, refused_alone}
 use Rattle.machine.proofs.PassLemmas.{pass_once, pass_owned_by}
 
--- The blocks b are those that were tested.
+-- b: the blocks as they were tested
 module _ (bs b : List Block) (self : ℕ) (variables : List (Option ℕ)) (same : bs ≡ b) where
   pub tests_pass : (arguments : List Argument) (o : Outcome) → Pass (argument_tests b self variables [] arguments)
       → after_tests (argument_tests bs self variables [] arguments) o ≡ o
@@ -29,7 +29,7 @@ module _ (bs b : List Block) (self : ℕ) (variables : List (Option ℕ)) (same 
       ∙ refused_alone (argument_tests b self variables [] arguments) fault o
       (after_tests (argument_tests b self variables [] arguments) o) fails refl
 
-  -- what is given is the process's, and nothing is given twice
+  -- the process owns what is given, and nothing is given twice
   pub given_owned : (payloads : List Mention) (given : List ℕ) → given ≡ addresses variables (payloads_claimed payloads)
       → Pass (argument_tests b self variables [] (payloads_claimed payloads)) → AreOwnedBy bs self given
   given_owned payloads given is pass = subst (λ (l : List Block). AreOwnedBy l self given) (sym same)
@@ -39,7 +39,7 @@ module _ (bs b : List Block) (self : ℕ) (variables : List (Option ℕ)) (same 
       → Pass (argument_tests b self variables [] (payloads_claimed payloads)) → AreOnce given
   given_once payloads given is pass = subst AreOnce (sym is) (pass_once b self variables payloads pass)
 
--- the blocks, when a process has made one of what it gives
+-- the blocks after a process makes a new one of what it gives
 abbrev pub blocks_with : (ty : HeapType) (self : ℕ) (given : List ℕ) → List Block → List Block
 blocks_with ty self given bs = change_each (with_new_owner (Inside (length bs)) given) bs ++ new_block ty self 0 0 given ∷ []
 
@@ -47,7 +47,7 @@ blocks_with ty self given bs = change_each (with_new_owner (Inside (length bs)) 
 abbrev pub frame_at : Frame → ℕ → List (Option ℕ) → Frame
 frame_at f point variables = record { method = f.method; point = point; variables = variables }
 
--- The world then. The frame f lets go what is given, takes the address, and is then f2.
+-- The world after that: the frame f loses what is given, its target gets the address, and it becomes f2.
 pub world_with : (processes : List (List Frame)) (self : ℕ) (rest : List Frame) (f f2 : Frame) (point target address : ℕ)
     (bs after : List Block) (arguments claimed : List Argument) (given : List ℕ) (left : List (Option ℕ)) (ty known : HeapType)
     → claimed ≡ arguments → given ≡ addresses f.variables arguments → address ≡ length bs → known ≡ ty → left ≡ let_go f.variables claimed

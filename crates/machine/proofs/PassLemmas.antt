@@ -1,4 +1,4 @@
--- What is known where tests pass.
+-- What follows if tests pass.
 use Rattle.std.proofs.Common.{◌≡◌, ◌==◌, ℕ, zero, suc, ◌+◌, ◌<◌, Bool, true, false, List, [], ◌∷◌, Some, None, refl, sym, ap, ◌∙◌}
 use Rattle.std.proofs.Common.{length, arith, ◌⊎◌, inl, inr, ⊎_elim}
 use Rattle.std.specs.Prelude.{Option, get_or, if◌then◌else◌, ◌||◌, ◌&&◌, not}
@@ -16,7 +16,7 @@ use Rattle.machine.specs.declared.halts.Fault.{Fault}
 use Rattle.machine.specs.declared.halts.Fault.TheVariants.{F1, F3}
 use Rattle.machine.proofs.HeapLemmas.{of_some}
 
--- the first of tests that pass is no fault
+-- if tests pass, the first of them holds
 first_passes : (own : Bool) (fault : Fault) (tests : List FaultTest) → Pass (test own fault ∷ tests) → own ≡ true
 first_passes true fault tests pass = refl
 first_passes false fault tests pass = absurd (let bad : Faulty fault ≡ Waits = pass [] Waits in cc)
@@ -25,7 +25,7 @@ rest_pass : (own : Bool) (fault : Fault) (tests : List FaultTest) → own ≡ tr
 rest_pass true fault tests is pass = λ more o. pass more o
 rest_pass false fault tests is pass = absurd (cc)
 
--- the process has the block in each of these variables
+-- the process owns the block in each of these variables
 pub pass_each : (bs : List Block) (self : ℕ) (variables : List (Option ℕ)) (es : List Mention) (i : ℕ) (d : Mention) → i < length es → Pass (own_tests bs self variables es)
     → is_own bs self (read variables (get_or es i d).variable.0) ≡ true
 pass_each bs self variables [] i d short pass = absurd (omega arith)
@@ -60,7 +60,7 @@ still_free : (bs : List Block) (self : ℕ) (taken : List ℕ) (x : Option ℕ) 
 still_free bs self taken None own = absurd (cc)
 still_free bs self taken (Some a) own = and_not (owns bs self a) (is_among taken a) own
 
--- arguments that pass their tests are blocks of the process
+-- arguments that pass their tests are blocks that the process owns
 pub pass_owned_by : (bs : List Block) (self : ℕ) (variables : List (Option ℕ)) (taken : List ℕ) (arguments : List Argument)
     → Pass (argument_tests bs self variables taken arguments) → AreOwnedBy bs self (addresses variables arguments)
 pass_owned_by bs self variables taken [] pass = record { own = λ j is. absurd (cc) }
@@ -82,7 +82,7 @@ pass_owned bs self variables taken arguments pass = record {
   own = λ j is. of_some (block_at bs j).owner self ((pass_owned_by bs self variables taken arguments pass).own j is);
 }
 
--- what a message or a new block claims is there once, and was not taken before
+-- what a message or a new block claims occurs once, and was not taken before
 pub record Once (taken given : List ℕ) : Type 0 where
   pub once : (j : ℕ) → occurs given j ≡ one_if (is_among given j)
   pub apart : (j : ℕ) → is_among taken j ≡ true → is_among given j ≡ false

@@ -1,4 +1,4 @@
--- Of one list of events there is one replay.
+-- A list of events has one replay.
 use Rattle.std.proofs.Common.{◌≡◌, ℕ, zero, suc, ◌<◌, ◌≤◌, List, [], ◌∷◌, ◌++◌, length, take, Option, None, Some, Err, refl, sym, ap, ◌∙◌}
 use Rattle.std.proofs.Common.{subst, arith, slice_get, ⊎_elim}
 use Rattle.std.proofs.lemmas.Bool.{cases_lt}
@@ -14,7 +14,7 @@ use Rattle.machine.specs.declared.halts.Halt.{Halt}
 use Rattle.machine.specs.declared.halts.Halt.TheVariants as halt
 use Rattle.source.specs.declared.place.Place.{Place}
 
--- what these events come to behind an outcome
+-- the outcome of these events after an outcome
 abbrev after : ProgramModel → QueueBounds → Outcome → List Event → Outcome
 after p bound o [] = o
 after p bound (Moved w) (e ∷ events) = after p bound (event_outcome p bound w e) events
@@ -33,7 +33,7 @@ after_both p bound NoProcess (e ∷ xs) (y ∷ ys) = refl
 after_both p bound NoChoice (e ∷ xs) [] = refl
 after_both p bound NoChoice (e ∷ xs) (y ∷ ys) = refl
 
--- events that lead to a world come to it
+-- events that lead to a world have it as their outcome
 leads_to : (p : ProgramModel) (bound : QueueBounds) (w v : World) (events : List Event) → RunsTo p bound w events v
     → after p bound (Moved w) events ≡ Moved v
 leads_to p bound w _ _ stays = refl
@@ -43,7 +43,7 @@ leads_to p bound w _ _ (moves events v u e led is) =
 moved_same : (w v : World) → Moved w ≡ Moved v → w ≡ v
 moved_same w v is = cc
 
--- an outcome that goes on is a move
+-- an outcome from which events lead to a world is a step
 went : (p : ProgramModel) (bound : QueueBounds) (o : Outcome) (events : List Event) (v : World) → after p bound o events ≡ Moved v
     → (w : World) × (o ≡ Moved w)
 went p bound (Moved w) events v is = (w, refl)
@@ -56,7 +56,7 @@ went p bound NoProcess (e ∷ events) v is = absurd (cc)
 went p bound NoChoice [] v is = absurd (cc)
 went p bound NoChoice (e ∷ events) v is = absurd (cc)
 
--- no halt tells of a move
+-- no halt matches a step
 halt_stays : (why : Halt) (w v : World) (o : Outcome) (place : Option Place) → MayEndReplay (Some why) → o ≡ Moved w
     → TellsStep {X = Unit {0}} (Err why) o place v → ⊥
 halt_stays halt.NoSuchProcess w v o place known is tells = absurd (let bad : NoProcess ≡ Moved w = sym tells ∙ is in cc)
@@ -65,7 +65,7 @@ halt_stays (halt.Fault f at) w v o place known is tells = absurd (let bad : Faul
 halt_stays halt.Waits w v o place known is tells = absurd (let bad : Waits ≡ Moved w = sym tells ∙ is in cc)
 halt_stays halt.Memory w v o place known is tells = absurd known
 
--- what a list has at a number is there
+-- an index with an event is within the list
 some_short : (events : List Event) (n : ℕ) (e : Event) → slice_get events n ≡ Some e → n < length events
 some_short [] n e is = absurd (cc)
 some_short (x ∷ events) zero e is = omega arith
@@ -76,7 +76,7 @@ ends_within : (p : ProgramModel) (bound : QueueBounds) (w : World) (events : Lis
 ends_within p bound w events n None ends = let all : n ≡ length events = ends in omega arith
 ends_within p bound w events n (Some why) ends = let short : n < length events = some_short events n ends.event ends.there in omega arith
 
--- more events begin with fewer
+-- a longer front of events begins with a shorter one
 take_apart : (events : List Event) (n k : ℕ) → n < k → k ≤ length events
     → (e : Event) × (more : List Event) × (slice_get events n ≡ Some e) × (take k events ≡ take n events ++ e ∷ more)
 take_apart [] n k less short = absurd (omega arith)
@@ -134,7 +134,7 @@ one_halt halt.Waits halt.Waits o place v kx ky tx ty = refl
 one_halt halt.Waits halt.Memory o place v kx ky tx ty = absurd ky
 one_halt halt.Memory y o place v kx ky tx ty = absurd kx
 
--- two ends behind the same steps are the same
+-- after the same steps, two replays end alike
 one_end : (p : ProgramModel) (bound : QueueBounds) (w : World) (events : List Event) (n : ℕ) (x y : Option Halt) → MayEndReplay x → MayEndReplay y
     → EndsWith p bound w events n x → EndsWith p bound w events n y → x ≡ y
 one_end p bound w events n None None kx ky ex ey = refl
@@ -153,11 +153,11 @@ one_end p bound w events n (Some x) (Some y) kx ky ex ey =
     ap (λ h. Some h) (one_halt x y (event_outcome p bound w ex.event) (process_place p w ex.event.process) w kx ky ex.tells
     (subst (λ (e : Event). TellsStep {X = Unit {0}} (Err y) (event_outcome p bound w e) (process_place p w e.process) w) same ey.tells))
 
--- replays of the same steps, end and world are one
+-- replays with the same steps, end and world are equal
 same_parts : (r s : ReplayModel) → r.world ≡ s.world → r.steps ≡ s.steps → r.halt ≡ s.halt → r ≡ s
 same_parts r s world steps halt = λ i. record { world = world i; steps = steps i; halt = halt i }
 
--- two replays of one method and one list of events
+-- two replays of one method and one list of events are equal
 pub one_replay : (p : ProgramModel) (bound : QueueBounds) (m : ℕ) (events : List Event) (r s : ReplayModel)
     → IsReplay p bound m events r → IsReplay p bound m events s → r ≡ s
 one_replay p bound m events r s one two =

@@ -12,7 +12,8 @@ use Rattle.machine.specs.declared.halts.Fault.TheVariants.{F1}
 use Rattle.machine.proofs.CallLemmas.{pass_alone}
 use Rattle.machine.proofs.GiveLemmas.{passes}
 
--- it changes the world; b, c and d are the blocks where the endpoint, the payloads and the way out are tested
+-- the outcome is the world after the send; b, c and d are the blocks as the tests of the endpoint, of the payloads
+-- and of the send read them
 pub send_moves : (p : ProgramModel) (bound : QueueBounds) (bs b c d : List Block) (self : ℕ) (variables : List (Option ℕ)) (e : ℕ) (x : Option ℕ) (at m : ℕ) (payloads sent : List Mention) (v : World)
     → bs ≡ b → bs ≡ c → bs ≡ d → sent ≡ payloads
     → x ≡ read variables e → x ≡ Some at → is_own b self x ≡ true

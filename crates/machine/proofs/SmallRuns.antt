@@ -64,7 +64,7 @@ abbrev row : List StatementModel → StatementsModel
 row [] = NoStatement
 row (s ∷ ss) = MoreStatements s (row ss)
 
--- it opens the channel, and then does this
+-- opens the channel, and then runs these statements
 abbrev opens : List StatementModel → ProgramModel
 opens statements = record {
   contracts = once ∷ [];
@@ -79,7 +79,7 @@ sends n = Send record { reads = []; place = at; endpoint = mention 1; message = 
 abbrev pub frees : Mention → StatementModel
 frees v = Simple [] (effects.Act (does.Delete v))
 
--- it makes a struct of what is given
+-- makes a struct with these arguments
 abbrev makes : List Mention → StatementModel
 makes arguments = New record { reads = []; target = mention 2; arguments = arguments }
 
@@ -93,7 +93,7 @@ abbrev next : ProgramModel → Outcome → Outcome
 next p (Moved w) = event_outcome p bound w event
 next p o = o
 
--- so many events of the first process
+-- the outcome of four events of the first process
 abbrev four : ProgramModel → Outcome
 four p = next p (next p (next p (next p (Moved (start_of p 0)))))
 
@@ -111,7 +111,7 @@ abbrev owners : List Block → List Owner
 owners [] = []
 owners (b ∷ bs) = b.owner ∷ owners bs
 
--- a struct is sent, and read then
+-- a struct is sent and then read
 abbrev reads_what_it_sent : ProgramModel
 reads_what_it_sent = opens (makes [] ∷ sends 2 ∷ Simple (mention 2 ∷ []) effects.Nothing ∷ [])
 
@@ -124,28 +124,28 @@ sent_then = refl
 pub read_then : four reads_what_it_sent ≡ Faulty F1
 read_then = refl
 
--- an end is sent along the other one, to itself, and the other one is freed: the process has nothing where it ends
+-- an end is sent along the other one, to itself, and the other one is freed: the process owns nothing when it ends
 abbrev sends_an_end : ProgramModel
 sends_an_end = opens (sends 0 ∷ frees (mention 1) ∷ [])
 
 pub end_sent : owners (blocks_of (three sends_an_end)) ≡ Queue 0 ∷ Freed ∷ []
 end_sent = refl
 
--- the importing end is freed, a struct is sent all the same, and goes to the channel
+-- the importing end is freed; a struct can still be sent, and goes to the channel
 abbrev sends_to_nobody : ProgramModel
 sends_to_nobody = opens (frees (mention 0) ∷ makes [] ∷ sends 2 ∷ [])
 
 pub lost_then : owners (blocks_of (four sends_to_nobody)) ≡ Freed ∷ Process 0 ∷ Channel ∷ []
 lost_then = refl
 
--- a message is sent twice where its contract has it once
+-- a message is sent twice, which the contract allows once
 abbrev sends_twice : ProgramModel
 sends_twice = opens (sends 0 ∷ makes [] ∷ sends 2 ∷ [])
 
 pub sent_twice : four sends_twice ≡ Faulty F4
 sent_twice = refl
 
--- the process ends, and still has the ends of its channel
+-- the process ends and still owns the ends of its channel
 abbrev keeps : ProgramModel
 keeps = opens []
 
@@ -168,7 +168,7 @@ deletes = record {
   methods = method (row (frees (mention 2) ∷ [])) ∷ [];
 }
 
--- A struct holds a struct, which holds one more, and an end. In the queue of that is a struct, which holds one itself.
+-- A struct holds a struct, which holds one more and an end. The queue of that end has a struct, which holds one itself.
 abbrev nested : List Block
 nested =
     struct_of (Process 0) (1 ∷ 3 ∷ [])
@@ -186,7 +186,7 @@ deleted = blocks_of (next deletes (Moved record {
   blocks = nested;
 }))
 
--- all that is inside the deleted struct is freed, and what the queue owned goes to the channel with what is inside it
+-- all that is inside the deleted struct is freed; what the queue owned goes to the channel, with what is inside it
 pub nested_deleted : deleted ≡
     struct_of Freed []
     ∷ struct_of Freed []
@@ -213,8 +213,8 @@ pub two_ends_deleted : blocks_of (next deletes (Moved record {
 })) ≡ struct_of Freed [] ∷ end_of Imp Freed 2 [] ∷ end_of Exp Freed 1 [] ∷ struct_of Channel [] ∷ []
 two_ends_deleted = refl
 
--- ---- what goes into blocks, and comes out
--- It makes a struct of the importing end, and then what a field of that holds and what a variable has change places.
+-- ---- what goes into blocks and comes out
+-- Makes a struct of the importing end; then what a field of it holds and what a variable has change places.
 abbrev exchanges : (field given : ℕ) → ProgramModel
 exchanges field given =
     opens
@@ -244,11 +244,11 @@ exchanged_then = refl
 pub had_then : had (three (exchanges 0 1)) ≡ None ∷ Some 0 ∷ Some 2 ∷ []
 had_then = refl
 
--- the struct has no second field
+-- the struct has no second field, so nothing changes
 pub none_exchanged : blocks_of (three (exchanges 1 1)) ≡ end_inside
 none_exchanged = refl
 
--- no block goes into itself, and nothing goes in that was given already
+-- no block goes into itself, and no block goes in that was given already
 pub not_into_itself : three (exchanges 0 2) ≡ Faulty F3
 not_into_itself = refl
 

@@ -1,4 +1,4 @@
--- Where a frame stands, and what stands behind a call.
+-- The instruction at which a frame is, and what follows a call.
 use Rattle.std.proofs.Common.{◌≡◌, ℕ, ◌≤◌, List, [], ◌∷◌, ◌++◌, length, map, Option, None, Some, IsSomeAnd, slice_get, sym, ap, ◌∙◌, reverse}
 use Rattle.std.specs.Prelude.{IsSome}
 use Rattle.std.specs.Option.{option_map}
@@ -18,18 +18,18 @@ use Rattle.machine.specs.Views.{frame_model, stack_of}
 use Rattle.machine.specs.World.{World}
 use Rattle.machine.specs.declared.worlds as made
 
--- what stands at a point of a method
+-- the instruction at a point of a method
 pub standing : (o : Option MethodModel) (g : Graph) (point : ℕ) (i : Option Instr) → IsSomeAnd o (λ s. graph_model g ≡ graph_of s) → slice_get g.instructions.items point ≡ i
     → option_map instruction_model i ≡ point_instruction o point
 standing None g point i graph is = absurd graph
 standing (Some s) g point i graph is =
     sym (ap (λ (h : GraphModel). slice_get h.instructions point) (sym graph) ∙ slice_get-map instruction_model g.instructions.items point ∙ ap (option_map instruction_model) is)
 
--- nothing stands in a method that is not there
+-- a method that does not exist has no instruction
 pub nowhere : (p : ProgramModel) (n point : ℕ) → length p.methods ≤ n → None ≡ point_instruction (method_at p n) point
 nowhere p n point past = sym (ap (λ o. point_instruction o point) (slice_get_past p.methods n past))
 
--- the frame that waits goes on
+-- the waiting frame goes on
 pub ended_goes : (p : ProgramModel) (bound : QueueBounds) (w : World) (self : ℕ) (value : Option Mention) (top : Option made.Frame.Frame) (waiting xs : List made.Frame.Frame) (g : made.Frame.Frame) (next : ℕ) (variables : List (Option ℕ))
     → IsSome top → waiting ≡ xs ++ g ∷ [] → next ≡ call_next (instruction_at p (frame_model g))
     → variables ≡ given_back value (call_target (instruction_at p (frame_model g))) (stack_of top xs) (frame_model g).variables

@@ -18,7 +18,7 @@ use Rattle.machine.specs.declared.worlds as made
 use Rattle.machine.proofs.CallLemmas.{pass_alone}
 use Rattle.machine.proofs.FrameLemmas.{given_for}
 
--- what a start comes to behind its tests
+-- the outcome of a start whose tests pass
 abbrev pub started_to : ProgramModel → World → ℕ → made.Frame.Frame → List Frame → MethodId → List Argument → ℕ → Outcome
 started_to p w self f rest method arguments next = Moved record {
   processes = set w.processes self (record { method = f.method.0; point = next; variables = let_go (frame_model f).variables arguments } ∷ rest)
@@ -26,7 +26,7 @@ started_to p w self f rest method arguments next = Moved record {
   blocks = change_each (with_new_owner (Process (length w.processes)) (addresses (frame_model f).variables arguments)) w.blocks;
 }
 
--- a start: its tests, and then that
+-- a start: its tests, and then that outcome
 pub start_is : (p : ProgramModel) (bound : QueueBounds) (w : World) (self : ℕ) (place : Place) (method : MethodId) (arguments given : List Argument) (next : ℕ) (stack : List Frame) (s : made.Process.Process) (f : made.Frame.Frame) (bs : List Block)
     → stack_model s ≡ stack → s.top ≡ Some f → bs ≡ w.blocks → given ≡ arguments
     → on_stack p bound w self (Start place method arguments next) 0 stack
@@ -38,7 +38,7 @@ start_is p bound w self place method arguments given next stack s f bs here top 
     ∙ (ap (λ b. after_tests (argument_tests b self (frame_model f).variables [] arguments) goes) (sym is)
     ∙ ap (λ l. after_tests (argument_tests bs self (frame_model f).variables [] l) goes) (sym args)))
 
--- a start whose tests pass
+-- a start whose tests pass has that outcome
 pub start_goes : (p : ProgramModel) (bound : QueueBounds) (w : World) (self : ℕ) (place : Place) (method : MethodId) (arguments given : List Argument) (next : ℕ) (stack : List Frame) (s : made.Process.Process) (f : made.Frame.Frame) (bs : List Block)
     → stack_model s ≡ stack → s.top ≡ Some f → bs ≡ w.blocks → given ≡ arguments → Pass (argument_tests bs self (frame_model f).variables [] given)
     → on_stack p bound w self (Start place method arguments next) 0 stack ≡ started_to p w self f (map frame_model (reverse s.waiting.items)) method arguments next
@@ -46,7 +46,7 @@ start_goes p bound w self place method arguments given next stack s f bs here to
     start_is p bound w self place method arguments given next stack s f bs here top is args
     ∙ pass_alone (argument_tests bs self (frame_model f).variables [] given) (started_to p w self f (map frame_model (reverse s.waiting.items)) method arguments next) pass
 
--- a process is as it was where another is pushed
+-- the other processes are unchanged when one is appended
 pushed_at : (ps : List made.Process.Process) (x : made.Process.Process) (q : ℕ) (u s : made.Process.Process) → q < length ps → u ≡ get_or (ps ++ x ∷ []) q u → s ≡ get_or ps q s → u ≡ s
 pushed_at [] x q u s lt now was = absurd (omega arith)
 pushed_at (y ∷ ps) x zero u s lt now was = now ∙ sym was

@@ -1,4 +1,4 @@
--- An instruction on a stack is one on its innermost frame.
+-- The outcome of an instruction on a stack is that on its innermost frame.
 use Rattle.std.proofs.Common.{◌≡◌, ℕ, List, ◌∷◌, Some, refl, ap, ◌∙◌, map, [], ◌<◌, length, set, sym, subst}
 use Rattle.std.specs.Prelude.{Option, Result, Ok, Err, OnErr, get_or, reverse}
 use Rattle.std.proofs.lemmas.List.{get_or-map, map-set}
@@ -40,7 +40,7 @@ run_same (Err h) ps q s t before after is same kept =
     let stacks : map stack_model (set ps q t) ≡ map stack_model ps = map-set_same stack_model ps q t s (same ∙ ap stack_model is) in
     ap (λ xs. the_world xs after) stacks ∙ ap (the_world (map stack_model ps)) kept
 
--- an instruction on the innermost frame of a process, and the stack and the blocks that it leaves
+-- an instruction on the innermost frame of a process, with the stack and the blocks that it leaves
 pub stack_tells : {X : Type 0} (r : Result X Refusal) (p : ProgramModel) (bound : QueueBounds) (ps : List made.Process.Process) (q : ℕ)
     (s t : made.Process.Process) (f : made.Frame.Frame) (i j : Instruction) (choice : ℕ) (before after : List Block)
     → q < length ps → s ≡ get_or ps q s → s.top ≡ Some f → i ≡ j
@@ -62,7 +62,7 @@ stack_same (Ok x) ps q s t f before after there top same kept = tt
 stack_same {X = X} (Err e) ps q s t f before after there top same kept =
     run_same {X = X} (Err e) ps q s t before after there (same ∙ sym (ap (λ o. stack_of o s.waiting.items) top)) kept
 
--- and where it leaves the frames that wait
+-- a process with another innermost frame; the waiting ones are unchanged
 abbrev pub with_top : made.Process.Process → made.Frame.Frame → made.Process.Process
 with_top s g = record { top = Some g; waiting = s.waiting }
 
@@ -89,19 +89,19 @@ pub frame_read : (ps : List made.Process.Process) (q : ℕ) (s : made.Process.Pr
 frame_read ps q s f there top =
     map-set_same stack_model ps q (with_top s f) s (sym (ap (λ o. stack_of o s.waiting.items) top) ∙ ap stack_model there)
 
--- blocks that no instruction changed
+-- the blocks are unchanged on an error
 pub same_blocks : {X : Type 0} (r : Result X Refusal) (blocks : List Block) → OnErr r (blocks ≡ blocks)
 same_blocks (Ok x) blocks = tt
 same_blocks (Err e) blocks = refl
 
--- an instruction that has one choice, as it lies in memory
+-- an instruction with one choice, as memory holds it
 pub one_choice : (p : ProgramModel) (bound : QueueBounds) (w : World) (self : ℕ) (i j : Instruction) (choice : ℕ) (stack : List Frame) → i ≡ j
     → ((f : Frame) (rest : List Frame) → outcome_from p bound w self f rest j choice ≡ outcome_from p bound w self f rest j 0)
     → on_stack p bound w self i choice stack ≡ on_stack p bound w self j 0 stack
 one_choice p bound w self i j choice [] is one = refl
 one_choice p bound w self i j choice (f ∷ rest) is one = ap (λ k. outcome_from p bound w self f rest k choice) is ∙ one f rest
 
--- blocks that are read as a slice
+-- the blocks as a slice
 pub slice_tells : (X : Type 0) (r : Result X Refusal) (o : Outcome) (processes : List (List Frame)) (self : ℕ) (rest : List Frame) (f : Frame) (read blocks : List made.Block.Block)
     → read ≡ blocks → Tells r o (on_top processes self rest f (blocks_model read)) → Tells r o (on_top processes self rest f (blocks_model blocks))
 slice_tells X r o processes self rest f read blocks is told = subst (λ l. Tells r o (on_top processes self rest f (blocks_model l))) is told

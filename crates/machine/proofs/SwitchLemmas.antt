@@ -1,4 +1,4 @@
--- A switch: what is at the front of a queue, and where it goes.
+-- A switch: the front of a queue, and the case for it.
 use Rattle.std.proofs.Common.{◌≡◌, ℕ, ◌<◌, List, [], ◌∷◌, Some, None, refl, sym, ap, ◌∙◌, slice_get, length, arith}
 use Rattle.source.specs.declared.place.Place.{Place}
 use Rattle.program.specs.Programs.{ProgramModel}
@@ -11,26 +11,26 @@ use Rattle.machine.specs.Machine.{outcome_from, receives, receives_from}
 use Rattle.machine.specs.Outcomes.{QueueBounds, after_tests}
 use Rattle.machine.specs.World.{Block, Frame, MessageHeld, World, block_at, read}
 
--- nothing is at the front of a queue that is empty
+-- a queue without a front is empty
 pub no_front : (q : List MessageHeld) → front_of q ≡ None → q ≡ []
 no_front [] is = refl
 no_front (m ∷ ms) is = absurd (cc)
 
--- what is at the front
+-- a queue with a front begins with that message
 pub front_there : (q : List MessageHeld) (n : ℕ) → front_of q ≡ Some n → (m : MessageHeld) × (ms : List MessageHeld) × (q ≡ m ∷ ms) × (n ≡ m.message)
 front_there [] n is = absurd (cc)
 front_there (m ∷ ms) n is = let same : n ≡ m.message = cc in (m, ms, refl, same)
 
--- a queue with something at its front is not empty
+-- a queue with a front is not empty
 pub some_there : (q : List MessageHeld) (n : ℕ) → front_of q ≡ Some n → 0 < length q
 some_there [] n is = absurd (cc)
 some_there (m ∷ ms) n is = omega arith
 
--- what a slice of mentions is read as past its end
+-- the mention that is read past the end of a slice
 abbrev pub no_mention : Mention
 no_mention = record { variable = record { 0 = 0 }; place = record { line = 0; col = 0 } }
 
--- a switch: its tests, and then what comes at the chosen endpoint
+-- a switch: its tests, and then what the chosen endpoint receives
 pub switch_is : (p : ProgramModel) (bound : QueueBounds) (w : World) (self : ℕ) (f : Frame) (rest : List Frame) (place : Place) (cases : List EntranceModel) (choice : ℕ) (bs : List Block) (es : List Mention) → w.blocks ≡ bs → es ≡ first_mentions [] cases
     → outcome_from p bound w self f rest (Switch place cases) choice ≡ after_tests (own_tests bs self f.variables es) (receives_from p bound w self f rest cases (slice_get es choice))
 switch_is p bound w self f rest place cases choice bs es is named =

@@ -1,4 +1,4 @@
--- Which variables may be given something without more memory, and that they stay so.
+-- Which variables may be given something without allocating, and that they still may after edits.
 use Rattle.std.proofs.Common.{◌≡◌, ℕ, ◌+◌, ◌<◌, ◌≤◌, List, length, get_or, set, refl, sym, ap, ◌∙◌, subst, inl, inr, arith}
 use Rattle.std.specs.List.{insert}
 use Rattle.std.proofs.lemmas.Bool.{cases_lt}
@@ -9,7 +9,7 @@ use Rattle.machine.specs.Bindings.{AllMayTake, IsAt, MayTake, has_binding, no_va
 use Rattle.machine.specs.declared.variables.Binding.{Binding}
 use Rattle.machine.proofs.BindingLemmas.{insert_below, insert_here, set_at_same}
 
--- what may be given stays so
+-- after a binding is overwritten, the same variables may
 pub put_may : (count : ℕ) (l : List Binding) (v at : ℕ) (b : Binding) → IsAt l v at → b.variable ≡ v → (u : ℕ) → MayTake count l u → MayTake count (set l at b) u
 put_may count l v at b is same u (has_binding i here) =
     has_binding i record { within = omega (arith, length-set l at b, here.within); same = set_at_same l at b is.within (is.same ∙ sym same) i ∙ here.same }
@@ -25,16 +25,16 @@ list_may count l at b le u (has_binding i here) = elim (cases_lt i at) [
   }
 ]
 
--- the new binding's own variable
+-- the variable of a new binding may
 pub listed_may : (count : ℕ) (l : List Binding) (v at : ℕ) (b : Binding) → at ≤ length l → b.variable ≡ v → MayTake count (insert l at b) v
 listed_may count l v at b le same =
     has_binding at record { within = omega (arith, length-insert l at b le); same = insert_here l at b le at refl ∙ same }
 
--- each of these variables may take something, also when all may that might before
+-- all of these variables may, if each that might before still may
 pub all_still : (m n : ℕ) (old new : List Binding) (variables : List VarId) → ((u : ℕ) → MayTake m old u → MayTake n new u) → AllMayTake m old variables → AllMayTake n new variables
 all_still m n old new variables still all = record { may = λ k d lt. still _ (all.may k d lt) }
 
--- the first of these variables may take something, this many of them
+-- this many of the first variables may
 pub record FirstMayTake (count : ℕ) (l : List Binding) (variables : List VarId) (done : ℕ) : Type 0 where
   pub may : (k : ℕ) (d : VarId) → k < done → MayTake count l (get_or variables k d).0
 

@@ -1,4 +1,4 @@
--- The way goes down into what the last field of a block held.
+-- The path goes down into what the last field of a block held.
 use Rattle.std.proofs.Common.{◌≡◌, ◌≢◌, ◌==◌, ℕ, ◌+◌, Bool, true, false, List, [], ◌∷◌, ◌++◌, length, refl, sym, ap}
 use Rattle.std.proofs.Common.{◌∙◌, subst, arith, inl, inr, ⊎_elim}
 use Rattle.std.proofs.lemmas.Bool.{cases_Bool, cases_eq}
@@ -54,7 +54,7 @@ module _ (bs0 : List Block) (a : ℕ) (bs : List Block) (x : ℕ) (h : Frees bs0
       let k = h.holds x inner in
       is_inside_is (block_at bs inner).owner x (queue_of_some (is_inside (block_at bs inner).owner x) _ (omega arith) refl)
 
-  -- the way did not come down through inner before
+  -- the path did not come down through inner before
   not_before : goes_with bs inner x ≡ false
   not_before = ⊎_elim (λ t. absurd (no_ring bs h.rooted inner x inner_is t)) (λ f. f) (cases_Bool (goes_with bs inner x))
 

@@ -1,4 +1,4 @@
--- How a block is freed with all that is inside it, and no memory is taken: what is kept true on the way.
+-- A block is freed with all that is inside it, without allocating: what each step of the path preserves.
 use Rattle.std.proofs.Common.{◌≡◌, ◌==◌, ℕ, zero, suc, ◌+◌, ◌<◌, ◌≤◌, Bool, true, false, List, [], length, refl, sym, ap}
 use Rattle.std.proofs.Common.{◌∙◌, arith, ⊎_elim}
 use Rattle.std.proofs.lemmas.Bool.{cases_Bool, eqb-true}
@@ -13,7 +13,7 @@ use Rattle.machine.proofs.Chains.{depth, depth_few, depth_one, goes_reaches, goe
 use Rattle.machine.proofs.HeapLemmas.{no_queue, own_there}
 use Rattle.machine.proofs.Holding.{not_inside}
 
--- ---- chains, a step at a time
+-- ---- chains, one step at a time
 module _ (bs : List Block) (rooted : (x : ℕ) → Rooted bs x) where
   pub goes_step : (c x b : ℕ) → (block_at bs x).owner ≡ Inside b → goes_with bs c x ≡ (x == c) || goes_with bs c b
   goes_step c x b is =
@@ -23,7 +23,7 @@ module _ (bs : List Block) (rooted : (x : ℕ) → Rooted bs x) where
   pub goes_top : (c x : ℕ) → ((b : ℕ) → is_inside (block_at bs x).owner b ≡ false) → goes_with bs c x ≡ (x == c)
   goes_top c x out = lies_reaches bs c x (length bs) (top x out) (omega arith)
 
-  -- what a chain reaches lies no deeper
+  -- an address that a chain reaches is no deeper than its start
   reaches_depth : (c x : ℕ) (r : Rooted bs x) (s : Rooted bs c) → reaches bs c x r ≡ true → depth bs c s ≤ depth bs x r
   reaches_depth c x (top y out) s e = let k = depth_one bs c x (sym (eqb-true x c e)) s (top x out) in omega arith
   reaches_depth c x (below y b is r) s e = ⊎_elim
@@ -31,14 +31,14 @@ module _ (bs : List Block) (rooted : (x : ℕ) → Rooted bs x) where
       (λ f. let k = reaches_depth c b r s (sym (ap (λ (t : Bool). t || reaches bs c b r) f) ∙ e) in omega arith)
       (cases_Bool (x == c))
 
-  -- nothing lies in what lies directly in it
+  -- nothing is inside what is directly inside it
   pub no_ring : (j x : ℕ) → (block_at bs j).owner ≡ Inside x → goes_with bs j x ≡ true → ⊥
   no_ring j x is goes =
       let s = below j x is (rooted x) in
       let k = reaches_depth j x (rooted x) s (sym (goes_reaches bs rooted j x) ∙ goes) in
       absurd (omega arith)
 
--- what lies where hangs on owners alone
+-- what is inside which block depends on owners alone
 pub lies_same : (bs bs' : List Block) → ((j : ℕ) → (block_at bs' j).owner ≡ (block_at bs j).owner) → (n c j : ℕ)
     → lies_in bs' n c j ≡ lies_in bs n c j
 lies_same bs bs' same zero c j = refl
@@ -54,19 +54,20 @@ lies_same bs bs' same (suc n) c j =
     by Channel k = refl
     by Freed k = refl
 
--- ---- what a block becomes
+-- ---- how a block changes
 abbrev pub with_parts : Block → Owner → List MessageHeld → List ℕ → Block
 with_parts b owner queue fields =
     record { ty = b.ty; owner = owner; peer = b.peer; state = b.state; queue = queue; fields = fields }
 
--- a block that goes, or stays
+-- a block that goes or remains
 abbrev pub freed_as : (goes : ℕ → Bool) → Bool → Block → Block
 freed_as goes t b = with_parts b (if t then Freed else (if in_queue_of b.owner goes then Channel else b.owner)) (if t then [] else b.queue)
     (if t then [] else b.fields)
 
--- ---- what is kept true
--- The blocks were bs0, and are bs when the way is at x, which is inside a. The fields of each block hold all that is inside it, but for
--- the block through which the way came down. Were all that is inside a freed now, the same would be left as if it had been freed at once.
+-- ---- what is preserved
+-- The blocks were bs0, and are bs when the path is at x, which is inside a. The fields of each block hold all that is
+-- inside it, except for the block through which the path came down. Freeing all that is inside a now has the same
+-- result as freeing it in bs0.
 pub record Frees (bs0 : List Block) (a : ℕ) (bs : List Block) (x : ℕ) : Type 0 where
   pub goes : goes_with bs a x ≡ true
   pub owned : of_process (block_at bs a).owner ≡ true
@@ -79,7 +80,7 @@ pub and_false : (s t : Bool) → (s ≡ true → t ≡ false) → s && t ≡ fal
 and_false true t h = h refl
 and_false false t h = refl
 
--- it is true at the beginning
+-- this holds at the beginning
 pub begins : (bs : List Block) (a : ℕ) → FieldsHold bs → of_process (block_at bs a).owner ≡ true → Frees bs a bs a
 begins bs a h own = record {
   goes = goes_self bs h.rooted a;
@@ -106,7 +107,7 @@ own_lives (Inside n) own = refl
 own_lives Channel own = refl
 own_lives Freed own = absurd (cc)
 
--- the block at which the way is
+-- the block at which the path is
 module _ (bs0 : List Block) (a : ℕ) (bs : List Block) (x : ℕ) (h : Frees bs0 a bs x) where
   pub x_there : x < length bs
   x_there = ⊎_elim (λ e. let k = own_there bs a h.owned in omega arith) (λ k. inside_there bs x k.0 k.1) (goes_up bs h.rooted a x h.goes)

@@ -1,4 +1,4 @@
--- A block whose fields hold nothing is freed, and the way goes up to the block that it was inside, or ends.
+-- A block whose fields hold nothing is freed, and the path goes up to the block that it was inside, or ends.
 use Rattle.std.proofs.Common.{◌≡◌, ◌≢◌, ◌==◌, ℕ, zero, suc, ◌+◌, Bool, true, false, List, [], length, refl, sym, ap}
 use Rattle.std.proofs.Common.{◌∙◌, subst, arith, ⊎_elim}
 use Rattle.std.proofs.lemmas.Bool.{cases_Bool, cases_eq}
@@ -57,7 +57,7 @@ module _ (bs0 : List Block) (a : ℕ) (bs : List Block) (x : ℕ) (h : Frees bs0
   inside_others j b n = ap (λ (o : Owner). is_inside o b) (owner_others j n)
       ∙ unqueued_same (λ (o : Owner). is_inside o b) (λ i. i == x) (block_at bs j).owner (λ q. refl)
 
-  -- what is not x is inside what it was
+  -- whatever is not x is inside the same blocks as before
   lies_others : (n c j : ℕ) → j ≢ x → lies_in without n c j ≡ lies_in bs n c j
   lies_others zero c j other = refl
   lies_others (suc n) c j other =
@@ -87,7 +87,7 @@ module _ (bs0 : List Block) (a : ℕ) (bs : List Block) (x : ℕ) (h : Frees bs0
       (λ n. is_inside_is (block_at bs i).owner b (sym (inside_others i b n)
       ∙ (ap (λ (o : Owner). is_inside o b) is ∙ is_inside_same b))) (cases_eq i x)) j (h.rooted j)
 
-  -- x is inside no block: it is the block itself, and all is done
+  -- x is inside no block: it is a itself, and everything is freed
   pub is_done : ((b : ℕ) → is_inside (block_at bs x).owner b ≡ false)
       → (x ≡ a) × (without ≡ change_each (freed_block (goes_with bs0 a)) bs0)
   is_done out = (same, ap (λ (goes : ℕ → Bool). change_each (freed_block goes) bs) (λ i j. alone j i) ∙ h.ends)
@@ -110,7 +110,7 @@ module _ (bs0 : List Block) (a : ℕ) (bs : List Block) (x : ℕ) (h : Frees bs0
               (subst (λ (i : ℕ). goes_with bs a i ≡ true) (inside_same (block_at bs j).owner k.0 c k.1 is) k.2))
               (goes_up bs h.rooted a j t)
 
-  -- x is inside b: the way goes on there
+  -- x is inside b: the path goes on there
   module _ (b : ℕ) (is : (block_at bs x).owner ≡ Inside b) where
     x_not_a : x ≢ a
     x_not_a e = true≢false (ap (λ (n : ℕ). is_inside (block_at bs n).owner b) (sym e) ∙ (ap (λ (o : Owner). is_inside o b) is
@@ -205,7 +205,7 @@ module _ (bs0 : List Block) (a : ℕ) (bs : List Block) (x : ℕ) (h : Frees bs0
             ∙ ap (λ (o : Owner). with_parts y (if goes_with bs a j then Freed else o) (if goes_with bs a j then [] else y.queue)
             (if goes_with bs a j then [] else y.fields)) (queues y.owner))
 
-    -- the way goes up to the block that x was inside
+    -- the path goes up to the block that x was inside
     pub goes_up_to : Frees bs0 a without b
     goes_up_to = record {
       goes = goes_others a b b_not_x ∙ b_goes;

@@ -1,4 +1,4 @@
--- What the variables of a frame have, by the bindings of those that were ever given something.
+-- The variables of a frame as bindings of those that were ever given something.
 use Rattle.std.specs.Prelude.{ℕ, ◌==◌, ◌<◌, ◌≤◌, ◌≡◌, false, if◌then◌else◌, List, [], ◌∷◌, map, length, get_or, Option, Some, None}
 use Rattle.std.specs.List.{range_with_len}
 use Rattle.program.specs.declared.number.VarId.{VarId}
@@ -17,7 +17,7 @@ address_in (b ∷ bindings) v = if b.variable == v then address_of b else addres
 unfoldable pub variables_in : ℕ → List Binding → List (Option ℕ)
 variables_in count bindings = map (address_in bindings) (range_with_len 0 count)
 
--- what is read past the last binding
+-- the binding that is read past the end
 abbrev pub no_binding : Binding
 no_binding = record { has_address = false; variable = 0; address = 0 }
 
@@ -25,7 +25,7 @@ no_binding = record { has_address = false; variable = 0; address = 0 }
 abbrev pub variable_at : List Binding → ℕ → ℕ
 variable_at bindings i = let b = get_or bindings i no_binding in b.variable
 
--- The variables of the bindings rise, so none has two bindings, and each number is below the count.
+-- The bindings are sorted by variable, so no variable has two, and each variable is below the count.
 pub record AreSorted (count : ℕ) (bindings : List Binding) : Type 0 where
   pub rise : (i j : ℕ) → i < j → j < length bindings → variable_at bindings i < variable_at bindings j
   pub below : (i : ℕ) → i < length bindings → variable_at bindings i < count
@@ -41,11 +41,11 @@ pub record IsGap (bindings : List Binding) (v i : ℕ) : Type 0 where
   pub smaller : (j : ℕ) → j < i → variable_at bindings j < v
   pub greater : (j : ℕ) → i ≤ j → j < length bindings → v < variable_at bindings j
 
--- No memory is needed to give a variable something: it has a binding, or the method has no such variable.
+-- A variable may be given something without allocating: it has a binding, or the method has no such variable.
 pub data MayTake (count : ℕ) (bindings : List Binding) (v : ℕ) : Type 0 where
   has_binding : (i : ℕ) → IsAt bindings v i → MayTake count bindings v
   no_variable : count ≤ v → MayTake count bindings v
 
--- each of these variables may take something without more memory
+-- each of these variables may be given something without allocating
 pub record AllMayTake (count : ℕ) (bindings : List Binding) (variables : List VarId) : Type 0 where
   pub may : (k : ℕ) (d : VarId) → k < length variables → MayTake count bindings (get_or variables k d).0

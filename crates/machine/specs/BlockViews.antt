@@ -1,4 +1,4 @@
--- Blocks without where they lie in memory.
+-- Blocks without their memory.
 use Rattle.std.specs.Prelude.{List, map}
 use Rattle.machine.specs.World.{MessageHeld, Block}
 use Rattle.machine.specs.declared.worlds.Block as made_block

@@ -1,4 +1,4 @@
--- What becomes of blocks, each by its address, and what is asked of them.
+-- How blocks change, each by its address, and what the tests ask of them.
 use Rattle.std.specs.Prelude.{ℕ, zero, suc, ◌==◌, nat_lt, Bool, true, false, not, ◌&&◌, ◌||◌, if◌then◌else◌}
 use Rattle.std.specs.Prelude.{List, [], ◌∷◌, ◌++◌, length, Option, Some, None, is_some, unwrap_or, set}
 use Rattle.program.specs.Lists.{is_among}
@@ -18,31 +18,32 @@ use Rattle.machine.specs.declared.halts.Fault.TheVariants.{F1, F3, F4, F6}
 use Rattle.machine.specs.declared.worlds.Owner.{Owner}
 use Rattle.machine.specs.declared.worlds.Owner.TheVariants.{Process, Queue, Inside, Channel, Freed}
 
--- these blocks go to an owner
+-- the block at `j`, after the blocks at these addresses have a new owner
 abbrev pub with_new_owner : Owner → List ℕ → ℕ → Block → Block
 with_new_owner to given j b = record b { owner = if is_among given j then to else b.owner }
 
--- whether the owner is a block that meets the condition
+-- whether the owner is a block whose address meets the condition
 abbrev pub in_block_of : Owner → (ℕ → Bool) → Bool
 in_block_of (Inside b) P = P b
 in_block_of _ P = false
 
--- Whether the block at j is the block at a, or is inside it through at most so many blocks.
+-- whether the block at `j` is the block at `a`, or is inside it through at most this many blocks
 abbrev pub lies_in : List Block → (most : ℕ) → (a j : ℕ) → Bool
 lies_in blocks zero a j = j == a
 lies_in blocks (suc most) a j = (j == a) || in_block_of (block_at blocks j).owner (lies_in blocks most a)
 
--- Whether the block at j goes with the block at a: it is that block, or is inside it through any number of blocks. No block is inside
--- itself, so the owners lead up through no more blocks than there are.
+-- Whether the block at `j` goes with the block at `a`: it is that block, or is inside it, directly
+-- or not. No block is inside itself, so the chain of owners is no longer than the list of blocks.
 abbrev pub goes_with : List Block → (a j : ℕ) → Bool
 goes_with blocks a j = lies_in blocks (length blocks) a j
 
--- whether the owner is the queue of an endpoint that meets the condition
+-- whether the owner is the queue of an endpoint whose address meets the condition
 abbrev pub in_queue_of : Owner → (ℕ → Bool) → Bool
 in_queue_of (Queue b) P = P b
 in_queue_of _ P = false
 
--- The blocks that go are freed. Their queues are emptied, and what these owned goes to the channel. Their fields hold nothing any more.
+-- The block at `j`, after those that go are freed. Their queues are emptied, and what was in these
+-- belongs to the channel. Their fields are emptied.
 abbrev pub freed_block : (goes : ℕ → Bool) → ℕ → Block → Block
 freed_block goes j b = record b {
   owner = if goes j then Freed else (if in_queue_of b.owner goes then Channel else b.owner);
@@ -50,16 +51,17 @@ freed_block goes j b = record b {
   fields = if goes j then [] else b.fields;
 }
 
--- What the block at the address given and what a field of the block at the address at held change places: the one is inside that block
--- now, and the other is a process's.
+-- The block at `j`, after the block at `given` and the one in a field of the block at `at` change
+-- places: the first is inside that block now, and the second is the process's.
 abbrev pub exchanged_block : (self at field given held : ℕ) → ℕ → Block → Block
 exchanged_block self at field given held j b = record b {
   owner = if j == given then Inside at else (if j == held then Process self else b.owner);
   fields = if j == at then set b.fields field given else b.fields;
 }
 
--- The endpoint at a sends: it goes on to a state, what is given goes to an owner, and the message goes to the queue of the endpoint
--- at the address to, unless that is gone.
+-- The block at `j`, after the endpoint at `a` sends. The endpoint is in a new state, and the
+-- message and what it brings are in the queue of the endpoint at `to`. If that is gone, what it
+-- brings belongs to the channel.
 abbrev pub sent_block : (a state to : ℕ) (gone : Bool) → MessageHeld → ℕ → Block → Block
 sent_block a state to gone m j b = record b {
   owner = if is_among m.payload j then (if gone then Channel else Queue to) else b.owner;
@@ -67,7 +69,7 @@ sent_block a state to gone m j b = record b {
   queue = if (j == to) && not gone then b.queue ++ m ∷ [] else b.queue;
 }
 
--- the endpoint at a receives the front of its queue for a process
+-- The block at `j`, after the endpoint at `a` receives the front of its queue for a process.
 abbrev pub received_block : (self a state : ℕ) → MessageHeld → List MessageHeld → ℕ → Block → Block
 received_block self a state m rest j b = record b {
   owner = if is_among m.payload j then Process self else b.owner;
@@ -86,7 +88,7 @@ new_block ty self peer state fields = record {
   fields = fields;
 }
 
--- whether it is an importing end
+-- whether a type is an importing end
 abbrev pub is_imp : HeapType → Bool
 is_imp (Endpoint contract Imp state) = true
 is_imp _ = false
@@ -95,29 +97,29 @@ is_imp _ = false
 abbrev pub end_type : made.Channel → Side → HeapType
 end_type c side = Endpoint c.contract side record { 0 = 0 }
 
--- how many messages the queue to it may hold
+-- how many messages the queue to an end of this type may hold
 abbrev pub bound_of : QueueBounds → HeapType → ℕ
 bound_of bound (Endpoint contract side state) = bound contract.0 side
 bound_of bound _ = 0
 
--- no block is the process's
+-- whether a process owns none of these blocks
 abbrev pub owns_none : List Block → ℕ → Bool
 owns_none [] q = true
 owns_none (b ∷ blocks) q = not (is_process b.owner q) && owns_none blocks q
 
--- the process has the block in a variable, and it was not claimed before
+-- whether a process owns the block in a variable, and did not give it away before
 abbrev pub is_own_still : List Block → ℕ → List ℕ → Option ℕ → Bool
 is_own_still blocks self taken None = false
 is_own_still blocks self taken (Some a) = owns blocks self a && not (is_among taken a)
 
--- the tests of arguments, in order: what is lent, and what is claimed
+-- the tests of arguments, in order: of a lent one that it may be used, of a claimed one that it may be given away
 abbrev pub argument_tests : List Block → ℕ → List (Option ℕ) → List ℕ → List Argument → List FaultTest
 argument_tests blocks self variables taken [] = []
 argument_tests blocks self variables taken (a ∷ arguments) =
     test (is_own_still blocks self taken (read variables a.mention.variable.0)) (if a.claimed then F3 else F1)
     ∷ argument_tests blocks self variables (if a.claimed then address (read variables a.mention.variable.0) ∷ taken else taken) arguments
 
--- the state behind the edge along which the endpoint at an address sends a message
+-- the state to which the endpoint at an address goes when it sends a message, if an edge allows that
 abbrev pub sent_state : ProgramModel → List Block → (at message : ℕ) → Option ℕ
 sent_state p blocks at message = end_on (edges_out p (Some (block_at blocks at).ty) (block_at blocks at).state) message
 
@@ -125,24 +127,24 @@ sent_state p blocks at message = end_on (edges_out p (Some (block_at blocks at).
 abbrev pub may_send : ProgramModel → List Block → (at message : ℕ) → Bool
 may_send p blocks at message = cut_off blocks at || is_some (sent_state p blocks at message)
 
--- the state of the endpoint at an address behind a send; where it is cut off, the state stays
+-- the state of the endpoint at an address after a send; if it is cut off, the state stays
 abbrev pub state_after_send : ProgramModel → List Block → (at message : ℕ) → ℕ
 state_after_send p blocks at message =
     if cut_off blocks at then (block_at blocks at).state else unwrap_or (sent_state p blocks at message) (block_at blocks at).state
 
--- whether the endpoint at an address may take one more message, unless it is freed
+-- whether the queue of the endpoint at an address has room for one more message; if it is freed, there always is
 abbrev pub has_room : QueueBounds → List Block → ℕ → Bool
 has_room bound blocks to = is_freed_at blocks to || nat_lt (length (block_at blocks to).queue) (bound_of bound (block_at blocks to).ty)
 
--- the tests of a send behind those of what it names
+-- the last two tests of a send: the contract allows it, and the queue has room
 abbrev pub send_tests : ProgramModel → QueueBounds → List Block → (at message : ℕ) → List FaultTest
 send_tests p bound blocks at message =
     test (may_send p blocks at message) F4 ∷ test (has_room bound blocks (block_at blocks at).peer) F6 ∷ []
 
--- the state behind the edge along which the endpoint at an address receives a message
+-- the state to which the endpoint at an address goes when it receives a message, if an edge allows that
 abbrev pub received_state : ProgramModel → List Block → (at message : ℕ) → Option ℕ
 received_state p blocks at message = end_on (edges_in p (Some (block_at blocks at).ty) (block_at blocks at).state) message
 
--- the state of the endpoint at an address behind a receive; where there is no such edge, the state stays
+-- the state of the endpoint at an address after a receive; if no edge allows that, the state stays
 abbrev pub state_after_receive : ProgramModel → List Block → (at message : ℕ) → ℕ
 state_after_receive p blocks at message = unwrap_or (received_state p blocks at message) (block_at blocks at).state

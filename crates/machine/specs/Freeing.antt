@@ -23,8 +23,8 @@ pub record IsAlone (old new : List Block) (x : ℕ) : Type 0 where
   pub empty : (block_at old x).fields ≡ []
   pub blocks : new ≡ change_each (freed_one x) old
 
--- A step goes down to what the last field of x held. If the fields of x hold nothing, x is freed, and the step goes up to the block that
--- x was inside, or the way ends.
+-- A step goes to what the last field of x held. If the fields of x hold nothing, x is freed, and the step goes to the
+-- block that x was inside, or the path ends.
 abbrev pub IsStep : (old new : List Block) → ℕ → Option ℕ → Type 0
 IsStep old new x None = IsAlone old new x × ((b : ℕ) → is_inside (block_at old x).owner b ≡ false)
 IsStep old new x (Some y) = IsPopped old new x y ⊎ (IsAlone old new x × ((block_at old x).owner ≡ Inside y))

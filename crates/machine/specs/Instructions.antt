@@ -22,21 +22,21 @@ use Rattle.machine.specs.World.{Block, Frame, MessageHeld, World, block_at, chan
 use Rattle.machine.specs.declared.halts.Fault.TheVariants.{F1, F2, F3, F5, F7}
 use Rattle.machine.specs.declared.worlds.Owner.TheVariants.{Process, Inside}
 
--- the way of a condition
+-- the point at which a condition continues, by the choice
 abbrev pub way : Branches → ℕ → ℕ
 way (Only point) choice = point
 way (Either inside past) choice = if choice == 0 then inside else past
 
 module _ (p : ProgramModel) (bound : QueueBounds) (w : World) (self : ℕ) (f : Frame) (rest : List Frame) where
-  -- the process goes on with these frames and blocks
+  -- the process continues with these frames and blocks
   abbrev pub goes : List Frame → List Block → Outcome
   goes frames blocks = Moved record { processes = set w.processes self frames; blocks = blocks }
 
-  -- its innermost frame goes on at a point
+  -- its innermost frame continues at a point
   abbrev pub on : ℕ → List (Option ℕ) → List Block → Outcome
   on next variables blocks = goes (record { method = f.method; point = next; variables = variables } ∷ rest) blocks
 
-  -- what a variable of that frame has
+  -- the address in a variable of that frame
   abbrev pub has : Mention → Option ℕ
   has v = read f.variables v.variable.0
 
@@ -47,29 +47,29 @@ module _ (p : ProgramModel) (bound : QueueBounds) (w : World) (self : ℕ) (f : 
       on next variables
       (change_each (sent_block at (state_after_send p w.blocks at message.message) to (is_freed_at w.blocks to) message) w.blocks)
 
-  -- a close comes to a case
+  -- the process continues at the case for the close; without one, this is F5
   abbrev pub closes_at : Option EntranceModel → Outcome
   closes_at None = Faulty F5
   closes_at (Some c) = on c.next f.variables w.blocks
 
-  -- the front message comes to a case
+  -- the process continues at the case for the front message; without one, this is F5
   abbrev pub receives_at : Option EntranceModel → ℕ → MessageHeld → List MessageHeld → Outcome
   receives_at None at m ms = Faulty F5
   receives_at (Some c) at m ms =
       on c.next (bound_to f.variables c.targets m.payload)
       (change_each (received_block self at (state_after_receive p w.blocks at m.message) m ms) w.blocks)
 
-  -- what comes at an endpoint with this queue
+  -- what an endpoint with this queue receives: the front message, or the close if there is none and its peer is freed
   abbrev pub receives : List EntranceModel → ℕ → ℕ → List MessageHeld → Outcome
   receives cases v at [] = if is_freed_at w.blocks (block_at w.blocks at).peer then closes_at (case_for cases v None) else Waits
   receives cases v at (m ∷ ms) = receives_at (case_for cases v (Some m.message)) at m ms
 
-  -- what comes at the chosen endpoint
+  -- what the chosen endpoint receives
   abbrev pub receives_from : List EntranceModel → Option Mention → Outcome
   receives_from cases None = NoChoice
   receives_from cases (Some v) = receives cases v.variable.0 (address (has v)) (block_at w.blocks (address (has v))).queue
 
-  -- A frame ends. The caller goes on, or the process ends, and then it is to have nothing.
+  -- A frame ends. Its caller continues; if there is none the process ends, and then it may own nothing.
   abbrev pub returns : Option Mention → List Frame → Outcome
   returns value [] = after_tests (test (owns_none w.blocks self) F7 ∷ []) (goes [] w.blocks)
   returns None (g ∷ more) =
@@ -78,20 +78,19 @@ module _ (p : ProgramModel) (bound : QueueBounds) (w : World) (self : ℕ) (f : 
       let call = instruction_at p g in
       goes (record { method = g.method; point = call_next call; variables = put g.variables (call_target call) (has v) } ∷ more) w.blocks
 
-  -- the test of what a frame gives
+  -- the test of a returned value
   abbrev pub value_tests : Option Mention → List FaultTest
   value_tests None = []
   value_tests (Some v) = test (is_own w.blocks self (has v)) F3 ∷ []
 
-  -- A variable and a field of the block at an address change places, where the field holds something. Where that block has no such field
-  -- nothing changes.
+  -- A variable and a field of the block at an address change places, if the block has such a field; else nothing changes.
   abbrev pub exchanges : stated.Exchange.Exchange → ℕ → (held : Option ℕ) → Outcome
   exchanges e next None = on next f.variables w.blocks
   exchanges e next (Some held) =
       on next (set f.variables e.given.variable.0 (Some held))
       (change_each (exchanged_block self (address (has e.holder)) e.field (address (has e.given)) held) w.blocks)
 
-  -- a line for each instruction
+  -- for each instruction its tests in order, and the world after it
   abbrev pub outcome_from : Instruction → (choice : ℕ) → Outcome
   outcome_from (Act (Use v) next) choice = after_tests (test (is_own w.blocks self (has v)) F1 ∷ []) (on next f.variables w.blocks)
   outcome_from (Act (NewChannel c) next) choice =

@@ -1,5 +1,5 @@
--- What a heap keeps true has at most one proof, and so has the order of bindings. The types `BlockHeap` and `Variables` have ghost fields
--- of these, and a ghost field wants that.
+-- The invariant of a heap has at most one proof, and so has the order of bindings: ghost fields of the types
+-- `BlockHeap` and `Variables` have these as their types, which requires it.
 use Rattle.std.specs.Prelude.{◌≡◌, ℕ, ◌==◌, ◌<◌, true, false, List, length}
 use Rattle.std.proofs.Common.{refl, sym, ap, ◌∙◌, subst, ⊎_elim}
 use Rattle.std.proofs.lemmas.Bool.Decides.{eqb_tells}
@@ -26,7 +26,7 @@ not_both o b e out =
     let bad : true ≡ false = sym (⊎_elim (λ h. h.0) (λ h. absurd (h.1 refl)) (eqb_tells b b)) ∙ t in
     absurd (cc)
 
--- owners lead up from an address in one way
+-- the chain of owners from an address is unique
 rooted_once : (bs : List Block) (x : ℕ) → IsProp (Rooted bs x)
 rooted_once bs x (top a out) (top a2 out2) = λ i. top x (outs_once bs x out out2 i)
 rooted_once bs x (top a out) (below a2 b e r) = absurd (not_both (block_at bs x).owner b e (out b))

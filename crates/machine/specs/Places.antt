@@ -1,4 +1,4 @@
--- Where a process stands in the text.
+-- Where a process is in the text.
 use Rattle.std.specs.Prelude.{ℕ, List, [], ◌∷◌, Option, None}
 use Rattle.std.specs.Option.{option_map}
 use Rattle.source.specs.declared.place.Place.{Place}
@@ -10,7 +10,7 @@ use Rattle.flow.specs.Graphs.{Return, Stop}
 use Rattle.machine.specs.Frames.{instruction_at}
 use Rattle.machine.specs.World.{Frame, World, stack_at}
 
--- the place of an action: of what it names first, or of its own word
+-- the place of an action: of the first name in it, or of its own word
 abbrev pub action_place : Action → Place
 action_place (Use v) = v.place
 action_place (Move v u) = v.place
@@ -18,7 +18,7 @@ action_place (Delete v) = v.place
 action_place (Exchange e) = e.place
 action_place (NewChannel c) = c.place
 
--- the place of an instruction, likewise
+-- the place of an instruction, by the same rule
 abbrev pub place_of : Instruction → Place
 place_of (Act action next) = action_place action
 place_of (New v arguments next) = v.place
@@ -31,15 +31,15 @@ place_of (Start place method arguments next) = place
 place_of (Return place value scope) = place
 place_of (Stop place) = place
 
--- the place where a frame stands
+-- the place at which a frame is
 abbrev pub frame_place : ProgramModel → Frame → Option Place
 frame_place p f = option_map place_of (instruction_at p f)
 
--- the place where a process with these frames stands: where its innermost frame does
+-- the place at which a process with these frames is: that of its innermost frame
 abbrev pub stack_place : ProgramModel → List Frame → Option Place
 stack_place p [] = None
 stack_place p (f ∷ rest) = frame_place p f
 
--- the place where a process of a world stands
+-- the place at which a process of a world is
 abbrev pub process_place : ProgramModel → World → ℕ → Option Place
 process_place p w q = stack_place p (stack_at w.processes q)

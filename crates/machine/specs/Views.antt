@@ -1,4 +1,4 @@
--- Worlds without where they lie in memory.
+-- Worlds without their memory.
 use Rattle.std.specs.Prelude.{ℕ, List, [], ◌∷◌, Option, Some, None, map, reverse}
 pub use Rattle.machine.specs.BlockViews.{held_model, block_model, blocks_model}
 use Rattle.machine.specs.Bindings.{MayTake, variables_in}
@@ -11,11 +11,11 @@ use Rattle.machine.specs.declared.worlds as made
 abbrev pub variables_model : Variables → List (Option ℕ)
 variables_model v = variables_in v.count v.bindings.items
 
--- a variable may take something without more memory
+-- a variable may be given something without allocating
 abbrev pub CanTake : Variables → ℕ → Type 0
 CanTake v u = MayTake v.count v.bindings.items u
 
--- each variable that may take something without more memory still may
+-- each variable that may be given something without allocating still may
 abbrev pub StillTakes : (old new : Variables) → Type 0
 StillTakes old new = (u : ℕ) → CanTake old u → CanTake new u
 
@@ -23,7 +23,7 @@ StillTakes old new = (u : ℕ) → CanTake old u → CanTake new u
 abbrev pub frame_model : made.Frame.Frame → Frame
 frame_model f = record { method = f.method.0; point = f.point; variables = variables_model f.variables }
 
--- the frames of a process: the innermost one, and those that wait, of which the innermost lies last
+-- the frames of a process: the innermost one, then those that wait, which are listed innermost last
 abbrev pub stack_of : Option made.Frame.Frame → List made.Frame.Frame → List Frame
 stack_of None waiting = []
 stack_of (Some f) waiting = frame_model f ∷ map frame_model (reverse waiting)

@@ -1,4 +1,4 @@
--- The world of the machine: processes as stacks of frames, the innermost first, and blocks by their addresses.
+-- The world of the machine: each process is a stack of frames, innermost first, and each block has an address.
 use Rattle.std.specs.Prelude.{ℕ, suc, ◌==◌, Bool, true, false, ◌&&◌, List, [], ◌∷◌, Option, Some, None, get_or, set, if◌then◌else◌}
 use Rattle.program.specs.declared.call.Argument.{Argument}
 use Rattle.program.specs.declared.types.HeapType.{HeapType}
@@ -6,13 +6,13 @@ use Rattle.program.specs.declared.types.HeapType.TheVariants.{Struct}
 use Rattle.machine.specs.declared.worlds.Owner.{Owner}
 use Rattle.machine.specs.declared.worlds.Owner.TheVariants.{Process, Queue, Inside, Channel, Freed}
 
--- a message in a queue: its number, and the addresses that it brings
+-- a message in a queue: its number, and the addresses of the blocks that it brings
 pub record MessageHeld : Type 0 where
   pub message : ℕ
   pub payload : List ℕ
 
--- A block. Its peer, state and queue mean something where it is an endpoint. Its fields are the addresses that the owning fields of a
--- struct hold, in order; a freed block has none.
+-- A block. Its peer, state and queue mean something only if it is an endpoint. Its fields are the
+-- addresses in the owning fields of a struct, in order; a freed block has none.
 pub record Block : Type 0 where
   pub ty : HeapType
   pub owner : Owner
@@ -21,22 +21,22 @@ pub record Block : Type 0 where
   pub queue : List MessageHeld
   pub fields : List ℕ
 
--- a method at a point, and what each of its variables has
+-- a frame: a method at a point, and the address in each of its variables
 pub record Frame : Type 0 where
   pub method : ℕ
   pub point : ℕ
   pub variables : List (Option ℕ)
 
--- the frames of each process, none where it has ended, and the blocks
+-- the frames of each process, none once it has ended, and the blocks
 pub record World : Type 0 where
   pub processes : List (List Frame)
   pub blocks : List Block
 
--- what a variable holds that is not there
+-- the type of a variable that does not exist
 abbrev pub no_type : HeapType
 no_type = Struct record { 0 = 0 }
 
--- Where no block is, nobody has one.
+-- the block at an address that has none: nobody owns it
 abbrev pub no_block : Block
 no_block = record { ty = no_type; owner = Channel; peer = 0; state = 0; queue = []; fields = [] }
 
@@ -48,11 +48,11 @@ block_at blocks a = get_or blocks a no_block
 abbrev pub stack_at : List (List Frame) → ℕ → List Frame
 stack_at processes q = get_or processes q []
 
--- the address that a variable has
+-- the address in a variable
 abbrev pub read : List (Option ℕ) → ℕ → Option ℕ
 read variables v = get_or variables v None
 
--- whether it is this process
+-- whether the owner is this process
 abbrev pub is_process : Owner → ℕ → Bool
 is_process (Process q) p = q == p
 is_process _ p = false
@@ -62,44 +62,44 @@ abbrev pub is_queue : Owner → ℕ → Bool
 is_queue (Queue b) a = b == a
 is_queue _ a = false
 
--- whether it is the block at this address
+-- whether the owner is the block at this address
 abbrev pub is_inside : Owner → ℕ → Bool
 is_inside (Inside b) a = b == a
 is_inside _ a = false
 
--- whether nobody has it any more
+-- whether nobody owns it any more
 abbrev pub is_freed : Owner → Bool
 is_freed Freed = true
 is_freed _ = false
 
--- whether a list has nothing
+-- whether a list is empty
 abbrev pub is_empty : {X : Type 0} → List X → Bool
 is_empty [] = true
 is_empty (x ∷ xs) = false
 
--- the process has the block
+-- whether a process owns the block at an address
 abbrev pub owns : List Block → ℕ → ℕ → Bool
 owns blocks q a = is_process (block_at blocks a).owner q
 
--- the process has the block in a variable
+-- whether a process owns the block in a variable
 abbrev pub is_own : List Block → ℕ → Option ℕ → Bool
 is_own blocks self None = false
 is_own blocks self (Some a) = owns blocks self a
 
--- the block is freed
+-- whether the block at an address is freed
 abbrev pub is_freed_at : List Block → ℕ → Bool
 is_freed_at blocks a = is_freed (block_at blocks a).owner
 
--- An endpoint is cut off where its peer is freed and its own queue is empty.
+-- whether an endpoint is cut off: its peer is freed, and its own queue is empty
 abbrev pub cut_off : List Block → ℕ → Bool
 cut_off blocks a = is_freed_at blocks (block_at blocks a).peer && is_empty (block_at blocks a).queue
 
--- each block is changed by its address
+-- blocks, each changed by its address
 abbrev pub change_each : (ℕ → Block → Block) → List Block → List Block
 change_each f [] = []
 change_each f (b ∷ blocks) = f 0 b ∷ change_each (λ a. f (suc a)) blocks
 
--- variables that are claimed have nothing any more
+-- variables after a call: what is claimed is gone
 abbrev pub let_go : List (Option ℕ) → List Argument → List (Option ℕ)
 let_go variables [] = variables
 let_go variables (a ∷ arguments) = let_go (if a.claimed then set variables a.mention.variable.0 None else variables) arguments

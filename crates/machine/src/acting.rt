@@ -1,4 +1,4 @@
-//! Actions: which function does one, and how a block is freed.
+//! Actions: the function for each of them, and the one that frees a block.
 
 ghost use Rattle.std.specs.Prelude.{◌≡◌, ℕ, OnErr};
 ghost use Rattle.program.specs.Programs.{ProgramModel};
@@ -20,7 +20,7 @@ use crate::worlds::Frame;
 use program::{Action, Mention};
 use std::alloc::Global;
 
-/// Something is done with what variables and fields have.
+/// Performs an action. An error changes nothing.
 pub(crate) fn act(
     turn: &Turn<'_>,
     frame: &mut Frame,
@@ -47,7 +47,7 @@ pub(crate) fn act(
     }
 }
 
-/// Frees what a variable has.
+/// Frees the block that a variable has. `F2` if the process does not own it.
 fn delete(
     alloc: Global,
     frame: &mut Frame,

@@ -23,7 +23,7 @@ use program::{Argument, MethodId, Role, Variable};
 use rules::Program;
 use std::alloc::Global;
 
-/// Whether a method gets the variable from its caller.
+/// Whether a variable of this role is a parameter.
 fn is_parameter(role: Role) -> bool
     ensures { result ≡ formed.is_parameter role }
 {
@@ -33,7 +33,8 @@ fn is_parameter(role: Role) -> bool
     }
 }
 
-/// What the variables of a method have where it begins: its parameters, in order, what is given for them, and the others nothing.
+/// Returns the variables of a method at its first point: its parameters have the arguments, in order, and the others
+/// nothing.
 fn fill(
     alloc: Global,
     frame: &Frame,
@@ -58,7 +59,7 @@ fn fill(
     Ok(has)
 }
 
-/// The frame with which a method begins, given what these variables of the caller have.
+/// Returns the first frame of a method, with arguments from variables of the caller.
 pub(crate) fn enter(
     alloc: Global,
     program: &Program,
@@ -86,7 +87,8 @@ pub(crate) fn enter(
     })
 }
 
-/// A frame is put on top of the one that calls, which lets go what is claimed of the arguments.
+/// Pushes a frame on top of its caller, and empties the caller's variables of the claimed arguments. An error changes
+/// nothing.
 fn push_frame(stack: &mut Process, begun: Frame, arguments: &[Argument]) -> Result<(), Refusal>
     ensures pushed { OnOk result (stack_model stack.new
         ≡ entered_on (frame_model begun) arguments.now (stack_model stack.old)) }
@@ -103,7 +105,7 @@ fn push_frame(stack: &mut Process, begun: Frame, arguments: &[Argument]) -> Resu
     Ok(())
 }
 
-/// A method is called. Its arguments are tested before the frame that begins takes memory.
+/// Calls a method. The arguments are tested before the new frame is allocated. An error changes nothing.
 pub(crate) fn call(
     turn: &Turn<'_>,
     stack: &mut Process,

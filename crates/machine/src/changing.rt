@@ -1,4 +1,4 @@
-//! What becomes of blocks, and of the counts of those that processes have.
+//! Changes of blocks and of the counts of blocks that each process owns.
 
 ghost use Rattle.std.specs.Prelude.{◌≡◌, ◌+◌, ◌<◌, ◌^◌, IsFalse, IsTrue, List, Some, [], ◌∷◌, get_or, length, map, option_map, true, ℕ};
 ghost use Rattle.machine.specs.Answers.{in_state, left_in, with_message, with_field};
@@ -13,7 +13,7 @@ use std::alloc::Global;
 use std::collections::VecDeque;
 use std::mem::replace;
 
-/// An owner has one block less.
+/// Takes one off the count of an owner, if it is a process.
 fn count_less(counts: &mut Vec<usize>, owner: Owner)
     requires some { (q : ℕ) → is_process owner q ≡ true → 0 < get_or counts.old.items q 0 }
     ensures less { (q : ℕ) → get_or counts.new.items q 0 + one_if (is_process owner q) ≡ get_or counts.old.items q 0 }
@@ -24,7 +24,7 @@ fn count_less(counts: &mut Vec<usize>, owner: Owner)
     }
 }
 
-/// An owner has one block more.
+/// Adds one to the count of an owner, if it is a process.
 pub(crate) fn count_more(counts: &mut Vec<usize>, owner: Owner)
     requires listed { IsListed counts.old.items owner }
     requires room { (q : ℕ) → get_or counts.old.items q 0 < 2 ^ 63 }
@@ -36,7 +36,7 @@ pub(crate) fn count_more(counts: &mut Vec<usize>, owner: Owner)
     }
 }
 
-/// A block goes to an owner.
+/// Gives a block to an owner and updates the counts. Does nothing if there is no such block.
 pub(crate) fn hand_one(blocks: &mut Vec<Block>, counts: &mut Vec<usize>, a: usize, to: Owner)
     requires counted { IsCounted (blocks_model blocks.old.items) counts.old.items }
     requires listed { IsListed counts.old.items to }
@@ -52,7 +52,7 @@ pub(crate) fn hand_one(blocks: &mut Vec<Block>, counts: &mut Vec<usize>, a: usiz
     }
 }
 
-/// These blocks go to an owner.
+/// Gives these blocks to an owner and updates the counts.
 pub(crate) fn hand(blocks: &mut Vec<Block>, counts: &mut Vec<usize>, given: &[usize], to: Owner)
     requires counted { IsCounted (blocks_model blocks.old.items) counts.old.items }
     requires listed { IsListed counts.old.items to }
@@ -65,7 +65,7 @@ pub(crate) fn hand(blocks: &mut Vec<Block>, counts: &mut Vec<usize>, given: &[us
     }
 }
 
-/// What these messages bring goes to the channel.
+/// Gives the blocks that these messages bring to the channel.
 pub(crate) fn lose(blocks: &mut Vec<Block>, counts: &mut Vec<usize>, queue: &VecDeque<Held>)
     requires counted { IsCounted (blocks_model blocks.old.items) counts.old.items }
     ensures lost { blocks_model blocks.new.items
@@ -77,7 +77,7 @@ pub(crate) fn lose(blocks: &mut Vec<Block>, counts: &mut Vec<usize>, queue: &Vec
     }
 }
 
-/// An endpoint goes on to a state.
+/// Sets the state of an endpoint.
 pub(crate) fn set_state(blocks: &mut Vec<Block>, a: usize, state: StateId)
     ensures { blocks_model blocks.new.items ≡ change_each (in_state a state.0) (blocks_model blocks.old.items) }
 {
@@ -86,7 +86,7 @@ pub(crate) fn set_state(blocks: &mut Vec<Block>, a: usize, state: StateId)
     }
 }
 
-/// A field of a block takes an address in place of what it holds.
+/// Replaces the address in a field of a block.
 pub(crate) fn set_field(blocks: &mut Vec<Block>, at: usize, field: usize, given: usize)
     requires there { at < length blocks.old.items }
     requires field { field < length (block_at (blocks_model blocks.old.items) at).fields }
@@ -95,7 +95,7 @@ pub(crate) fn set_field(blocks: &mut Vec<Block>, at: usize, field: usize, given:
     blocks[at].fields[field] = given;
 }
 
-/// A message goes to the queue of an endpoint, if there is memory for it.
+/// Appends a message to the queue of an endpoint. Returns false, with no block changed, if out of memory.
 pub(crate) fn enqueue(blocks: &mut Vec<Block>, to: usize, held: Held) -> bool
     ensures done { IsTrue result
         → blocks_model blocks.new.items ≡ change_each (with_message to (held_model held)) (blocks_model blocks.old.items) }
@@ -107,7 +107,7 @@ pub(crate) fn enqueue(blocks: &mut Vec<Block>, to: usize, held: Held) -> bool
     true
 }
 
-/// The front of the queue of an endpoint is taken.
+/// Removes and returns the front of the queue of an endpoint. `None` if the queue is empty.
 pub(crate) fn take_front(blocks: &mut Vec<Block>, at: usize) -> Option<Held>
     ensures taken { (m : MessageHeld) (ms : List MessageHeld) → (block_at (blocks_model blocks.old.items) at).queue ≡ m ∷ ms →
         option_map held_model result ≡ Some m }
@@ -120,7 +120,7 @@ pub(crate) fn take_front(blocks: &mut Vec<Block>, at: usize) -> Option<Held>
     None
 }
 
-/// The whole queue of an endpoint is taken.
+/// Empties the queue of an endpoint and returns what was in it.
 pub(crate) fn take_queue(alloc: Global, blocks: &mut Vec<Block>, at: usize) -> VecDeque<Held>
     ensures taken { map held_model result.items ≡ (block_at (blocks_model blocks.old.items) at).queue }
     ensures left { blocks_model blocks.new.items ≡ change_each (left_in at []) (blocks_model blocks.old.items) }

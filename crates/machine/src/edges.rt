@@ -1,4 +1,4 @@
-//! What the contract of an endpoint says of its channel.
+//! What the contract of an endpoint allows: the state after a message, and room in a queue.
 
 ghost use Rattle.std.specs.Prelude.{◌≡◌, ◌<◌, IfErr, IfOk, IsTrue, MatchOption, Some, false};
 ghost use Rattle.std.specs.Prelude.{length, true, ℕ};
@@ -21,7 +21,8 @@ use crate::worlds::Block;
 use program::{ContractId, HeapType, MessageId, Side, StateId};
 use rules::Program;
 
-/// What an endpoint sends along: its address, its peer and whether that is gone, and the state behind it.
+/// What a send needs to know: the address of the endpoint, its peer and whether that is freed, and the state after
+/// the send.
 #[derive(Clone, Copy)]
 pub(crate) struct Way {
     pub(crate) at: usize,
@@ -30,7 +31,7 @@ pub(crate) struct Way {
     pub(crate) state: StateId,
 }
 
-/// How many messages the queue to an end of a contract may hold; none, where there is no such contract.
+/// Returns how many messages the queue to an end of a contract may hold, 0 if there is no such contract.
 fn bound_at(program: &Program, contract: ContractId, side: Side) -> u32
     ensures { (bound : QueueBounds) → AreBounds (model_of program.now) bound
         → result ≡ bound contract.0 side }
@@ -41,7 +42,7 @@ fn bound_at(program: &Program, contract: ContractId, side: Side) -> u32
     }
 }
 
-/// How many messages the queue to an endpoint of this type may hold.
+/// Returns how many messages the queue to an endpoint of this type may hold, 0 for other types.
 fn bound_of(program: &Program, ty: HeapType) -> u32
     ensures bound { (bound : QueueBounds) → AreBounds (model_of program.now) bound
         → result ≡ told.bound_of bound ty }
@@ -53,7 +54,7 @@ fn bound_of(program: &Program, ty: HeapType) -> u32
     }
 }
 
-/// Whether the queue of an endpoint may take one more message, unless it is freed.
+/// Whether the queue of an endpoint has room for one more message. If the endpoint is freed, there always is room.
 fn has_room(program: &Program, blocks: &[Block], to: usize) -> bool
     ensures room { (bound : QueueBounds) → AreBounds (model_of program.now) bound
         → result ≡ has_room bound (blocks_model blocks.now) to }
@@ -64,8 +65,8 @@ fn has_room(program: &Program, blocks: &[Block], to: usize) -> bool
         || queue_length(blocks, to) < bound_of(program, type_of(blocks, to)) as usize
 }
 
-/// The state of an endpoint behind a send of the message. None, where it sends no such message in its state; where it is cut off, the
-/// state stays.
+/// Returns the state of an endpoint after it sends a message. `None` if its state sends no such message. If the
+/// endpoint is cut off, it may send any message and its state stays.
 fn state_behind(
     program: &Program,
     blocks: &[Block],
@@ -84,7 +85,8 @@ fn state_behind(
     program.state_after_send(Some(type_of(blocks, at)), state.0, message)
 }
 
-/// What an endpoint sends a message along, if its state sends it and the queue to its peer may take it.
+/// Returns what a send needs. `F4` if the state of the endpoint does not send the message, `F6` if the queue of its
+/// peer is full.
 pub(crate) fn way_out(
     program: &Program,
     blocks: &[Block],
@@ -122,7 +124,7 @@ pub(crate) fn way_out(
     })
 }
 
-/// The other side of a contract.
+/// Returns the other side of a contract.
 fn other(side: Side) -> Side
     ensures { sign_from result ≡ sign_to side }
 {
@@ -132,7 +134,7 @@ fn other(side: Side) -> Side
     }
 }
 
-/// What stands at the other end of a channel.
+/// Returns the type of the other end of a channel. Other types stay as they are.
 fn other_end(ty: HeapType) -> HeapType
     ensures { (p : ProgramModel) (q : ℕ) → edges_out p (Some result) q ≡ edges_in p (Some ty) q }
 {
@@ -150,7 +152,7 @@ fn other_end(ty: HeapType) -> HeapType
     }
 }
 
-/// The state of an endpoint behind a receive of the message: where its state has no such edge, it stays.
+/// Returns the state of an endpoint after it receives a message. If its state has no such edge, it stays.
 pub(crate) fn state_received(
     program: &Program,
     blocks: &[Block],

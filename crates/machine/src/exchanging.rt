@@ -1,4 +1,4 @@
-//! A variable and a field of a block change places.
+//! Exchanges of a variable with a field of a block.
 
 ghost use Rattle.std.specs.Prelude.{◌≡◌, ◌∷◌, [], IfSome, MatchOption, OnErr, Some, false, true};
 ghost use Rattle.program.specs.Programs.{ProgramModel};
@@ -15,7 +15,7 @@ use crate::reading::own;
 use crate::worlds::{Block, Frame};
 use program::Exchange;
 
-/// The address, where the process has the block and it is not the one at another address.
+/// Returns `address` if the process owns the block there and it is not the block at `at`.
 fn own_apart(blocks: &[Block], process: usize, at: usize, address: Option<usize>) -> Option<usize>
     ensures some { IfSome result (λ a. address ≡ Some a) }
     ensures own { MatchOption result
@@ -29,8 +29,11 @@ fn own_apart(blocks: &[Block], process: usize, at: usize, address: Option<usize>
     Some(a)
 }
 
-/// What a variable has and what a field of a block holds change places. Where the block has no such field only the point moves on. No
-/// memory is taken.
+/// Exchanges what a variable has with what a field of a block holds. If the block has no such field, only the point
+/// moves on. It never allocates.
+///
+/// `F1` if the process does not own the block with the field, `F3` if it does not own the block in the variable or
+/// both are the same. An error changes nothing.
 pub(crate) fn exchange(
     frame: &mut Frame,
     heap: &mut BlockHeap,

@@ -1,4 +1,4 @@
-//! A block is freed with all that is inside it, through any number of blocks. No memory is taken, and no call is as deep as the blocks.
+//! Frees a block with all that is inside it, through any number of blocks, without allocating and without recursion.
 
 ghost use Rattle.std.specs.Prelude.{◌≡◌, ◌<◌, IfNone, IfSome, [], length, true};
 ghost use Rattle.machine.specs.BlockViews.{blocks_model};
@@ -11,7 +11,7 @@ use crate::changing::{hand_one, lose, take_queue};
 use crate::worlds::{Block, Owner};
 use std::alloc::Global;
 
-/// Takes the last address out of the fields of a block.
+/// Removes and returns the last address in the fields of a block.
 fn pop_field(blocks: &mut Vec<Block>, x: usize) -> Option<usize>
     requires there { x < length blocks.old.items }
     ensures some { IfSome result (IsPopped (blocks_model blocks.old.items) (blocks_model blocks.new.items) x) }
@@ -21,7 +21,7 @@ fn pop_field(blocks: &mut Vec<Block>, x: usize) -> Option<usize>
     blocks[x].fields.pop()
 }
 
-/// Frees one block, whose fields hold nothing. Its queue is emptied, and what that owned goes to the channel.
+/// Frees one block, whose fields hold nothing. Its queue is emptied, and the blocks that the queue owned go to the channel.
 fn free_one(alloc: Global, blocks: &mut Vec<Block>, counts: &mut Vec<usize>, x: usize)
     requires counted { IsCounted (blocks_model blocks.old.items) counts.old.items }
     requires brought { QueuesBring (blocks_model blocks.old.items) }
@@ -34,8 +34,8 @@ fn free_one(alloc: Global, blocks: &mut Vec<Block>, counts: &mut Vec<usize>, x: 
     hand_one(blocks, counts, x, Owner::Freed);
 }
 
-/// Goes down to what the last field of a block held, or, if its fields hold nothing, frees the block and goes up to the one that it was
-/// inside. None if it was inside no block.
+/// Removes the last field of a block and returns the address in it. If the fields hold nothing, it frees the block
+/// and returns the block that it was inside, `None` if it was inside none.
 fn free_step(
     alloc: Global,
     blocks: &mut Vec<Block>,

@@ -1,4 +1,4 @@
-//! What is given with a call or a start.
+//! Arguments of a call or a start: their tests and their addresses.
 
 ghost use Rattle.std.specs.Prelude.{◌≡◌, ◌∷◌, [], IfErr, IfOk, IfSome, List, MatchOption, OnOk, Some, false, if◌then◌else◌, true, ℕ};
 ghost use Rattle.program.specs.Lists.{is_among};
@@ -17,7 +17,7 @@ use program::{Argument, Mention};
 use std::alloc::Global;
 use std::collections::BTreeSet;
 
-/// What is wrong where an argument is not the process's own.
+/// Returns the fault of an argument that the process does not own: `F3` if it is claimed, else `F1`.
 fn fault_of(argument: Argument) -> Fault
     ensures { result ≡ (if argument.claimed then F3 else F1) }
 {
@@ -28,7 +28,7 @@ fn fault_of(argument: Argument) -> Fault
     }
 }
 
-/// The address, where the process has the block and it was not claimed before.
+/// Returns the address if the process owns the block there and no earlier argument claimed it.
 fn own_still(
     blocks: &[Block],
     process: usize,
@@ -47,7 +47,7 @@ fn own_still(
     Some(a)
 }
 
-/// An argument takes a block away, if it is claimed.
+/// Adds the block of an argument to the claimed ones, if the argument is claimed.
 fn take(taken: &mut BTreeSet<usize>, argument: Argument, a: usize) -> Result<(), Refusal>
     ensures taken { OnOk result ((listed : List ℕ) → AreIn listed taken.old
         → AreIn (if argument.claimed then a ∷ listed else listed) taken.new) }
@@ -59,7 +59,8 @@ fn take(taken: &mut BTreeSet<usize>, argument: Argument, a: usize) -> Result<(),
     Ok(())
 }
 
-/// The fault of the first argument that fails its test, by a set of what is claimed. An error says only that the set could not grow.
+/// Returns the fault of the first argument that fails its test, using a set of the claimed blocks. Its only error is
+/// `Memory`, if the set could not grow.
 fn first_fault_by_set(
     alloc: Global,
     frame: &Frame,
@@ -93,7 +94,7 @@ fn is_claimed(frame: &Frame, arguments: &[Argument], a: usize) -> bool
     false
 }
 
-/// Whether the process has the block in a variable, and none of the arguments before claims it.
+/// Whether the process owns the block in a variable, and no earlier argument claims it.
 fn is_unclaimed(
     frame: &Frame,
     blocks: &[Block],
@@ -110,7 +111,8 @@ fn is_unclaimed(
     }
 }
 
-/// The fault of the first argument that fails its test. Each is compared with all before it, so it takes no memory.
+/// Returns the fault of the first argument that fails its test. It compares each argument with all earlier ones, so
+/// it never allocates.
 fn first_fault_by_scan(
     frame: &Frame,
     blocks: &[Block],
@@ -134,10 +136,11 @@ fn first_fault_by_scan(
     None
 }
 
-/// The fault of the first argument that is not the process's own, or whose block an argument before it claims.
+/// Returns the fault of the first argument that the process does not own or whose block an earlier argument claims.
 ///
-/// A fault comes before want of memory, so the tests cannot end for want of it. A method may have a thousand parameters: the set keeps
-/// the time in step with them, and only where it cannot grow is each argument compared with all before it.
+/// A fault takes precedence over `Memory`, so the tests must not fail for lack of memory. A method may have a
+/// thousand parameters: a set keeps the time nearly linear in their number. Only if the set cannot grow is each
+/// argument compared with all earlier ones.
 pub(crate) fn first_fault(
     alloc: Global,
     frame: &Frame,
@@ -154,7 +157,7 @@ pub(crate) fn first_fault(
     }
 }
 
-/// The addresses in the variables that are given.
+/// Returns the addresses in the variables of the arguments, in order.
 pub(crate) fn addresses(
     alloc: Global,
     frame: &Frame,

@@ -1,51 +1,51 @@
-//! Events, and why one is no step.
+//! Events, and why an event is no step.
 
 use source::Place;
 use std::alloc::{AllocError, AllocFailed};
 
-/// One instruction of a process. The choice is 0, but for the false way of a condition, which is 1, and for a switch, where it is the
-/// number of one of its endpoints, in the order in which its cases name them first.
+/// One instruction of a process. The choice is 0, except for two instructions: for a condition, 1 selects the false
+/// branch; for a switch, it is the index of one of its endpoints, in the order in which its cases first name them.
 #[derive(Clone, Copy, Debug, PartialEq, Eq)]
 pub struct Event {
     pub process: u64,
     pub choice: u64,
 }
 
-/// What a process does wrong.
+/// A fault of a process.
 #[derive(Clone, Copy, Debug, PartialEq, Eq)]
 pub enum Fault {
-    /// It reads or writes a block that is not its own.
+    /// It reads or writes a block that it does not own.
     F1,
-    /// It frees a block that is not its own.
+    /// It frees a block that it does not own.
     F2,
-    /// It gives away a block that is not its own.
+    /// It gives away a block that it does not own.
     F3,
     /// It sends a message that the state of its endpoint does not send.
     F4,
-    /// A message or a close comes for which its switch has no case.
+    /// Its switch has no case for the message or close that arrives.
     F5,
-    /// It sends where the queue holds as many messages as it may.
+    /// It sends to a queue that is full.
     F6,
     /// It ends and still owns a block.
     F7,
 }
 
-/// Why no step was taken.
+/// Why an event was no step.
 #[derive(Clone, Copy, Debug, PartialEq, Eq)]
 pub enum Halt {
     /// There is no such process, or it has ended.
     NoSuchProcess,
     /// The instruction of the process has no such choice.
     NoSuchChoice,
-    /// The process does something wrong, at the place of its instruction.
+    /// The process commits a fault, at the place of its instruction.
     Fault(Fault, Place),
-    /// The queue of the chosen endpoint is empty, and its peer is there.
+    /// The queue of the chosen endpoint is empty, and its peer is not freed.
     Waits,
-    /// A growth of memory was refused.
+    /// Out of memory.
     Memory,
 }
 
-/// Why an instruction was not done.
+/// Why an instruction was not run.
 #[derive(Clone, Copy)]
 pub(crate) enum Refusal {
     /// The process has ended.

@@ -1,4 +1,4 @@
-//! Blocks, with what is kept of them so that no step has to go over all of them.
+//! Blocks, with counts of them, so that no step has to go over all blocks.
 
 ghost use Rattle.std.specs.Prelude.{◌≡◌, ◌≢◌, ◌<◌, ◌++◌, ◌∷◌, [], IfErr, IfNone, IfSome, IsFalse, IsTrue, List, OnErr, OnOk};
 ghost use Rattle.std.specs.Prelude.{false, length, slice_get, true};
@@ -19,7 +19,7 @@ use program::{HeapType, MessageId, StateId};
 use std::alloc::Global;
 use std::collections::VecDeque;
 
-/// Blocks by their addresses, and by its number how many of them each process has.
+/// The blocks, by their addresses, and how many of them each process owns, by its number.
 #[derive(Drop)]
 pub(crate) struct BlockHeap {
     blocks: Vec<Block>,
@@ -30,7 +30,7 @@ pub(crate) struct BlockHeap {
 impl BlockHeap {
     ghost use Rattle.machine.specs.Views.{heap_model};
 
-    /// A heap of no block.
+    /// Returns a heap without blocks.
     pub(crate) fn new(alloc: Global) -> BlockHeap
         ensures { heap_model result ≡ [] }
     {
@@ -40,21 +40,21 @@ impl BlockHeap {
         }
     }
 
-    /// Its blocks, by their addresses.
+    /// Returns the blocks, by their addresses.
     pub(crate) fn blocks(&self) -> &[Block]
         ensures { result.now ≡ self.now.blocks.items }
     {
         &self.blocks
     }
 
-    /// Whether a process owns nothing.
+    /// Whether a process owns no block.
     pub(crate) fn owns_none(&self, process: usize) -> bool
         ensures { result ≡ owns_none (heap_model self.now) process }
     {
         process >= self.counts.len() || self.counts[process] == 0
     }
 
-    /// There is a count for a process from now on. It is asked for before the process is first given a block.
+    /// Makes sure that there is a count for a process. Call it before the process is first given a block.
     pub(crate) fn list(&mut self, process: usize) -> Result<(), Refusal>
         ensures same { heap_model self.new ≡ heap_model self.old }
         ensures listed { OnOk result (process < length self.new.counts.items) }
@@ -66,7 +66,8 @@ impl BlockHeap {
         Ok(())
     }
 
-    /// A process has a new block, whose fields hold what it gives. That is inside the new block from now on.
+    /// Adds a block of a process, whose fields hold the given blocks. These are inside the new block from then on. An
+    /// error changes nothing.
     pub(crate) fn add(
         &mut self,
         alloc: Global,
@@ -99,7 +100,7 @@ impl BlockHeap {
         Ok(())
     }
 
-    /// A process has a new block, whose queue and fields are empty.
+    /// Adds a block of a process, whose queue and fields are empty. An error adds none.
     pub(crate) fn add_alone(&mut self, process: usize, block: Block) -> Result<(), Refusal>
         requires owner { block.owner ≡ Owner.Process process }
         requires empty { block.queue.items ≡ [] }
@@ -115,7 +116,7 @@ impl BlockHeap {
         Ok(())
     }
 
-    /// A process has two new blocks, whose queues and fields are empty.
+    /// Adds two blocks of a process, whose queues and fields are empty. An error adds none.
     pub(crate) fn add_two(
         &mut self,
         process: usize,
@@ -142,8 +143,8 @@ impl BlockHeap {
         Ok(())
     }
 
-    /// Frees a block of a process and all that is inside it. The queues of what is freed are emptied, and what they owned goes to the
-    /// channel.
+    /// Frees a block of a process and all that is inside it. The queues of the freed blocks are emptied, and the
+    /// blocks that these queues owned go to the channel.
     pub(crate) fn free(&mut self, alloc: Global, a: usize)
         requires owned { of_process (block_at (heap_model self.old) a).owner ≡ true }
         ensures { heap_model self.new
@@ -152,8 +153,8 @@ impl BlockHeap {
         free(alloc, &mut self.blocks, &mut self.counts, a);
     }
 
-    /// What a process gives and what a field of another of its blocks holds change places. The latter is returned, if there is such a
-    /// field.
+    /// Exchanges a block of a process with what a field of another of its blocks holds, and returns the latter.
+    /// `None`, with nothing changed, if there is no such field.
     pub(crate) fn exchange(
         &mut self,
         process: usize,
@@ -179,7 +180,7 @@ impl BlockHeap {
         Some(held)
     }
 
-    /// What processes have goes to a process.
+    /// Gives blocks that processes own to one process.
     pub(crate) fn hand_over(&mut self, given: &[usize], process: usize)
         requires owned { AreOwned (heap_model self.old) given.now }
         requires listed { process < length self.old.counts.items }
@@ -194,8 +195,9 @@ impl BlockHeap {
         );
     }
 
-    /// The endpoint sends what processes have: it goes on to a state, and the message goes to its peer, or what it brings to the channel
-    /// where the peer is gone. False where there is no memory for the message.
+    /// Sends blocks that processes own: sets the new state of the endpoint and appends the message to the queue of
+    /// its peer. If the peer is freed, the blocks go to the channel. Returns false, with nothing changed, if out of
+    /// memory.
     pub(crate) fn send(
         &mut self,
         alloc: Global,
@@ -228,7 +230,8 @@ impl BlockHeap {
         true
     }
 
-    /// The endpoint of a process receives the front of its queue, and is in a state then. What the message brings is answered.
+    /// Receives the front of the queue of an endpoint of a process, sets the new state of the endpoint, and gives the
+    /// blocks that the message brings to the process. Returns their addresses.
     pub(crate) fn receive(&mut self, at: usize, state: StateId, process: usize) -> Vec<usize>
         requires owned { owns (heap_model self.old) process at ≡ true }
         requires some { 0 < length (block_at (heap_model self.old) at).queue }

@@ -23,7 +23,7 @@ use flow::{Branches, Instr};
 use rules::Program;
 use std::alloc::Global;
 
-/// How many choices there are at an instruction.
+/// Returns the number of choices at an instruction.
 pub(crate) fn choices(instr: &Instr) -> usize
     ensures { result ≡ told.choices (instruction_model instr.now) }
 {
@@ -37,7 +37,7 @@ pub(crate) fn choices(instr: &Instr) -> usize
     }
 }
 
-/// What an instruction needs beside a world: memory, the program, and the process that runs it.
+/// What an instruction needs besides a world: the allocator, the program, and the process that runs it.
 #[derive(Clone, Copy)]
 pub(crate) struct Turn<'a> {
     pub(crate) alloc: Global,
@@ -46,7 +46,7 @@ pub(crate) struct Turn<'a> {
 }
 
 impl World {
-    /// One instruction of a process, done the way of this choice.
+    /// Runs one instruction of a process with this choice. An error leaves the world unchanged.
     pub(crate) fn run(
         &mut self,
         turn: &Turn<'_>,

@@ -19,21 +19,21 @@ use program::{Argument, HeapType, Mention, Method, MethodId, StructId, VarId};
 use rules::Program;
 
 impl Frame {
-    /// What a variable has.
+    /// Returns the address that a variable has, if any.
     pub(crate) fn has(&self, v: Mention) -> Option<usize>
         ensures { result ≡ read (frame_model self.now).variables v.variable.0 }
     {
         self.variables.has(v.variable)
     }
 
-    /// The address in a variable; 0 where there is none, which a test has ruled out.
+    /// Returns the address that a variable has, 0 if it has none. A test has ruled that out.
     pub(crate) fn address(&self, v: Mention) -> usize
         ensures { result ≡ address (read (frame_model self.now).variables v.variable.0) }
     {
         self.has(v).unwrap_or(0)
     }
 
-    /// Takes the memory that is needed to give a variable something. What it has stays.
+    /// Allocates what `put` needs to give a variable something. What the variable has stays.
     pub(crate) fn list(&mut self, v: Mention) -> Result<(), Refusal>
         ensures same { frame_model self.new ≡ frame_model self.old }
         ensures takes { OnOk result (CanTake self.new.variables v.variable.0) }
@@ -44,7 +44,7 @@ impl Frame {
         Ok(())
     }
 
-    /// Replaces what a variable has. It takes no memory, so `list` comes before it if the variable is given something.
+    /// Replaces what a variable has. It never allocates, so call `list` first if the variable is given something.
     pub(crate) fn put(&mut self, v: Mention, x: Option<usize>)
         requires takes { (a : ℕ) → x ≡ Some a → CanTake self.old.variables v.variable.0 }
         ensures put { frame_model self.new ≡ with_variables (frame_model self.old) (set (frame_model self.old).variables v.variable.0 x) }
@@ -53,7 +53,7 @@ impl Frame {
         self.variables.put(v.variable, x);
     }
 
-    /// Replaces what a variable has, if there is such a variable. It takes the memory for that first.
+    /// Replaces what the target has, if there is a target, after allocating what that needs. An error changes nothing.
     pub(crate) fn take(&mut self, target: Option<Mention>, x: Option<usize>) -> Result<(), Refusal>
         ensures taken { OnOk result (frame_model self.new
             ≡ with_variables (frame_model self.old) (told.put (frame_model self.old).variables target x)) }
@@ -68,7 +68,7 @@ impl Frame {
     }
 }
 
-/// What a variable of a method holds.
+/// Returns the type of a variable of a method, struct 0 if there is no such variable.
 pub(crate) fn type_at(program: &Program, method: MethodId, v: VarId) -> HeapType
     ensures { result ≡ type_at (variables_of (model_of program.now) method.0) v.0 }
 {
@@ -80,14 +80,14 @@ pub(crate) fn type_at(program: &Program, method: MethodId, v: VarId) -> HeapType
     HeapType::Struct(StructId(0))
 }
 
-/// The variable of the exchange heap before this one in scope.
+/// Returns the next variable of the exchange heap outwards in scope.
 fn outer_of(method: &Method, variable: VarId) -> Option<VarId>
     ensures { result ≡ outer_of (method_model method.now).variables variable }
 {
     method.variables.get(variable.0)?.outer
 }
 
-/// Whether the second is there and the same variable.
+/// Whether `other` is this variable.
 fn is_this(variable: VarId, other: Option<VarId>) -> bool
     ensures { result ≡ is_this variable other }
 {
@@ -97,7 +97,7 @@ fn is_this(variable: VarId, other: Option<VarId>) -> bool
     }
 }
 
-/// These variables go out of scope.
+/// Empties the variables that go out of scope: from `last` outwards, up to `outer` and without it.
 pub(crate) fn forgets(
     variables: &mut Variables,
     method: &Method,
@@ -120,7 +120,7 @@ pub(crate) fn forgets(
     }
 }
 
-/// What is claimed of an argument is gone.
+/// Empties the variable of an argument, if it is claimed.
 fn lets_one_go(variables: &mut Variables, argument: Argument)
     ensures gone { variables_model variables.new ≡ let_go (variables_model variables.old) (argument ∷ []) }
     ensures still { StillTakes variables.old variables.new }
@@ -130,7 +130,7 @@ fn lets_one_go(variables: &mut Variables, argument: Argument)
     }
 }
 
-/// What is claimed of arguments is gone.
+/// Empties the variables of the claimed arguments.
 pub(crate) fn lets_go(variables: &mut Variables, arguments: &[Argument])
     ensures gone { variables_model variables.new ≡ let_go (variables_model variables.old) arguments.now }
     ensures still { StillTakes variables.old variables.new }
@@ -140,7 +140,7 @@ pub(crate) fn lets_go(variables: &mut Variables, arguments: &[Argument])
     }
 }
 
-/// Takes the memory that is needed to give each variable that a case binds something.
+/// Allocates what `bind` needs to give something to each variable that a case binds.
 pub(crate) fn list_bound(variables: &mut Variables, targets: &[VarId]) -> Result<(), Refusal>
     ensures same { variables_model variables.new ≡ variables_model variables.old }
     ensures takes { OnOk result (AllMayTake variables.new.count variables.new.bindings.items targets.now) }
@@ -152,7 +152,7 @@ pub(crate) fn list_bound(variables: &mut Variables, targets: &[VarId]) -> Result
     Ok(())
 }
 
-/// The variables that a case binds take what its message brings.
+/// Gives the variables that a case binds what its message brings, in order.
 pub(crate) fn bind(variables: &mut Variables, targets: &[VarId], payload: &[usize])
     requires takes { AllMayTake variables.old.count variables.old.bindings.items targets.now }
     ensures { variables_model variables.new ≡ bound_to (variables_model variables.old) targets.now payload.now }

@@ -20,7 +20,9 @@ use program::{Channel, HeapType, Mention, Side, StateId};
 use std::alloc::Global;
 use std::collections::VecDeque;
 
-/// The target takes a new block, whose fields hold what is given. Every test comes before the first growth of memory.
+/// Gives the target a new block, whose fields hold the arguments. All tests come before the first allocation.
+///
+/// `F3` if the process does not own each argument or two are the same. An error changes nothing.
 pub(crate) fn new(
     turn: &Turn<'_>,
     frame: &mut Frame,
@@ -53,7 +55,7 @@ pub(crate) fn new(
     Ok(())
 }
 
-/// The variable takes a new block without owning fields. Nothing is given for it, so nothing is tested or listed.
+/// Gives the variable a new block without owning fields. Nothing is given for it, so nothing is tested.
 fn new_alone(
     turn: &Turn<'_>,
     frame: &mut Frame,
@@ -78,7 +80,7 @@ fn new_alone(
     Ok(())
 }
 
-/// Whether it is an importing end.
+/// Whether a type is an importing end.
 fn is_imp(ty: HeapType) -> bool
     ensures { result ≡ is_imp ty }
 {
@@ -91,7 +93,7 @@ fn is_imp(ty: HeapType) -> bool
     }
 }
 
-/// A new block of a process, with an empty queue and without owning fields.
+/// Returns a new block of a process, with an empty queue and without owning fields.
 fn new_block(alloc: Global, process: usize, ty: HeapType, peer: usize, state: StateId) -> Block
     ensures { block_model result ≡ new_block ty process peer state.0 [] }
 {
@@ -105,7 +107,7 @@ fn new_block(alloc: Global, process: usize, ty: HeapType, peer: usize, state: St
     }
 }
 
-/// The type of an end of a channel.
+/// Returns the type of an end of a channel.
 fn end_type(channel: Channel, side: Side) -> HeapType
     ensures { result ≡ end_type channel side }
 {
@@ -116,7 +118,7 @@ fn end_type(channel: Channel, side: Side) -> HeapType
     }
 }
 
-/// Two new ends in a state, the importing one first.
+/// Adds two ends in a state, the importing one first. An error adds none.
 fn open(
     alloc: Global,
     heap: &mut BlockHeap,
@@ -143,7 +145,7 @@ fn open(
     heap.add_two(process, imp, exp)
 }
 
-/// Two variables take the two ends of a new channel.
+/// Gives two variables the two ends of a new channel, both in the first state of the contract. An error changes nothing.
 pub(crate) fn new_channel(
     turn: &Turn<'_>,
     frame: &mut Frame,

@@ -1,4 +1,4 @@
-//! What is given with a message, or for the fields of a new block.
+//! The payload of a message, or what the fields of a new block are given.
 
 ghost use Rattle.std.specs.Prelude.{◌≡◌, [], IfErr, IfOk, IsFalse, IsTrue, Some};
 ghost use Rattle.program.specs.Lists.{is_among};
@@ -28,7 +28,7 @@ fn is_sent(frame: &Frame, payloads: &[Mention], a: usize) -> bool
     false
 }
 
-/// Whether the process has the block in a variable, and none of the payloads before is the same.
+/// Whether the process owns the block in a variable, and no earlier payload is the same block.
 fn is_unsent(
     frame: &Frame,
     blocks: &[Block],
@@ -46,8 +46,10 @@ fn is_unsent(
     }
 }
 
-/// Whether the process has the block of each payload, and no two are the same. A message has few payloads, and a struct few fields that
-/// own, so each is compared with all before it, which takes no memory: a fault comes before want of memory.
+/// Whether the process owns the block of each payload, and no two are the same.
+///
+/// A message has few payloads and a struct few owning fields, so each is compared with all earlier ones. That never
+/// allocates: a fault takes precedence over `Memory`.
 pub(crate) fn are_unsent(
     frame: &Frame,
     blocks: &[Block],
@@ -67,7 +69,7 @@ pub(crate) fn are_unsent(
     true
 }
 
-/// The addresses in the variables that are given with a message or for a new block, in order.
+/// Returns the addresses in the variables that are given with a message or for a new block, in order.
 pub(crate) fn payload_addresses(
     alloc: Global,
     frame: &Frame,
@@ -83,7 +85,7 @@ pub(crate) fn payload_addresses(
     Ok(given)
 }
 
-/// A message or a new block claims all that is given with it: the variables are empty then.
+/// Empties the variables of the payloads, since a message or a new block claims all that it is given.
 pub(crate) fn lets_payloads_go(variables: &mut Variables, payloads: &[Mention])
     ensures gone { variables_model variables.new ≡ let_go (variables_model variables.old) (payloads_claimed payloads.now) }
     ensures still { StillTakes variables.old variables.new }

@@ -1,4 +1,4 @@
-//! Where a process stands.
+//! Where a process is in the text, and what can be read of a world.
 
 ghost use Rattle.std.specs.Prelude.{◌≡◌, length, map, option_map, slice_get};
 ghost use Rattle.flow.specs.Graphs.{instruction_model};
@@ -15,7 +15,7 @@ use program::Action;
 use rules::Program;
 use source::Place;
 
-/// The place of an action.
+/// Returns the place of an action.
 fn action_place(action: &Action) -> Place
     ensures { result ≡ told.action_place action.now }
 {
@@ -27,7 +27,7 @@ fn action_place(action: &Action) -> Place
     }
 }
 
-/// The place of an instruction.
+/// Returns the place of an instruction.
 pub(crate) fn place_of(instr: &Instr) -> Place
     ensures { result ≡ told.place_of (instruction_model instr.now) }
 {
@@ -44,7 +44,7 @@ pub(crate) fn place_of(instr: &Instr) -> Place
 }
 
 impl Process {
-    /// The frame in which it stands. None, where it has ended.
+    /// Returns the innermost frame. `None` if the process has ended.
     pub fn innermost(&self) -> Option<&Frame>
         ensures { option_map (λ f. frame_model f.now) result ≡ slice_get (stack_model self.now) 0 }
     {
@@ -54,7 +54,7 @@ impl Process {
         }
     }
 
-    /// How many frames it has: none, where it has ended.
+    /// Returns the number of frames, 0 if the process has ended.
     pub fn frame_count(&self) -> usize
         ensures { result ≡ length (stack_model self.now) }
     {
@@ -64,7 +64,7 @@ impl Process {
         }
     }
 
-    /// The place of the instruction at which it stands. None, where it has ended.
+    /// Returns the place of the current instruction. `None` if the process has ended, or its frame is at no instruction.
     pub fn place(&self, program: &Program) -> Option<Place>
         ensures { result ≡ stack_place (model_of program.now) (stack_model self.now) }
     {
@@ -75,14 +75,15 @@ impl Process {
 }
 
 impl World {
-    /// Its processes, by their numbers.
+    /// Returns the processes, by their numbers.
     pub fn processes(&self) -> &[Process]
         ensures { map stack_model result.now ≡ (world_model self.now).processes }
     {
         &self.processes
     }
 
-    /// Its blocks, by their addresses. Their fields hold just what is inside them, and the owners lead up in finitely many steps.
+    /// Returns the blocks, by their addresses. The fields of a block hold exactly what is directly inside it, and
+    /// each chain of owners ends after finitely many steps.
     pub fn blocks(&self) -> &[Block]
         ensures seen { blocks_model result.now ≡ (world_model self.now).blocks }
         ensures held { FieldsHold (blocks_model result.now) }

@@ -1,4 +1,4 @@
-//! Instructions on one frame that change no block.
+//! Instructions that change one frame and no block.
 
 ghost use Rattle.std.specs.Prelude.{◌≡◌, List, OnErr, ℕ};
 ghost use Rattle.program.specs.Programs.{ProgramModel};
@@ -21,7 +21,7 @@ use flow::Branches;
 use program::{Forget, Mention};
 use rules::Program;
 
-/// Reads or writes a block.
+/// Reads or writes a block. `F1` if the process does not own it.
 pub(crate) fn use_(
     frame: &mut Frame,
     blocks: &[Block],
@@ -42,7 +42,7 @@ pub(crate) fn use_(
     Ok(())
 }
 
-/// The target takes what the source has.
+/// Moves what the source has to the target. `F1` if the process does not own it. An error changes nothing.
 pub(crate) fn move_(
     frame: &mut Frame,
     blocks: &[Block],
@@ -67,7 +67,7 @@ pub(crate) fn move_(
     Ok(())
 }
 
-/// A condition goes the way of the choice.
+/// Continues at the branch that the choice selects.
 pub(crate) fn branch(frame: &mut Frame, branches: Branches, choice: usize)
     ensures { (p : ProgramModel) (bound : QueueBounds) (w : seen.World) (rest : List seen.Frame)
         (process : ℕ) (place : Place)
@@ -80,7 +80,7 @@ pub(crate) fn branch(frame: &mut Frame, branches: Branches, choice: usize)
     };
 }
 
-/// Variables go out of scope.
+/// Empties the variables that go out of scope, and moves the frame on.
 pub(crate) fn forget_(frame: &mut Frame, program: &Program, forget: Forget, next: usize)
     ensures { (bound : QueueBounds) (w : seen.World) (rest : List seen.Frame) (process : ℕ)
         → outcome_from (model_of program.now) bound w process (frame_model frame.old) rest

@@ -1,4 +1,4 @@
-//! What blocks say.
+//! Reads what is known of blocks.
 
 ghost use Rattle.std.specs.Prelude.{◌≡◌, ◌<◌, IfNone, IfSome, Some, false, length, option_map, slice_get, true};
 ghost use Rattle.machine.specs.Answers.{front_of};
@@ -9,7 +9,7 @@ use crate::worlds::{Block, Owner};
 use program::{HeapType, MessageId, StateId, StructId};
 
 impl Owner {
-    /// Whether it is this process.
+    /// Whether the owner is this process.
     pub(crate) fn is_process(self, process: usize) -> bool
         ensures { result ≡ is_process self process }
     {
@@ -19,7 +19,7 @@ impl Owner {
         }
     }
 
-    /// Whether it is the queue of this endpoint.
+    /// Whether the owner is the queue of the endpoint at this address.
     pub(crate) fn is_queue(self, end: usize) -> bool
         ensures { result ≡ is_queue self end }
     {
@@ -29,7 +29,7 @@ impl Owner {
         }
     }
 
-    /// Whether nobody has the block any more.
+    /// Whether nobody owns the block any more.
     fn is_freed(self) -> bool
         ensures { result ≡ is_freed self }
     {
@@ -40,7 +40,7 @@ impl Owner {
     }
 }
 
-/// The address, where the process has the block.
+/// Returns the address if the process owns the block there.
 pub(crate) fn own(blocks: &[Block], process: usize, address: Option<usize>) -> Option<usize>
     ensures some { IfSome result (λ a. address ≡ Some a) }
     ensures here { IfSome result (λ a. a < length blocks.now) }
@@ -66,7 +66,7 @@ pub(crate) fn is_freed(blocks: &[Block], a: usize) -> bool
     }
 }
 
-/// The peer of an endpoint; 0 where no block is.
+/// Returns the peer of an endpoint, 0 if there is no block.
 pub(crate) fn peer_of(blocks: &[Block], a: usize) -> usize
     ensures { result ≡ (block_at (blocks_model blocks.now) a).peer }
 {
@@ -76,7 +76,7 @@ pub(crate) fn peer_of(blocks: &[Block], a: usize) -> usize
     }
 }
 
-/// What the block at an address is.
+/// Returns the type of the block at an address, struct 0 if there is no block.
 pub(crate) fn type_of(blocks: &[Block], a: usize) -> HeapType
     ensures { result ≡ (block_at (blocks_model blocks.now) a).ty }
 {
@@ -86,7 +86,7 @@ pub(crate) fn type_of(blocks: &[Block], a: usize) -> HeapType
     }
 }
 
-/// The state of an endpoint.
+/// Returns the state of an endpoint, 0 if there is no block.
 pub(crate) fn state_of(blocks: &[Block], a: usize) -> StateId
     ensures { result.0 ≡ (block_at (blocks_model blocks.now) a).state }
 {
@@ -96,7 +96,7 @@ pub(crate) fn state_of(blocks: &[Block], a: usize) -> StateId
     }
 }
 
-/// What a field of a block holds, if the block has such a field.
+/// Returns the address in a field of a block. `None` if the block has no such field.
 pub(crate) fn field_of(blocks: &[Block], at: usize, field: usize) -> Option<usize>
     ensures { result ≡ slice_get (block_at (blocks_model blocks.now) at).fields field }
 {
@@ -104,7 +104,7 @@ pub(crate) fn field_of(blocks: &[Block], at: usize, field: usize) -> Option<usiz
     block.fields.get(field).copied()
 }
 
-/// How many messages are in the queue of an endpoint.
+/// Returns the number of messages in the queue of an endpoint.
 pub(crate) fn queue_length(blocks: &[Block], a: usize) -> usize
     ensures { result ≡ length (block_at (blocks_model blocks.now) a).queue }
 {
@@ -114,14 +114,14 @@ pub(crate) fn queue_length(blocks: &[Block], a: usize) -> usize
     }
 }
 
-/// Whether an endpoint is cut off.
+/// Whether an endpoint is cut off: its peer is freed and its own queue is empty.
 pub(crate) fn is_cut_off(blocks: &[Block], a: usize) -> bool
     ensures { result ≡ cut_off (blocks_model blocks.now) a }
 {
     is_freed(blocks, peer_of(blocks, a)) && queue_length(blocks, a) == 0
 }
 
-/// The message at the front of the queue of an endpoint.
+/// Returns the message at the front of the queue of an endpoint. `None` if the queue is empty.
 pub(crate) fn front(blocks: &[Block], a: usize) -> Option<MessageId>
     ensures { option_map (λ m. m.0) result ≡ front_of (block_at (blocks_model blocks.now) a).queue }
 {

@@ -1,4 +1,4 @@
-//! Runs.
+//! Replays of events.
 
 ghost use Rattle.std.specs.Prelude.{◌≡◌, ◌<◌, IfOk, Some, length};
 ghost use Rattle.rules.specs.Programs.{model_of};
@@ -13,8 +13,8 @@ use rules::Program;
 use source::Memory;
 use std::alloc::Global;
 
-/// What events came to, one after the other: the world behind the last step, how many steps were taken, and why the event behind them
-/// was none. There is no reason where every event was a step.
+/// The result of a replay: the world after the last step, the number of steps, and why the next event is no step.
+/// There is no such reason if every event was a step.
 #[derive(Drop)]
 pub struct Replayed {
     pub world: World,
@@ -22,7 +22,7 @@ pub struct Replayed {
     pub halt: Option<Halt>,
 }
 
-/// Want of memory is no answer, and every other halt is.
+/// Returns the halt as it is, but `Memory` as an error, since running out of memory ends no replay.
 fn refuse_memory(halt: Halt) -> Result<Halt, Memory>
     ensures same { IfOk result (λ answer. answer ≡ halt) }
     ensures known { IfOk result (λ answer. MayEndReplay (Some answer)) }
@@ -33,9 +33,10 @@ fn refuse_memory(halt: Halt) -> Result<Halt, Memory>
     }
 }
 
-/// Takes these events, one after the other, from the beginning of a method until one is no step.
+/// Takes these events one by one, from the beginning of a method, until one is no step.
 ///
-/// `Memory` is answered where a growth was refused, also in a step: no replay has that as its halt.
+/// # Errors
+/// `Memory` if out of memory, also in a step: no replay has that as its halt.
 pub fn replay(
     alloc: Global,
     program: &Program,

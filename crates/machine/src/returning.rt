@@ -1,4 +1,4 @@
-//! The end of a frame.
+//! Ends of frames.
 
 ghost use Rattle.std.specs.Prelude.{◌≡◌, [], IfErr, IsFalse, IsSome, IsTrue, OnErr, OnOk, Option};
 ghost use Rattle.program.specs.Programs.{ProgramModel};
@@ -20,7 +20,7 @@ use crate::standing::behind_call;
 use crate::worlds::{Block, Frame, Process};
 use program::Mention;
 
-/// Whether the innermost frame may give what a variable has, if there is one.
+/// Whether the innermost frame may return what a variable has. True if there is no frame or no variable.
 fn can_give(stack: &Process, blocks: &[Block], process: usize, value: Option<Mention>) -> bool
     ensures may { IsTrue result
         → (p : ProgramModel) (bound : QueueBounds) (w : seen.World) (place : Place)
@@ -39,7 +39,7 @@ fn can_give(stack: &Process, blocks: &[Block], process: usize, value: Option<Men
     }
 }
 
-/// The caller's target takes what the innermost frame gives, if it gives something.
+/// Gives the caller's target what the innermost frame returns, if it returns something. An error changes nothing.
 fn give_back(
     top: &Option<Frame>,
     value: Option<Mention>,
@@ -58,8 +58,10 @@ fn give_back(
     Ok(())
 }
 
-/// The innermost frame ends, and gives what this variable has, if there is one. The frame that waits for it goes on; where none waits,
-/// the process ends, and then it is to own nothing.
+/// Ends the innermost frame, which returns what this variable has, if there is one. The frame that waits for it
+/// continues. If none waits, the process ends.
+///
+/// `F7` if the process would end and still owns a block. An error changes nothing.
 pub(crate) fn end(
     turn: &Turn<'_>,
     stack: &mut Process,
@@ -88,7 +90,8 @@ pub(crate) fn end(
     Ok(())
 }
 
-/// A method ends.
+/// Returns from a method. `F3` if the process does not own the returned value, `F7` if it would end and still owns a
+/// block. An error changes nothing.
 pub(crate) fn return_(
     turn: &Turn<'_>,
     stack: &mut Process,

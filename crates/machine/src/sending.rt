@@ -1,4 +1,4 @@
-//! A send.
+//! Sends.
 
 ghost use Rattle.std.specs.Prelude.{◌≡◌, OnErr};
 ghost use Rattle.flow.specs.Graphs.{instruction_model};
@@ -18,7 +18,10 @@ use crate::reading::own;
 use crate::worlds::Frame;
 use flow::Sending;
 
-/// An endpoint sends a message, and what is given with it. Every test comes before the first growth of memory.
+/// Sends a message with its payload through an endpoint. All tests come before the first allocation.
+///
+/// `F1` if the process does not own the endpoint, `F3` if it does not own each payload or two are the same, `F4` if
+/// the state sends no such message, `F6` if the queue is full. An error changes nothing.
 pub(crate) fn send(
     turn: &Turn<'_>,
     frame: &mut Frame,

@@ -1,4 +1,4 @@
-//! Where a frame stands in its method.
+//! Where a frame is in its method.
 
 ghost use Rattle.std.specs.Prelude.{◌≡◌, option_map};
 ghost use Rattle.flow.specs.Graphs.{instruction_model};
@@ -12,7 +12,7 @@ use flow::Instr;
 use program::Mention;
 use rules::Program;
 
-/// The instruction at which a frame stands.
+/// Returns the current instruction of a frame. `None` if there is no such method or point.
 pub(crate) fn instruction_at<'a>(program: &'a Program, frame: &Frame) -> Option<&'a Instr>
     ensures { option_map (λ i. instruction_model i.now) result ≡ told.instruction_at (model_of program.now) (frame_model frame.now) }
 {
@@ -24,14 +24,14 @@ pub(crate) fn instruction_at<'a>(program: &'a Program, frame: &Frame) -> Option<
     Some(instruction)
 }
 
-/// What stands behind the call at which a frame waits: what takes the result, and where the frame goes on.
+/// How a frame continues after the call at which it waits: the variable that takes the result, and the next point.
 #[derive(Clone, Copy)]
 pub(crate) struct Behind {
     pub(crate) target: Option<Mention>,
     pub(crate) next: usize,
 }
 
-/// What stands behind the call at which a frame waits.
+/// Returns how a frame continues after the call at which it waits. Without a call, there is no target and the point is 0.
 pub(crate) fn behind_call(program: &Program, frame: &Frame) -> Behind
     ensures target { result.target ≡ call_target (told.instruction_at (model_of program.now) (frame_model frame.now)) }
     ensures next { result.next ≡ call_next (told.instruction_at (model_of program.now) (frame_model frame.now)) }

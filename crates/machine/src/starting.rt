@@ -17,7 +17,7 @@ use crate::worlds::{Process, World};
 use flow::Starting;
 use program::Argument;
 
-/// The innermost frame lets go what is claimed of arguments, and goes on at a point.
+/// Empties the variables of the claimed arguments in the innermost frame, and moves it on to a point.
 fn go_on(stack: &mut Process, arguments: &[Argument], next: usize)
     ensures { stack_model stack.new ≡ went_on arguments.now next (stack_model stack.old) }
 {
@@ -27,7 +27,7 @@ fn go_on(stack: &mut Process, arguments: &[Argument], next: usize)
     }
 }
 
-/// A method is started as a process of its own, which owns what is given.
+/// Starts a method as a new process, which owns the blocks of the arguments. An error changes nothing.
 pub(crate) fn start(turn: &Turn<'_>, world: &mut World, starting: &Starting) -> Result<(), Refusal>
     requires there { turn.now.process < length world.old.processes.items }
     ensures tells { (bound : QueueBounds)

@@ -23,7 +23,7 @@ use rules::Program;
 use source::{Memory, Place};
 use std::alloc::Global;
 
-/// Why no step was taken, where an instruction at a place was refused.
+/// Returns why no step was taken, given why the instruction at a place was refused.
 fn halt_of(refusal: Refusal, place: Place) -> Halt
     ensures { result ≡ answers.halt_of refusal place }
 {
@@ -36,7 +36,7 @@ fn halt_of(refusal: Refusal, place: Place) -> Halt
 }
 
 impl World {
-    /// The frame in which a process stands, if there is such a process and it has not ended.
+    /// Returns the innermost frame of a process. `None` if there is no such process or it has ended.
     fn innermost(&self, process: usize) -> Option<&Frame>
         ensures there { IfSome result (λ f. process < length self.now.processes.items) }
         ensures stands { IfSome result (λ f. stack_at (world_model self.now).processes process
@@ -50,9 +50,10 @@ impl World {
         }
     }
 
-    /// A world in which one process begins with a method, which has no parameters of the exchange heap.
+    /// Returns a world in which one process begins with a method. Parameters of the exchange heap begin with nothing.
     ///
-    /// `Memory` is answered where a growth was refused.
+    /// # Errors
+    /// `Memory` if out of memory.
     pub fn start(alloc: Global, program: &Program, method: MethodId) -> Result<World, Memory>
         requires there { method.0 < length (model_of program.now).methods }
         ensures { IfOk result (λ w. world_model w ≡ start_of (model_of program.now) method.0) }
@@ -76,10 +77,15 @@ impl World {
         })
     }
 
-    /// One event: the instruction at which the process stands, done the way of the choice. An answer that is refused leaves the world
-    /// as it was. It is, by the first of these that holds: `NoSuchProcess` where there is no such process or it has ended;
-    /// `NoSuchChoice` where the instruction has no such choice; `Fault` where the process does something wrong; `Waits` where it waits
-    /// for a message and none is there; `Memory` where a growth was refused, and with memory the event would have been a step.
+    /// Takes one event: runs the current instruction of its process with its choice.
+    ///
+    /// # Errors
+    /// An error leaves the world as it was. It is the first of these that holds:
+    /// * `NoSuchProcess`: there is no such process, or it has ended.
+    /// * `NoSuchChoice`: the instruction has no such choice.
+    /// * `Fault`: the process commits this fault, at this place.
+    /// * `Waits`: the queue of the chosen endpoint is empty, and its peer is not freed.
+    /// * `Memory`: out of memory; with more memory the event would have been a step.
     pub fn step(&mut self, alloc: Global, program: &Program, event: Event) -> Result<(), Halt>
         ensures tells { (bound : QueueBounds) → AreBounds (model_of program.now) bound →
             TellsStep result (event_outcome (model_of program.now) bound (world_model self.old) event)

@@ -1,4 +1,4 @@
-//! A switch.
+//! Switches.
 
 ghost use Rattle.std.specs.Prelude.{◌≡◌, ◌<◌, ◌∷◌, [], IfErr, List, OnErr, OnOk, Some, length, true, ℕ};
 ghost use Rattle.flow.specs.Cases.{entrance_model, first_mentions};
@@ -26,7 +26,7 @@ use flow::{Cases, Entrance};
 use program::{Mention, MessageId, VarId};
 use rules::Program;
 
-/// That the process has the block in each of these variables.
+/// Tests that the process owns the block in each of these variables. `F1` if it does not.
 fn are_own(
     frame: &Frame,
     blocks: &[Block],
@@ -49,14 +49,16 @@ fn are_own(
     Ok(())
 }
 
-/// Where an endpoint stands in a switch: the variable that names it, and its address.
+/// An endpoint of a switch: the variable that names it, and its address.
 #[derive(Clone, Copy)]
 struct Listener {
     variable: VarId,
     at: usize,
 }
 
-/// Nothing is in the queue of an endpoint: its close comes to a case, if its peer is gone.
+/// Takes the case for the close of an endpoint whose queue is empty.
+///
+/// `Waits` if its peer is not freed, `F5` if there is no such case. An error changes nothing.
 fn close(
     frame: &mut Frame,
     blocks: &[Block],
@@ -87,7 +89,7 @@ struct Arrival {
     message: MessageId,
 }
 
-/// The message at the front of a queue is received at a case.
+/// Receives the message at the front of a queue and takes its case.
 fn receive_at(
     program: &Program,
     frame: &mut Frame,
@@ -113,7 +115,9 @@ fn receive_at(
     frame.point = case.next;
 }
 
-/// What is at the front of the queue of an endpoint, or its close, comes to a case.
+/// Takes the case for the message at the front of the queue of an endpoint, or for its close if the queue is empty.
+///
+/// `Waits` if the queue is empty and the peer is not freed, `F5` if there is no such case. An error changes nothing.
 fn deliver(
     program: &Program,
     frame: &mut Frame,
@@ -147,7 +151,9 @@ fn deliver(
     Ok(())
 }
 
-/// A switch receives at the endpoint of this number among those that it names.
+/// Receives at the endpoint of this index among those that a switch names.
+///
+/// `F1` if the process does not own each of these endpoints, then the errors of `deliver`. An error changes nothing.
 pub(crate) fn switch(
     turn: &Turn<'_>,
     frame: &mut Frame,

@@ -1,4 +1,4 @@
-//! What the variables of a frame have.
+//! The variables of a frame.
 
 ghost use Rattle.std.specs.Prelude.{◌≡◌, ◌+◌, ◌++◌, ◌∷◌, ◌<◌, ◌^◌, [], IfErr, IfOk, OnErr, OnOk, Some, set, ℕ};
 ghost use Rattle.machine.specs.Bindings.{AreSorted, IsAt, IsGap, MayTake, address_of, variables_in};
@@ -17,7 +17,7 @@ pub(crate) struct Binding {
 }
 
 impl Binding {
-    /// The binding of a variable that has this.
+    /// Returns the binding of a variable that has this.
     fn new(variable: u32, x: Option<usize>) -> Binding
         ensures variable { result.variable ≡ variable }
         ensures has { address_of result ≡ x }
@@ -36,7 +36,7 @@ impl Binding {
         }
     }
 
-    /// What the variable has.
+    /// Returns the address that the variable has, if any.
     fn has(self) -> Option<usize>
         ensures { result ≡ address_of self }
     {
@@ -50,8 +50,8 @@ impl Binding {
 
 /// What each exchange-heap variable of a method has: an address, or nothing.
 ///
-/// Only variables that were ever given something take memory. Such a variable has a binding and keeps it when it is emptied, so giving it
-/// something again takes no memory. The bindings are sorted by variable.
+/// Only variables that were ever given something take memory. Such a variable has a binding and keeps it when it is
+/// emptied, so giving it something again does not allocate. The bindings are sorted by variable.
 #[derive(Drop)]
 pub struct Variables {
     count: usize,
@@ -60,7 +60,7 @@ pub struct Variables {
 }
 
 impl Variables {
-    /// No variables.
+    /// Returns an empty list of variables.
     pub(crate) fn new(alloc: Global) -> Variables
         ensures none { variables_in result.count result.bindings.items ≡ [] }
         ensures count { result.count ≡ 0 }
@@ -71,7 +71,7 @@ impl Variables {
         }
     }
 
-    /// No variables, with memory for just this many bindings.
+    /// Returns an empty list of variables with capacity for exactly this many bindings.
     pub(crate) fn with_capacity(alloc: Global, most: usize) -> Result<Variables, AllocError>
         ensures none { IfOk result (λ v. variables_in v.count v.bindings.items ≡ []) }
         ensures count { IfOk result (λ v. v.count ≡ 0) }
@@ -82,7 +82,8 @@ impl Variables {
         })
     }
 
-    /// Adds a variable, which has this.
+    /// Appends a variable that has this. `Err` if out of memory, or if its number needs more than 32 bits and it has
+    /// an address.
     pub(crate) fn push(&mut self, x: Option<usize>) -> Result<(), AllocError>
         requires fits { self.old.count + 1 < 2 ^ 64 }
         ensures more { OnOk result (variables_in self.new.count self.new.bindings.items
@@ -103,12 +104,12 @@ impl Variables {
         Ok(())
     }
 
-    /// The index of a variable's binding. `Err` is the index at which to insert one.
+    /// Returns the index of a variable's binding. `Err` is the index at which to insert one.
     fn search(&self, v: VarId) -> Result<usize, usize>
         ensures found { IfOk result (IsAt self.now.bindings.items v.0) }
         ensures absent { IfErr result (IsGap self.now.bindings.items v.0) }
     {
-        // Where each variable before it has a binding, its own is at its number.
+        // If each variable before it has a binding, its own is at its number.
         if let Some(binding) = self.bindings.get(v.0) {
             if binding.variable as usize == v.0 {
                 return Ok(v.0);
@@ -117,7 +118,7 @@ impl Variables {
         self.search_all(v)
     }
 
-    /// The same, by a search among all bindings.
+    /// Does the same by a binary search among all bindings.
     fn search_all(&self, v: VarId) -> Result<usize, usize>
         ensures found { IfOk result (IsAt self.now.bindings.items v.0) }
         ensures absent { IfErr result (IsGap self.now.bindings.items v.0) }
@@ -126,7 +127,7 @@ impl Variables {
             .binary_search_by_key(&v.0, |binding| binding.variable as usize)
     }
 
-    /// What a variable has.
+    /// Returns the address that a variable has, if any.
     pub(crate) fn has(&self, v: VarId) -> Option<usize>
         ensures { result ≡ read (variables_in self.now.count self.now.bindings.items) v.0 }
     {
@@ -136,9 +137,10 @@ impl Variables {
         }
     }
 
-    /// Makes a binding for a variable that has none, so that `put` may give it something. Does nothing for a number that no variable has.
+    /// Makes a binding for a variable that has none, so that `put` may give it something. Does nothing for a number
+    /// that no variable has.
     ///
-    /// `Err` if memory was refused, or if the number needs more than 32 bits, which that of no variable does.
+    /// `Err` if out of memory, or if the number needs more than 32 bits, which that of no variable does.
     pub(crate) fn list(&mut self, v: VarId) -> Result<(), AllocError>
         ensures same { variables_in self.new.count self.new.bindings.items ≡ variables_in self.old.count self.old.bindings.items }
         ensures takes { OnOk result (MayTake self.new.count self.new.bindings.items v.0) }
@@ -157,7 +159,7 @@ impl Variables {
         Ok(())
     }
 
-    /// Replaces what a variable has. It takes no memory: before a variable is given an address, `list` makes its binding.
+    /// Replaces what a variable has. It never allocates: call `list` before a variable is given an address.
     pub(crate) fn put(&mut self, v: VarId, x: Option<usize>)
         requires takes { (a : ℕ) → x ≡ Some a → MayTake self.old.count self.old.bindings.items v.0 }
         ensures put { variables_in self.new.count self.new.bindings.items

@@ -1,11 +1,11 @@
-//! Worlds as they lie in memory.
+//! Worlds in memory.
 
 use crate::heaps::BlockHeap;
 use crate::variables::Variables;
 use program::{HeapType, MessageId, MethodId, StateId};
 use std::collections::VecDeque;
 
-/// Who has a block.
+/// Who owns a block.
 #[derive(Clone, Copy, Debug, PartialEq, Eq)]
 pub enum Owner {
     /// The process of this number.
@@ -14,7 +14,7 @@ pub enum Owner {
     Queue(usize),
     /// The block at this address: one of its owning fields holds it.
     Inside(usize),
-    /// The channel: it was sent to an endpoint that is gone, or was left in the queue of one.
+    /// The channel: the block was sent to an endpoint that is freed, or was left in the queue of one.
     Channel,
     /// Nobody any more.
     Freed,
@@ -27,8 +27,8 @@ pub struct Held {
     pub payload: Vec<usize>,
 }
 
-/// A block. Its peer, its state and its queue mean something where it is an endpoint. The front of the queue comes first. Its fields are
-/// the addresses that the owning fields of a struct hold, in order.
+/// A block. Its peer, state and queue mean something only if it is an endpoint. The front of the queue comes first.
+/// Its fields are the addresses that the owning fields of a struct hold, in order.
 #[derive(Drop)]
 pub struct Block {
     pub ty: HeapType,
@@ -47,7 +47,7 @@ pub struct Frame {
     pub variables: Variables,
 }
 
-/// A process: its innermost frame, none where it has ended, and those that wait for it, the innermost last.
+/// A process: its innermost frame, `None` if it has ended, and those that wait for it, the innermost last.
 #[derive(Drop)]
 pub struct Process {
     pub(crate) top: Option<Frame>,

@@ -11,7 +11,7 @@ use Rattle.names.specs.declared.variables.ScopeVariables.{ScopeVariables}
 use Rattle.names.proofs.TurnLemmas.{Ongoing}
 use Rattle.lemmas.proofs.Lists.{none_left}
 
--- a name, and those behind it
+-- a name, and then the names after it
 abbrev bound_next : ProgramText → Option MessageParameter → Bind → List MessageParameter → List Bind → NameFrame → CheckedPiece
 bound_next p param b params binds f = follow (bind_turn p param b.name b.ty f) (binds_turn p params binds)
 

@@ -15,53 +15,53 @@ use Rattle.names.specs.Variables.{NameFrame, CheckedPiece, turn, follow}
 use Rattle.names.specs.declared.variables.ScopeVariables.{ScopeVariables}
 use Rattle.names.proofs.TurnLemmas.{Ongoing}
 
--- the next statement, and what is left behind it
+-- the next statement, and the rest after it
 pub next_statement : (m : Surroundings) (xs : List made.Statement.Statement) (i : ℕ) (x : made.Statement.Statement) → i < length xs → x ≡ get_or xs i x
     → statements_turn m (statement_sequence (map statement_tree (drop i xs))) ≡ (λ f. follow (statement_turn m (statement_tree x) f) (statements_turn m (statement_sequence (map statement_tree (drop (i + 1) xs)))))
 next_statement m xs i x lt is =
     let behind : ℕ → NameFrame → CheckedPiece = λ n f. follow (statement_turn m (statement_tree x) f) (statements_turn m (statement_sequence (map statement_tree (drop n xs)))) in
     ap (λ l. statements_turn m (statement_sequence (map statement_tree l))) (drop-cons xs i x lt ∙ ap (λ k. k ∷ drop (suc i) xs) (sym is)) ∙ ap behind (sym (add-one i))
 
--- behind the last statement nothing is left
+-- after the last statement, nothing is left
 pub no_statement : {text : List ℕ} {old mid : List Mistake} {v : ScopeVariables} {whole : CheckedPiece} (m : Surroundings) (xs : List made.Statement.Statement) (i : ℕ) → length xs ≤ i
     → Ongoing text old mid v whole (statements_turn m (statement_sequence (map statement_tree (drop i xs)))) → Ongoing text old mid v whole (turn [])
 no_statement {text = text} {old = old} {mid = mid} {v = v} {whole = whole} m xs i past o =
     subst (λ rest. Ongoing text old mid v whole (statements_turn m (statement_sequence (map statement_tree rest)))) (drop_all i xs past) o
 
--- behind the last test of an `if` its last block is left
+-- after the last test of an `if`, its last block is left
 pub last_branch : {text : List ℕ} {old mid : List Mistake} {v : ScopeVariables} {whole : CheckedPiece} (m : Surroundings) (ts : List made.Test.Test) (i : ℕ) (otherwise : Option made.Block.Block) (block : made.Block.Block) → length ts ≤ i → otherwise ≡ Some block
     → Ongoing text old mid v whole (others_turn m (other_sequence (map test_tree (drop i ts)) (option_map block_tree otherwise))) → Ongoing text old mid v whole (block_turn m (block_tree block))
 last_branch {text = text} {old = old} {mid = mid} {v = v} {whole = whole} m ts i otherwise block past is o =
     subst (λ last. Ongoing text old mid v whole (others_turn m (other_sequence [] (option_map block_tree last)))) is
     (subst (λ rest. Ongoing text old mid v whole (others_turn m (other_sequence (map test_tree rest) (option_map block_tree otherwise)))) (drop_all i ts past) o)
 
--- behind the last test of an `if` with no last block nothing is left
+-- after the last test of an `if` without a last block, nothing is left
 pub no_branch : {text : List ℕ} {old mid : List Mistake} {v : ScopeVariables} {whole : CheckedPiece} (m : Surroundings) (ts : List made.Test.Test) (i : ℕ) (otherwise : Option made.Block.Block) → length ts ≤ i → otherwise ≡ None
     → Ongoing text old mid v whole (others_turn m (other_sequence (map test_tree (drop i ts)) (option_map block_tree otherwise))) → Ongoing text old mid v whole (turn [])
 no_branch {text = text} {old = old} {mid = mid} {v = v} {whole = whole} m ts i otherwise past is o =
     subst (λ last. Ongoing text old mid v whole (others_turn m (other_sequence [] (option_map block_tree last)))) is
     (subst (λ rest. Ongoing text old mid v whole (others_turn m (other_sequence (map test_tree rest) (option_map block_tree otherwise)))) (drop_all i ts past) o)
 
--- the next test of an `if`, and what is left behind it
+-- the next test of an `if`, and the rest after it
 pub next_test : (m : Surroundings) (ts : List made.Test.Test) (i : ℕ) (x : made.Test.Test) (last : Option BlockTree) → i < length ts → x ≡ get_or ts i x
     → others_turn m (other_sequence (map test_tree (drop i ts)) last) ≡ (λ f. follow (test_turn m (test_tree x) f) (others_turn m (other_sequence (map test_tree (drop (i + 1) ts)) last)))
 next_test m ts i x last lt is =
     let behind : ℕ → NameFrame → CheckedPiece = λ n f. follow (test_turn m (test_tree x) f) (others_turn m (other_sequence (map test_tree (drop n ts)) last)) in
     ap (λ l. others_turn m (other_sequence (map test_tree l) last)) (drop-cons ts i x lt ∙ ap (λ k. k ∷ drop (suc i) ts) (sym is)) ∙ ap behind (sym (add-one i))
 
--- the head of a case
+-- the head at an index is that of the case there
 head_found : (cases : List CaseTree) (i : ℕ) (x : CaseTree) → i < length cases → x ≡ get_or cases i x → slice_get (heads_of (case_sequence cases)) i ≡ Some (head_of x)
 head_found [] i x lt is = absurd (omega (arith, lt))
 head_found (c ∷ cases) zero x lt is = ap (λ k. Some (head_of k)) (sym is)
 head_found (c ∷ cases) (suc i) x lt is = head_found cases i x (omega (arith, lt)) is
 
--- those up to a case, and the case
+-- the heads before a case, and then its own
 heads_taken : (h : Head) (cases : List CaseTree) (i : ℕ) (x : CaseTree) → i < length cases → x ≡ get_or cases i x → take (suc i) (h ∷ heads_of (case_sequence cases)) ++ head_of x ∷ [] ≡ take (suc (suc i)) (h ∷ heads_of (case_sequence cases))
 heads_taken h [] i x lt is = absurd (omega (arith, lt))
 heads_taken h (c ∷ cases) zero x lt is = ap (λ k. h ∷ head_of k ∷ []) is
 heads_taken h (c ∷ cases) (suc i) x lt is = ap (λ l. h ∷ l) (heads_taken (head_of c) cases i x (omega (arith, lt)) is)
 
--- a case of a switch behind the first
+-- a case of a switch after the first one
 pub record Next (m : Surroundings) (h : Head) (cases : List CaseTree) (i : ℕ) (x : CaseTree) : Type 0 where
   pub head : slice_get (h ∷ heads_of (case_sequence cases)) (i + 1) ≡ Some (head_of x)
   pub rest : cases_turn m (h ∷ heads_of (case_sequence cases)) (take (i + 1) (h ∷ heads_of (case_sequence cases))) (case_sequence (drop i cases))
@@ -82,10 +82,10 @@ next_case m h cases i x lt is =
           ∙ ap (λ n. go (i + 1 + 1) n) (sym (add-one i));
     }
 
--- the case in memory at a place is the one there
+-- the case at an index in memory is the one at that index in the tree
 pub case_there : (s : made.Switch.Switch) (i : ℕ) (x : made.Case.Case) → (switch_tree s).others ≡ map case_tree (made.Switch.out-Switch s).others.items → x ≡ get_or (made.Switch.out-Switch s).others.items i x → case_tree x ≡ get_or (switch_tree s).others i (case_tree x)
 case_there s i x others is = ap case_tree is ∙ sym (get_or-map case_tree (made.Switch.out-Switch s).others.items i x) ∙ ap (λ l. get_or l i (case_tree x)) (sym others)
 
--- behind the last case nothing is left
+-- after the last case, nothing is left
 pub last_case : (m : Surroundings) (all earlier : List Head) (cases : List CaseTree) (i : ℕ) → length cases ≤ i → cases_turn m all earlier (case_sequence (drop i cases)) ≡ turn []
 last_case m all earlier cases i past = ap (λ l. cases_turn m all earlier (case_sequence l)) (drop_all i cases past)

@@ -1,4 +1,4 @@
--- Where nothing is wrong with a program, nothing is with its contracts.
+-- If nothing is wrong with a program, nothing is wrong with its contracts.
 use Rattle.std.proofs.Common.{◌≡◌, ℕ, List, [], ◌∷◌, ◌++◌, length, map, sym, refl, ap, ◌∙◌, subst, arith}
 use Rattle.std.specs.Prelude.{◌==◌, true}
 use Rattle.std.specs.List.{flat_map}
@@ -15,7 +15,7 @@ use Rattle.declarations.specs.Scopes.{IsScope, program_of_scope}
 use Rattle.declarations.specs.declared.scope.Scope.{Scope}
 use Rattle.names.specs.Findings.{definition_mistakes, program_mistakes}
 
--- where nothing is wrong within the items, nothing is within the contracts among them
+-- if nothing is wrong within the items, nothing is wrong within the contracts among them
 one_clean : (p : ProgramText) (d : DefinitionTree) (cs : List ContractTree) → definition_mistakes p d ≡ [] → flat_map (contract_mistakes p) cs ≡ [] → flat_map (contract_mistakes p) (contract_of d ++ cs) ≡ []
 one_clean p (Contract c) cs none rest = ap (λ l. l ++ flat_map (contract_mistakes p) cs) none ∙ rest
 one_clean p (Struct s) cs none rest = rest
@@ -39,14 +39,14 @@ own_program p scope h =
     let of : List ℕ → List ItemTree → ProgramText = λ text items. record { text = text; items = items } in
     ap (λ text. of text (map item_tree scope.items.now)) h.text_is ∙ ap (of p.text) h.items_are
 
--- what is known of a scope with whose names nothing is wrong
+-- a scope of a program whose names have no mistakes
 pub record IsCleared (p : ProgramText) (scope : Scope) : Type 0 where
   pub clean : program_mistakes p ≡ []
   pub same : program_of_scope scope ≡ p
   pub own : IsScope (program_of_scope scope) scope
   pub contracts : contracts_mistakes (program_of_scope scope) ≡ []
 
--- where nothing was found to be wrong
+-- if no mistake was found, the scope is cleared
 pub cleared_by : (text : List ℕ) (items shown : List tree.Item.Item) (scope : Scope) (found : List Mistake) (many : ℕ) → shown ≡ items → many ≡ length found → (many == 0) ≡ true
     → IsScope (record { text = text; items = map item_tree shown }) scope → ((p : ProgramText) → IsScope p scope → found ≡ program_mistakes p)
     → IsCleared (record { text = text; items = map item_tree items }) scope

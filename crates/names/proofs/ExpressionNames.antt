@@ -22,7 +22,7 @@ use Rattle.declarations.specs.declared.scope.Scope.{Scope}
 use Rattle.names.specs.declared.variables.ScopeVariables.{ScopeVariables}
 use Rattle.declarations.proofs.AddLemmas.{adds_then}
 
--- what an expression is judged to be
+-- the operand that an expression is judged as
 abbrev judged_as : InScope → Shape → Operand
 judged_as s e = record { ty = type_of s e; place = place_of e }
 
@@ -31,7 +31,7 @@ is_judged_as s e o ty-is place-is =
     let operand : ValueType → Place → Operand = λ k p. record { ty = k; place = p } in
     ap (λ k. operand k o.place) ty-is ∙ ap (operand (type_of s e)) place-is
 
--- two operands that are joined, by the expressions that they are
+-- two joined operands, given by their expressions
 pub joined_shapes : (s : InScope) (joint : Joint) (l r : Shape) {more new : List Mistake} {left right o : Operand} → left.ty ≡ type_of s l → left.place ≡ place_of l → right.ty ≡ type_of s r → right.place ≡ place_of r → IsJoined joint left right more new o → IsJoined joint (judged_as s l) (judged_as s r) more new o
 joined_shapes s joint l r {more = more} {new = new} {left = left} {right = right} {o = o} left-ty left-place right-ty right-place both =
     subst (λ a. IsJoined joint a (judged_as s r) more new o) (is_judged_as s l left left-ty left-place)
@@ -61,7 +61,7 @@ joined_more : (l : Operators) (e : Shape) (ps : List (StepOf l)) (p : StepOf l) 
 joined_more l e [] p = refl
 joined_more l e (q ∷ ps) p = joined_more l (Joined (joint_of l) e (shape q.1)) ps p
 
--- a chain as far as it was judged
+-- an expression joined with the first i steps of a chain
 abbrev pub chain_to : (l : Operators) → {X : Type 0} → (X → StepOf l) → Shape → List X → ℕ → Shape
 chain_to l f e xs i = joined e (step_sequence l (map f (take i xs)))
 
@@ -84,7 +84,7 @@ judges_all l f first xs ys i tree {scope = scope} {variables = variables} {old =
     subst (λ t. Judges scope variables (shape t) old new o) (sym seen)
     (subst (λ zs. Judges scope variables (joined (shape first) (step_sequence l (map f zs))) old new o) (take_all i xs le ∙ same) h)
 
--- the part behind an operator
+-- the part after an operator
 pub judges_step : (l : Operators) (p q : StepOf l) {scope : Scope} {variables : ScopeVariables} {old new : List Mistake} {o : Operand} → p ≡ q → Judges scope variables (shape q.1) old new o → Judges scope variables (shape p.1) old new o
 judges_step l p q {scope = scope} {variables = variables} {old = old} {new = new} {o = o} seen h = subst (λ (r : StepOf l). Judges scope variables (shape r.1) old new o) (sym seen) h
 
@@ -99,6 +99,6 @@ judges_signed ps qs a tree (Ok o) new {scope = scope} {variables = variables} {o
     (subst (λ rs. Judges scope variables (with_signs rs (atom_shape a)) old new o) same
     (record { all = λ p f is_scope is_frame. all _ (atom_shape a) old (first.all p f is_scope is_frame) }))
 
--- one more sign, from behind
+-- one more sign, from the last one forwards
 pub judged_more : (s : InScope) (e : Shape) (ps : List Prefix) (p : Prefix) {old mid new : List Mistake} {inner o : Operand} → IsOperand s (with_signs ps e) old mid inner → IsSigned p.operator p.span.place inner mid new o → IsOperand s (with_signs (p ∷ ps) e) old new o
 judged_more s e ps p = judged_signed s p (with_signs ps e)

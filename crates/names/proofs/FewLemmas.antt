@@ -61,6 +61,6 @@ in_items (i ∷ items) =
     let spelled = length-append (programs.item i) (flat_map programs.item items) in
     omega (arith, here, rest, front, both, messages, spelled)
 
--- each message has a symbol of its own
+-- each message has its own symbol
 pub few_messages : (t : tree.Tree.Tree) → message_count (contracts_of (program_tree t)) ≤ length (programs.program (program_tree t))
 few_messages t = in_items (program_tree t)

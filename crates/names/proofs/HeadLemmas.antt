@@ -1,4 +1,4 @@
--- Where the heads of a switch stand, and which stand before a place.
+-- Positions of the heads of a switch, and the heads before an index.
 use Rattle.std.proofs.Common.{◌≡◌, ℕ, zero, suc, ◌+◌, List, [], ◌∷◌, length, take, Some, None, Bool, true, false, not, cond, ltb, sym, refl, ap, ◌∙◌, ⊎_elim, arith}
 use Rattle.std.specs.Prelude.{is_some, position, ◌&&◌, ◌||◌}
 use Rattle.std.specs.List.{list_any, position_or_len}
@@ -35,7 +35,7 @@ within p [] (suc n) = refl
 within p (x ∷ xs) zero = none_before (ltb (position_or_len p (x ∷ xs)) (length (x ∷ xs))) (position_or_len p (x ∷ xs))
 within p (x ∷ xs) (suc n) = one_more (p x) (position_or_len p xs) (length xs) n (list_any p (take n xs)) (within p xs n)
 
--- what stands first stands before a place exactly where one of those before it passes
+-- the first element that passes is before index n exactly if one of the first n passes
 pub first_before : {X : Type 0} (p : X → Bool) (xs : List X) (n : ℕ) → is_before n (position p xs) ≡ list_any p (take n xs)
 first_before p xs n = before_where n (position_or_len p xs) (ltb (position_or_len p xs) (length xs)) ∙ within p xs n
 
@@ -51,6 +51,6 @@ stands p (x ∷ xs) = stands_more (p x) (position_or_len p xs) (length xs) (list
     stands_more true rest l some e = lt-ltb 0 (suc l) (omega arith)
     stands_more false rest l some e = ap (λ k. ltb k (suc l)) (next_is rest) ∙ less_next rest l ∙ e
 
--- something stands first exactly where one of all passes
+-- there is a first element that passes exactly if any passes
 pub first_of_some : {X : Type 0} (p : X → Bool) (xs : List X) → is_some (position p xs) ≡ list_any p xs
 first_of_some p xs = some_where (position_or_len p xs) (ltb (position_or_len p xs) (length xs)) ∙ stands p xs

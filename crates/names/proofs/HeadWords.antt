@@ -1,4 +1,4 @@
--- What is written at the heads of a switch, and which of them are written alike.
+-- The words at the heads of a switch, and which heads are written alike.
 use Rattle.std.proofs.Common.{◌≡◌, ℕ, ◌+◌, List, [], ◌∷◌, length, map, take, Option, Some, None, Bool, true, false, not, cond, ltb, Bor, sym, refl, ap, ◌∙◌, subst}
 use Rattle.std.specs.Prelude.{is_some, position, ◌&&◌, ◌||◌, if◌then◌else◌, Result, OnOk}
 use Rattle.std.specs.Cmp.{tied_then}
@@ -66,7 +66,7 @@ mapped : {X Y Z : Type 0} (f : Y → Z) (g : X → Y) (xs : List X) → map f (m
 mapped f g [] = refl
 mapped f g (x ∷ xs) = ap (λ l. f (g x) ∷ l) (mapped f g xs)
 
--- where a key stands first among those of heads
+-- the first position of a key is that of its words among the heads
 pub key_first : (text : List ℕ) (all : List Head) (keys : List Key) (key : Key) → map key_words keys ≡ map (head_words text) all → first_position key_cmp keys key ≡ key_at text (key_words key) all
 key_first text all keys key are =
     same_position (λ x. is_eq (key_cmp key x)) (λ x. same_key (key_words key) (key_words x)) (key_same key) keys
@@ -90,7 +90,7 @@ turned_message text (Message a) (Closed b) = refl
 turned_message text (Closed a) (Message b) = refl
 turned_message text (Closed a) (Closed b) = refl
 
--- the heads before a place that await the same
+-- whether an earlier head awaits the same
 pub awaiting_too : (text : List ℕ) (h : Head) (before : List Head) → list_any (λ x. same_key (head_words text h) (head_words text x)) before ≡ awaits_too text h before
 awaiting_too text h [] = refl
 awaiting_too text h (x ∷ xs) =
@@ -98,18 +98,18 @@ awaiting_too text h (x ∷ xs) =
     ∙ ap (λ b. (same_name text x.endpoint h.endpoint && b) || list_any (λ x. same_key (head_words text h) (head_words text x)) xs) (turned_message text h.awaited x.awaited)
     ∙ ap (λ b. (same_name text x.endpoint h.endpoint && same_awaited text x.awaited h.awaited) || b) (awaiting_too text h xs)
 
--- those that name an endpoint
+-- whether an earlier head names this endpoint
 pub naming : (text : List ℕ) (name : Span) (before : List Head) → list_any (λ x. same_word (word_at text name) (word_at text x.endpoint)) before ≡ names_endpoint text name before
 naming text name [] = refl
 naming text name (x ∷ xs) =
     ap (λ b. b || list_any (λ x. same_word (word_at text name) (word_at text x.endpoint)) xs) (turned (word_at text name) (word_at text x.endpoint))
     ∙ ap (λ b. same_name text x.endpoint name || b) (naming text name xs)
 
--- a head that an earlier one is like
+-- an equal head is found before the index exactly if an earlier head awaits the same
 pub found_twice : (text : List ℕ) (all : List Head) (h : Head) (index : ℕ) → is_before index (key_at text (head_words text h) all) ≡ awaits_too text h (take index all)
 found_twice text all h index = first_before (λ x. same_key (head_words text h) (head_words text x)) all index ∙ awaiting_too text h (take index all)
 
--- an endpoint that an earlier head names
+-- an endpoint is found before the index exactly if an earlier head names it
 pub found_named : (text : List ℕ) (all : List Head) (name : Span) (index : ℕ) → is_before index (position (same_word (word_at text name)) (words_at text (map (λ h. h.endpoint) all))) ≡ names_endpoint text name (take index all)
 found_named text all name index =
     ap (λ l. is_before index (position (same_word (word_at text name)) l)) (mapped (word_at text) (λ h. h.endpoint) all)
@@ -117,7 +117,7 @@ found_named text all name index =
     ∙ first_before (λ h. same_word (word_at text name) (word_at text h.endpoint)) all index
     ∙ naming text name (take index all)
 
--- an endpoint whose close a head awaits
+-- the close of an endpoint is found exactly if a head awaits it
 pub found_closed : (text : List ℕ) (all : List Head) (name : Span) → is_some (key_at text (word_at text name, None) all) ≡ awaits_closed text name all
 found_closed text all name = first_of_some (λ x. same_key (word_at text name, None) (head_words text x)) all ∙ awaiting_too text (record { endpoint = name; awaited = Closed name; binds = [] }) all
 
@@ -133,7 +133,7 @@ switch_heads_are s =
     ∙ ap (λ (t : SwitchTree). map head_of t.others) (switch_is s)
     ∙ mapped head_of case_tree (made.Switch.out-Switch s).others.items)
 
--- a case on what is no endpoint
+-- a case on a variable that is no endpoint
 pub no_endpoint : (s : InScope) (all earlier : List Head) (k : ValueType) (h : Head) → ((end : Side) (n : ℕ) → k ≡ ty.Endpoint end n → ⊥) → type_head_mistakes s all earlier k h ≡ (if is_silent k then [] else other_mistakes k h h.awaited)
 no_endpoint s all earlier (ty.Scalar t) h other = refl
 no_endpoint s all earlier (ty.Pointer n) h other = refl
@@ -142,12 +142,12 @@ no_endpoint s all earlier (ty.Endpoint end n) h other = absurd (other end n refl
 no_endpoint s all earlier ty.Missing h other = refl
 no_endpoint s all earlier ty.Unknown h other = refl
 
--- what is told unless it is so
+-- a list that is added unless the condition holds
 pub told_unless : {X : Type 0} (b : Bool) (xs : List X) → (if not b then xs else []) ≡ (if b then [] else xs)
 told_unless true xs = refl
 told_unless false xs = refl
 
--- that a case stands twice
+-- the mistake that a case occurs twice
 pub told_twice : {T E : Type 0} (r : Result T E) (mid new : List Mistake) (s : InScope) (earlier : List Head) (h : Head) (twice : Bool) → twice ≡ awaits_too s.program.text h earlier
     → OnOk r (Adds mid new (if twice then CaseTwice h.endpoint (awaited_span h.awaited) ∷ [] else [])) → OnOk r (Adds mid new (twice_mistakes s earlier h))
 told_twice r mid new s earlier h twice is told = subst (λ b. OnOk r (Adds mid new (if b then CaseTwice h.endpoint (awaited_span h.awaited) ∷ [] else []))) is told

@@ -1,10 +1,10 @@
--- Items, and what they declare within them, place by place.
+-- Items and their members, index by index.
 use Rattle.std.proofs.Common.{◌≡◌, ℕ, zero, suc, ◌<◌, List, [], ◌∷◌, length, get_or, sym, refl, subst, arith}
 use Rattle.tree.specs.Trees.{ItemTree}
 use Rattle.declarations.specs.Scopes.{AllMembers, AreMembers}
 use Rattle.declarations.specs.declared.members.Members.{Members}
 
--- the item that stands where these are declared
+-- the item at index i, which has these members
 pub record Placed (text : List ℕ) (items : List ItemTree) (i : ℕ) (m : Members) : Type 0 where
   pub item : ItemTree
   pub within : i < length items

@@ -1,4 +1,4 @@
--- What stood in scope before a statement stands in front behind it.
+-- A statement keeps the variables in scope and only appends to them.
 use Rattle.std.proofs.Common.{◌≡◌, ℕ, Bool, true, false, List, [], ◌∷◌, ◌++◌, length, take, if◌then◌else◌, Option, Some, None, sym, refl, ap, ◌∙◌, append_assoc, append-nil}
 use Rattle.std.specs.Prelude.{is_some}
 use Rattle.std.proofs.lemmas.List.{take_at}
@@ -82,6 +82,6 @@ binds_extend p params [] f = same_extends f f refl
 binds_extend p [] (b ∷ binds) f = extends_then f _ _ (bind_extends p None b.name b.ty f) (binds_extend p [] binds (bind_turn p None b.name b.ty f).frame)
 binds_extend p (x ∷ params) (b ∷ binds) f = extends_then f _ _ (bind_extends p (Some x) b.name b.ty f) (binds_extend p params binds (bind_turn p (Some x) b.name b.ty f).frame)
 
--- what stood before a case stands in front behind what it binds and what it does
+-- what a case binds and its statements extend the frame
 pub case_extends : (m : Surroundings) (params : List contract_nodes.MessageParameter.MessageParameter) (binds : List made.Bind.Bind) (xs : StatementTrees) (f : NameFrame) → Extends f (statements_turn m xs (binds_turn m.program params binds f).frame).frame
 case_extends m params binds xs f = extends_then f _ _ (binds_extend m.program params binds f) (statements_extend m xs (binds_turn m.program params binds f).frame)

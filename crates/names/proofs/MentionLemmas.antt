@@ -19,7 +19,7 @@ use Rattle.declarations.specs.declared.value_type.ValueType.TheVariants as ty
 use Rattle.declarations.specs.declared.fields.Fields.{Fields}
 use Rattle.declarations.specs.declared.scope.Scope.{Scope}
 
--- the field of a struct that was found
+-- the type of a field of a struct that was found, and the mistake if the struct has no such field
 abbrev InStruct : InScope → List ℕ → ℕ → Span → Fields → List Mistake → List Mistake → ValueType → Type 0
 InStruct s text index field f old new k = (x : StructTree) → AreFieldsOf text x f → IsGiven (option_map_or (λ f. type_meant s.program f.ty) (field_named text x field) ty.Unknown) (if is_some (field_named text x field) then [] else Unknown field (sort.Field index) ∷ []) old new k
 

@@ -1,4 +1,4 @@
--- What is of a scalar type owns nothing.
+-- Scalars own nothing.
 use Rattle.std.proofs.Common.{◌≡◌, ℕ, List, Bool, true, false, refl, if◌then◌else◌}
 use Rattle.std.specs.Option.{option_map_or}
 use Rattle.std.specs.Prelude.{Option, None, Some}
@@ -44,7 +44,7 @@ scalar_field : (p : ProgramText) (o : Option made.Field.Field) (n : Scalar)
 scalar_field p None n is = refl
 scalar_field p (Some f) n is = scalar_type p f.ty n is
 
--- a field that is a scalar
+-- a scalar field owns nothing
 pub scalar_owns : (s : InScope) (held : ValueType) (field : Span) (n : Scalar) → field_type s held field ≡ ty.Scalar n → owns s held field ≡ false
 scalar_owns s (ty.Scalar t) field n is = refl
 scalar_owns s (ty.Pointer place) field n is = scalar_field s.program (field_of s place field) n is

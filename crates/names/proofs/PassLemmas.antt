@@ -27,12 +27,12 @@ pub on_adds : {T E : Type 0} (r : Result T E) (old mid new : List Mistake) (a b 
 on_adds (Ok x) old mid new a b first second = adds_then first second
 on_adds (Err e) old mid new a b first second = second
 
--- a call of a method of a class that is not there
+-- a call of a method of an unknown class
 pub no_class : (s : InScope) (text : List ℕ) (o : Option (ℕ × ClassTree)) (purpose : Purpose) (class name : Span) (es : List Shape) → IsClass text o None → class_mistakes s o purpose class name es ≡ Unknown class (sort.Front (length s.variables)) ∷ argument_mistakes s [] es
 no_class s text None purpose class name es h = refl
 no_class s text (Some c) purpose class name es h = absurd h
 
--- a call on what is no endpoint
+-- a call on a variable that is no endpoint
 pub no_send : (s : InScope) (k : ValueType) (purpose : Purpose) (variable word : Span) (arguments : List Shape) → ((end : Side) (n : ℕ) → k ≡ ty.Endpoint end n → ⊥) → send_mistakes s k purpose variable word arguments ≡ unless (is_silent k) variable.place (Given demand.Endpoint k) ++ argument_mistakes s [] arguments
 no_send s (ty.Scalar t) purpose variable word arguments other = refl
 no_send s (ty.Pointer n) purpose variable word arguments other = refl
@@ -41,7 +41,7 @@ no_send s (ty.Endpoint end n) purpose variable word arguments other = absurd (ot
 no_send s ty.Missing purpose variable word arguments other = refl
 no_send s ty.Unknown purpose variable word arguments other = refl
 
--- a struct that was looked up, with its fields that own
+-- a struct that was looked up, with its owning fields
 abbrev owning_of : Option (ℕ × StructTree) → Option (ℕ × List made.Field.Field)
 owning_of o = option_map (λ s. (s.0, owning_fields s.1)) o
 

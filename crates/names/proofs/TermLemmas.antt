@@ -1,4 +1,4 @@
--- A sequence of factors, judged from the left, is the sum of terms that it is as a tree.
+-- A sequence of factors that is judged from the left is judged as the sum of terms that its tree is.
 use Rattle.std.proofs.Common.{◌≡◌, ℕ, ◌+◌, ◌<◌, ◌≤◌, List, [], ◌∷◌, ◌++◌, length, map, take, get_or, sym, refl, ap, ◌∙◌, subst, append_assoc}
 use Rattle.std.specs.Prelude.{Option, Some, None, IfOk, Result, Ok, Err}
 use Rattle.std.proofs.lemmas.List.{take_more, take_all, map-append}
@@ -23,11 +23,11 @@ use Rattle.names.specs.declared.variables.ScopeVariables.{ScopeVariables}
 use Rattle.declarations.proofs.AddLemmas.{adds_then}
 use Rattle.names.proofs.ExpressionNames.{joined_shapes}
 
--- a term, with what `f` makes of its first factor in that one's place
+-- a term with `f` applied to its first factor
 abbrev term_from : (Shape → Shape) → LevelTree (levels.Joined Multiply) → Shape
 term_from f (Chain _ u vs) = joined (f (shape u)) vs
 
--- a sum, with this in the place of its first factor, and behind these terms
+-- a sum with `f` applied to its first factor, added to `before` if that is given
 abbrev sum_from : Option Shape → (Shape → Shape) → LevelTree (levels.Joined Add) → Shape
 sum_from before f (Chain _ first others) = joined (behind before (term_from f first)) others
 
@@ -86,7 +86,7 @@ judges_next t f operator sign tree {scope = scope} {variables = variables} {old 
           record { before = (all.ty, all.place); ty = one.ty; place = one.place; found = adds_then all.found one.found };
     })
 
--- a sequence of factors as far as it was judged
+-- the terms after the first i factors of a sequence
 abbrev pub factors_to : {X : Type 0} → (X → FactorTree) → TermShapes → List X → ℕ → TermShapes
 factors_to f t xs i = with_factors t (map f (take i xs))
 

@@ -12,7 +12,7 @@ use Rattle.declarations.proofs.AddLemmas.{adds_then}
 pub stays : {text : List ℕ} {old new : List Mistake} {v : ScopeVariables} {more : List Mistake} {f : NameFrame} → IsNameFrame text f v → Adds old new more → Turned text old new v (turn more f)
 stays frame adds = record { found = adds; frame = frame }
 
--- of a whole turn, this rest is still to come
+-- of the piece `whole`, `rest` is still to come
 pub record Ongoing (text : List ℕ) (old now : List Mistake) (v : ScopeVariables) (whole : CheckedPiece) (rest : NameFrame → CheckedPiece) : Type 0 where
   pub frame : NameFrame
   pub stands : IsNameFrame text frame v
@@ -33,7 +33,7 @@ goes_on {mid = mid} go rest o turned =
       after = o.after;
     }
 
--- behind the first piece the rest is still to come
+-- after the first piece, the rest is still to come
 pub goes_first : {text : List ℕ} {old new : List Mistake} {w : ScopeVariables} (f : NameFrame) (go rest : NameFrame → CheckedPiece) → Turned text old new w (go f) → Ongoing text old new w (follow (go f) rest) rest
 goes_first {old = old} f go rest turned =
     let more = (go f).found in

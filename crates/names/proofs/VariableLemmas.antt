@@ -24,7 +24,7 @@ use Rattle.names.specs.declared.variables.ScopeVariables.{ScopeVariables}
 use Rattle.tables.proofs.FirstLemmas.{apart_more, last_lacked}
 use Rattle.declarations.proofs.AddLemmas.{adds_none, adds_then}
 
--- the words of the variables and one more
+-- the words of the variables and of one more
 pub words_push : (text : List ℕ) (variables : List model.ScopeVariable) (v : model.ScopeVariable) → words_in text (variables ++ v ∷ []) ≡ words_in text variables ++ word_at text v.name ∷ []
 words_push text variables v =
     ap (words_at text) (map-append (λ (x : model.ScopeVariable). x.name) variables (v ∷ []))
@@ -34,7 +34,7 @@ named_at : (text : List ℕ) (f : NameFrame) (v : ScopeVariables) → IsNameFram
 named_at text f v h None = refl
 named_at text f v h (Some k) = sym (slice_get-map variable_model v.list.items k) ∙ ap (λ l. slice_get l k) h.list
 
--- the variable that a table of names leads to
+-- the variable found in the table of names is the one with this name
 pub variable_found : (text : List ℕ) (f : NameFrame) (v : ScopeVariables) (name : Span) (index : Option ℕ) → IsNameFrame text f v → index ≡ first_of (words_in text f.variables) (word_at text name)
     → option_map variable_model (option_and_then (slice_get v.list.items) index) ≡ variable_named text f.variables name
 variable_found text f v name index h is = named_at text f v h index ∙ ap (option_and_then (slice_get f.variables)) is
@@ -50,7 +50,7 @@ some_there text variables name (Some k) is =
     let lt : k < length variables = omega (arith, at.0, many) in
     ap is_some (slice_get-get_or variables k (here name ty.Unknown) lt)
 
--- a variable of a name is in scope where the name is among theirs
+-- a variable with this name is in scope exactly if the name is among the words in scope
 pub is_named : (text : List ℕ) (variables : List model.ScopeVariable) (name : Span) → is_some (variable_named text variables name) ≡ is_some (first_of (words_in text variables) (word_at text name))
 is_named text variables name = some_there text variables name (first_of (words_in text variables) (word_at text name)) refl
 
@@ -58,7 +58,7 @@ abbrev entered_by : Option model.ScopeVariable → Span → ValueType → NameFr
 entered_by known name k f = turn (twice name (option_map (λ v. v.name) known))
     (record { variables = if is_some known then f.variables else f.variables ++ record { name = name; ty = k } ∷ []; heap = f.heap })
 
--- a new name
+-- a new name adds its variable
 pub entered_new : (text : List ℕ) (f : NameFrame) (v w : ScopeVariables) (name : Span) (k : ValueType) (word : List ℕ) (old : List Mistake) → IsNameFrame text f v → word ≡ word_at text name
     → None ≡ variable_named text f.variables name
     → ((words : List (List ℕ)) → IsTable words v.names → first_of words word ≡ None → IsTable (words ++ word ∷ []) w.names)
@@ -78,7 +78,7 @@ entered_new text f v w name k word old h at unnamed table list heap =
       };
     })
 
--- one of the exchange heap is counted, and comes into scope
+-- a variable of the exchange heap is counted and comes into scope
 pub declared_counted : (text : List ℕ) (f : NameFrame) (v : ScopeVariables) (name : Span) (k : ValueType) (heap : Bool) (old mid new : List Mistake) (r : Result (Unit {0}) Memory) → heap ≡ true → Adds old mid (past_heap name f.heap)
     → OnOk r (Turned text mid new v (entered_variable text name k (record { variables = f.variables; heap = f.heap + 1 }))) → OnOk r (Turned text old new v (declared_variable text name k heap f))
 declared_counted text f v name k heap old mid new (Err e) is first second = tt

@@ -1,4 +1,4 @@
--- Expressions that are a name and nothing more.
+-- Expressions that are only a name.
 use Rattle.std.proofs.Common.{◌≡◌, [], ◌∷◌}
 use Rattle.std.specs.Prelude.{Some}
 use Rattle.source.specs.declared.token.Span.{Span}
@@ -27,14 +27,14 @@ atom_not_lone (trees.True span) name is = absurd (cc)
 atom_not_lone (trees.False span) name is = absurd (cc)
 atom_not_lone (trees.Parens left inner) name is = absurd (cc)
 
--- what operators join is no name alone
+-- an expression with operators is no lone name
 steps_mention : {l : Operators} → (so_far : Shape) (xs : StepTrees l) (name : Span) → joined so_far xs ≡ shapes.Mention name → so_far ≡ shapes.Mention name
 steps_mention so_far (trees.Done l) name is = is
 steps_mention so_far (trees.More l o x xs) name is =
     let wrong : shapes.Joined (joint_of l) so_far (shape x) ≡ shapes.Mention name = steps_mention (shapes.Joined (joint_of l) so_far (shape x)) xs name is in
     absurd (cc)
 
--- an expression is a name alone where its shape is
+-- the shape of a lone name is a mention
 pub lone_shape : {l : Level} → (e : LevelTree l) (name : Span) → lone_name e ≡ Some name → shape e ≡ shapes.Mention name
 lone_shape (trees.Unary [] a) name is = atom_lone a name is
 lone_shape (trees.Unary (x ∷ prefixes) a) name is = absurd (cc)

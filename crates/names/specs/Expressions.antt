@@ -1,4 +1,4 @@
--- The type of an expression, and what is wrong with the names and types in it.
+-- The type of an expression, and the mistakes with names and types in it.
 use Rattle.std.specs.Prelude.{ℕ, Bool, false, ◌||◌, not, List, [], ◌∷◌, ◌++◌, codes, length, if◌then◌else◌}
 use Rattle.std.specs.Prelude.{Option, is_some, option_and_then}
 use Rattle.std.specs.Option.{option_map_or}
@@ -32,6 +32,7 @@ pub record InScope : Type 0 where
 abbrev pub variable_of : InScope → Span → Option ScopeVariable
 variable_of s name = variable_named s.program.text s.variables name
 
+-- whether a field is `Length`
 abbrev pub is_length : InScope → Span → Bool
 is_length s name = same_word (word_at s.program.text name) (codes "Length")
 
@@ -46,41 +47,43 @@ place_of (Parens place inner) = place
 place_of (Signed sign place inner) = place
 place_of (Joined joint left right) = place_of left
 
--- the field of this name of the struct that is the item at this index
+-- the field of this name in the struct that is item `n`
 abbrev pub field_of : InScope → ℕ → Span → Option made.Field.Field
 field_of s n field = option_and_then (λ x. field_named s.program.text x.1 field) (item_at as_struct s.program n)
 
--- A field of what a variable holds owns if it is of a type of the exchange heap, whether the names in that are declared or not.
+-- whether the field of a variable of this type owns a block: it is of the exchange heap, even if the names in its type are not declared
 abbrev pub owns : InScope → ValueType → Span → Bool
 owns s (ty.Pointer n) field = option_map_or (λ f. is_heap f.ty) (field_of s n field) false
 owns s _ field = false
 
--- the type of a field of what a variable holds; of an array there is the length alone
+-- the type of the field of a variable of this type; an array has only its length
 abbrev pub field_type : InScope → ValueType → Span → ValueType
 field_type s (ty.Array element) field = if is_length s field then ty.Scalar scalar.Int else ty.Unknown
 field_type s (ty.Pointer n) field = option_map_or (λ f. type_meant s.program f.ty) (field_of s n field) ty.Unknown
 field_type s ty.Unknown field = ty.Unknown
 field_type s _ field = ty.Missing
 
--- the type of an element, where the index is built on an unknown name or not
+-- the type of an element; `lost` says that the type of the index is unknown
 abbrev pub element_type : ValueType → Bool → ValueType
 element_type ty.Unknown lost = ty.Unknown
 element_type (ty.Array element) lost = if lost then ty.Unknown else ty.Scalar element
 element_type _ lost = if lost then ty.Unknown else ty.Missing
 
--- the type of what a name means; if nothing declares it, it is unknown
+-- the type of the variable that a name means; unknown if it is not declared
 abbrev pub type_named : InScope → Span → ValueType
 type_named s name = option_map_or (λ v. v.ty) (variable_of s name) ty.Unknown
 
+-- the type that operators of this kind give
 abbrev pub joined_type : Joint → ValueType
 joined_type Sum = ty.Scalar scalar.Int
 joined_type _ = ty.Scalar scalar.Bool
 
+-- the type that a prefix gives
 abbrev pub signed_type : PrefixOperator → ValueType
 signed_type Not = ty.Scalar scalar.Bool
 signed_type Negate = ty.Scalar scalar.Int
 
--- An operator gives its own type, but for operands that are built on an unknown name.
+-- the type of an expression: that of its outermost operator, or unknown if an operand's is
 abbrev pub type_of : InScope → Shape → ValueType
 type_of s (Number place) = ty.Scalar scalar.Int
 type_of s (Truth place) = ty.Scalar scalar.Bool
@@ -91,56 +94,62 @@ type_of s (Parens place inner) = type_of s inner
 type_of s (Signed sign place inner) = if is_unknown (type_of s inner) then ty.Unknown else signed_type sign
 type_of s (Joined joint left right) = if is_unknown (type_of s left) || is_unknown (type_of s right) then ty.Unknown else joined_type joint
 
--- what is asked of an operand
+-- a mistake, unless the type is a number
 abbrev pub asked_number : ValueType → Place → List Mistake
 asked_number k place = unless (is_silent k || is_number k) place (Given demand.Number k)
 
+-- a mistake, unless the type is `bool`
 abbrev pub asked_truth : ValueType → Place → List Mistake
 asked_truth k place = unless (is_silent k || is_truth k) place (Given demand.Truth k)
 
+-- a mistake, unless the type is a scalar
 abbrev pub asked_either : ValueType → Place → List Mistake
 asked_either k place = unless (is_silent k || (is_number k || is_truth k)) place (Given demand.Scalar k)
 
--- a block, or what is of a type
+-- a mistake, unless the type is of the exchange heap
 abbrev pub block_asked : ValueType → Place → List Mistake
 block_asked k place = unless (is_silent k || is_block k) place (Given demand.Block k)
 
+-- a mistake, unless the type agrees with the one that is asked for
 abbrev pub type_asked : ValueType → ValueType → Place → List Mistake
 type_asked asked k place = unless (agree k asked) place (Given (demand.OfType asked) k)
 
--- Of two that are compared the left one decides, where it is a number or a truth value.
+-- a mistake, unless the right side of a comparison is like the left one, a number or a `bool`
 abbrev pub asked_like : ValueType → ValueType → Place → List Mistake
 asked_like left k place = if is_number left then asked_number k place
     else (if is_truth left then asked_truth k place else asked_either k place)
 
+-- the mistake of a left operand
 abbrev pub left_asked : Joint → ValueType → Place → List Mistake
 left_asked Logic k place = asked_truth k place
 left_asked Likeness k place = asked_either k place
 left_asked _ k place = asked_number k place
 
+-- the mistake of a right operand
 abbrev pub right_asked : Joint → ValueType → ValueType → Place → List Mistake
 right_asked Likeness left k place = asked_like left k place
 right_asked joint left k place = left_asked joint k place
 
+-- the mistake of the operand of a prefix
 abbrev pub sign_asked : PrefixOperator → ValueType → Place → List Mistake
 sign_asked Not k place = asked_truth k place
 sign_asked Negate k place = asked_number k place
 
--- a variable has to be declared
+-- a name that no variable in scope has
 abbrev pub variable_mistakes : InScope → Span → List Mistake
 variable_mistakes s name = if is_some (variable_of s name) then [] else Unknown name (sort.Variable (length s.variables)) ∷ []
 
--- a variable of the exchange heap does not stand within an expression
+-- the mistakes of a variable within an expression: it is not declared, or of the exchange heap
 abbrev pub mention_mistakes : InScope → Span → List Mistake
 mention_mistakes s name = variable_mistakes s name
     ++ unless (not (is_block (type_named s name))) name.place (Given demand.NoBlock (type_named s name))
 
--- only an array has elements
+-- the mistake of an element of what is not an array
 abbrev pub element_mistakes : ValueType → Span → List Mistake
 element_mistakes (ty.Array element) name = []
 element_mistakes k name = unless (is_silent k) name.place (Given demand.Array k)
 
--- a struct has its fields, an array its length, anything else none
+-- the mistake of a field that is not there: a struct has its own, an array its length, anything else none
 abbrev pub field_mistakes : InScope → ValueType → Span → Span → List Mistake
 field_mistakes s (ty.Array element) name field = if is_length s field then [] else Unknown field sort.Length ∷ []
 field_mistakes s (ty.Pointer n) name field =
@@ -148,6 +157,7 @@ field_mistakes s (ty.Pointer n) name field =
     (item_at as_struct s.program n) []
 field_mistakes s k name field = unless (is_silent k) name.place (Given demand.Fields k)
 
+-- the mistakes in an expression
 abbrev pub expression_mistakes : InScope → Shape → List Mistake
 expression_mistakes s (Number place) = []
 expression_mistakes s (Truth place) = []
@@ -164,15 +174,15 @@ expression_mistakes s (Joined joint left right) =
     expression_mistakes s left ++ (expression_mistakes s right
     ++ (left_asked joint (type_of s left) (place_of left) ++ right_asked joint (type_of s left) (type_of s right) (place_of right)))
 
--- An expression that is the whole of a value, an argument or what is returned: a variable of the exchange heap may stand
--- there alone.
+-- the mistakes in an expression that is a whole value, argument or result, where a variable of the exchange heap may be alone
 abbrev pub whole_mistakes : InScope → Shape → List Mistake
 whole_mistakes s (Mention name) = variable_mistakes s name
 whole_mistakes s e = expression_mistakes s e
 
--- an expression of which a truth value, or a number, is asked
+-- the mistakes in an expression that is to be a `bool`
 abbrev pub truth_mistakes : InScope → Shape → List Mistake
 truth_mistakes s e = expression_mistakes s e ++ asked_truth (type_of s e) (place_of e)
 
+-- the mistakes in an expression that is to be a number
 abbrev pub number_mistakes : InScope → Shape → List Mistake
 number_mistakes s e = expression_mistakes s e ++ asked_number (type_of s e) (place_of e)

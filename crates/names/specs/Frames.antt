@@ -1,4 +1,4 @@
--- The variables in scope, and what stands round a statement, as the code has them.
+-- The variables in scope, and the surroundings of a statement, as the code has them.
 use Rattle.std.specs.Prelude.{◌≡◌, ℕ, ◌+◌, min, List, map, Result, OnOk}
 use Rattle.declarations.specs.declared.mistake.Mistake.{Mistake}
 use Rattle.names.specs.Bodies as bodies
@@ -25,20 +25,20 @@ variable_model v = record { name = v.name; ty = v.ty }
 abbrev pub words_in : List ℕ → List model.ScopeVariable → List (List ℕ)
 words_in text variables = words_at text (map (λ v. v.name) variables)
 
--- These are the variables in scope, each findable by its name, and no two of one name. Of the exchange heap they are
--- counted as far as one past the limit.
+-- These are the variables in scope, with their table, and no two have the same name. Those of the exchange heap are
+-- counted up to one past the limit.
 pub record IsNameFrame (text : List ℕ) (f : NameFrame) (v : ScopeVariables) : Type 0 where
   pub list : map variable_model v.list.items ≡ f.variables
   pub names : IsTable (words_in text f.variables) v.names
   pub apart : IsApart (words_in text f.variables)
   pub heap : v.heap ≡ min f.heap (MOST_VARIABLES + 1)
 
--- all is added to the findings that a turn adds, and its frame is the one that stands now
+-- the mistakes that a turn adds are added, and its frame is in scope now
 pub record Turned (text : List ℕ) (old new : List Mistake) (variables : ScopeVariables) (t : CheckedPiece) : Type 0 where
   pub found : Adds old new t.found
   pub frame : IsNameFrame text t.frame variables
 
--- what stands round a statement
+-- the surroundings of a statement
 pub record AreSurroundings (m : bodies.Surroundings) (s : Surroundings) : Type 0 where
   pub scope : IsScope m.program s.scope.now
   pub class : AreMethods m.program.text m.class s.methods.now
@@ -46,21 +46,21 @@ pub record AreSurroundings (m : bodies.Surroundings) (s : Surroundings) : Type 0
   pub breaks : s.breaks ≡ m.breaks
   pub continues : s.continues ≡ m.continues
 
--- Whatever stands round a statement and whatever variables are in scope, what is added and what is in scope behind it are those of a turn.
+-- For all surroundings and all variables in scope: the mistakes of a turn are added, and its frame is in scope afterwards.
 abbrev pub Turns : {X E : Type 0} → Surroundings → (before behind : ScopeVariables) → (old new : List Mistake) → Result X E →
     (bodies.Surroundings → NameFrame → CheckedPiece) → Type 0
 Turns around before behind old new answer turn =
     (m : bodies.Surroundings) (f : NameFrame) → AreSurroundings m around → IsNameFrame m.program.text f before
     → OnOk answer (Turned m.program.text old new behind (turn m f))
 
--- Whatever these are, these mistakes are added.
+-- for all of these, these mistakes are added
 abbrev pub AddsAround : {X E : Type 0} → Surroundings → ScopeVariables → (old new : List Mistake) → Result X E →
     (Inside → List Mistake) → Type 0
 AddsAround around variables old new answer more =
     (m : bodies.Surroundings) (f : NameFrame) → AreSurroundings m around → IsNameFrame m.program.text f variables
     → OnOk answer (Adds old new (more (bodies.inside_of m f)))
 
--- this program and the variables of this frame are what names can mean
+-- the program and the frame are what names can mean
 pub record IsContext (p : ProgramText) (f : NameFrame) (c : NameContext) : Type 0 where
   pub scope : IsScope p c.scope.now
   pub frame : IsNameFrame p.text f c.variables.now

@@ -33,11 +33,11 @@ use Rattle.names.specs.declared.variables.ScopeVariables.{ScopeVariables}
 abbrev pub switch_heads : SwitchTree → List Head
 switch_heads s = head_of s.first ∷ heads_of (case_sequence s.others)
 
--- the head of a case in memory
+-- the head of a case in the code
 abbrev pub case_head : made.Case.Case → Head
 case_head c = record { endpoint = c.endpoint; awaited = c.message; binds = c.binds.items }
 
--- whether the endpoint of a head, named there first, has no case for its close
+-- whether no case is for the close of this endpoint, and no head before this one names it
 abbrev pub lacks : List ℕ → List Head → List Head → Head → Bool
 lacks text all before h = not (names_endpoint text h.endpoint before || awaits_closed text h.endpoint all)
 
@@ -45,12 +45,12 @@ lacks text all before h = not (names_endpoint text h.endpoint before || awaits_c
 abbrev pub awaiting_of : Head → Awaiting
 awaiting_of h = record { endpoint = h.endpoint; awaited = h.awaited }
 
--- what is written at a message that is awaited
+-- the word of a message that is awaited; none for a close
 abbrev pub awaited_word : List ℕ → Awaited → Option (List ℕ)
 awaited_word text (Message m) = Some (word_at text m)
 awaited_word text (Closed word) = None
 
--- what is written at the endpoint of a head, and at the message
+-- the words of the endpoint of a head and of its message
 abbrev pub Written : Type 0
 Written = List ℕ × Option (List ℕ)
 
@@ -60,7 +60,7 @@ key_words k = (k.0.now, option_map (λ w. w.now) k.1)
 abbrev pub head_words : List ℕ → Head → Written
 head_words text h = (word_at text h.endpoint, awaited_word text h.awaited)
 
--- whether two are written alike
+-- whether two of them are the same word
 abbrev pub same_message : Option (List ℕ) → Option (List ℕ) → Bool
 same_message None None = true
 same_message (Some a) (Some b) = same_word a b
@@ -69,34 +69,34 @@ same_message _ _ = false
 abbrev pub same_key : Written → Written → Bool
 same_key a b = same_word a.0 b.0 && same_message a.1 b.1
 
--- how many heads stand before the first that is written so
+-- the index of the first head with these words
 abbrev pub key_at : List ℕ → Written → List Head → Option ℕ
 key_at text key all = position (λ h. same_key key (head_words text h)) all
 
--- whether it is found, and before this place
+-- whether it is found before this index
 abbrev pub is_before : ℕ → Option ℕ → Bool
 is_before place None = false
 is_before place (Some first) = ltb first place
 
--- a switch, in surroundings that are those within it
+-- a switch; the surroundings are those within it
 abbrev pub switch_turn : bodies.Surroundings → SwitchTree → NameFrame → CheckedPiece
 switch_turn m s f = follow (case_turn m (switch_heads s) [] s.first f)
     (cases_turn m (switch_heads s) (head_of s.first ∷ []) (case_sequence s.others))
 
--- Whatever heads stand before this one in its switch, if they tell whether one of them awaits the same, these mistakes are added.
+-- For all heads before this one in its switch: if `twice` is whether one of them awaits the same, these mistakes are added.
 abbrev pub AddsBehind : {X E : Type 0} → Scope → (twice : Bool) → Head → (old new : List Mistake) → Result X E
     → (InScope → List Head → List Mistake) → Type 0
 AddsBehind scope twice head old new answer more = (p : ProgramText) (f : NameFrame) (earlier : List Head) → IsScope p scope
     → twice ≡ awaits_too p.text head earlier → OnOk answer (Adds old new (more (in_frame p f) earlier))
 
--- where the heads of a switch stand
+-- the table of the heads of a switch, and that of their endpoints
 pub record IsHeads (text : List ℕ) (all : List Head) (heads : Heads) : Type 0 where
   pub cases : (key : Bor (List ℕ) × Option (Bor (List ℕ))) → get (λ x y. ordering_then (slice_cmp nat_cmp x.0.now y.0.now)
       (option_cmp (λ a b. slice_cmp nat_cmp a.now b.now) x.1 y.1)) heads.cases key ≡ key_at text (key_words key) all
   pub endpoints : IsTable (words_at text (map (λ h. h.endpoint) all)) heads.endpoints
 
--- Whatever heads a switch has, if this one stands at this index among them, what is added and what is in scope behind its case are those
--- of a turn.
+-- For all heads of a switch with this one at this index: the mistakes of the turn of its case are added, and the frame
+-- of that turn is in scope afterwards.
 abbrev pub TurnsAmong : {X E : Type 0} → Surroundings → Heads → (index : ℕ) → Head → (before behind : ScopeVariables)
     → (old new : List Mistake) → Result X E → (bodies.Surroundings → List Head → NameFrame → CheckedPiece) → Type 0
 TurnsAmong around heads index head before behind old new answer turn =

@@ -15,21 +15,21 @@ use Rattle.declarations.specs.declared.value_type.ValueType.{ValueType}
 use Rattle.declarations.specs.declared.scope.Scope.{Scope}
 use Rattle.names.specs.declared.variables.ScopeVariables.{ScopeVariables}
 
--- what is wrong with a name of a field of the struct that is the item at this index: that the struct lacks it, where it has none
+-- a field that the struct at this index lacks, unless one was found
 abbrev pub unknown_field : {A : Type 0} → Option A → (index : ℕ) → Span → List Mistake
 unknown_field named index field = if is_some named then [] else Unknown field (sort.Field index) ∷ []
 
--- it is of this type, and these findings were added
+-- it is of this type, and these mistakes were added
 pub record IsGiven (is : ValueType) (more : List Mistake) (old new : List Mistake) (k : ValueType) : Type 0 where
   pub ty : k ≡ is
   pub found : Adds old new more
 
--- whatever is in scope, of that program
+-- the same, for all variables in scope of the program
 pub record GivesIn (scope : Scope) (ty : InScope → ValueType) (more : InScope → List Mistake) (old new : List Mistake)
     (k : ValueType) : Type 0 where
   pub all : (s : InScope) → IsScope s.program scope → IsGiven (ty s) (more s) old new k
 
--- whatever these have in scope
+-- the same, for the program and the variables in scope
 pub record GivesOperand (scope : Scope) (variables : ScopeVariables) (ty : InScope → ValueType) (more : InScope → List Mistake)
     (old new : List Mistake) (k : ValueType) : Type 0 where
   pub all : (p : ProgramText) (f : NameFrame) → IsScope p scope → IsNameFrame p.text f variables

@@ -1,4 +1,4 @@
-//! What is wrong with the names and types of arguments.
+//! Mistakes in the names and types of arguments.
 
 ghost use Rattle.std.specs.Prelude.{◌≡◌, map, take, IfOk, slice_get};
 ghost use Rattle.tree.specs.ExpressionTrees.{expression_tree};
@@ -18,7 +18,7 @@ use source::Memory;
 use std::alloc::Global;
 use tree::{Expression, Field, MessageParameter, Parameter, Type};
 
-/// Adds what is wrong with an argument for a parameter of this type, if there is one.
+/// Adds the mistakes in an argument. `asked` is the type of its parameter, if there is one.
 fn judge_argument(
     scope: &Scope<'_>,
     variables: &ScopeVariables<'_>,
@@ -44,7 +44,7 @@ fn type_at(types: &[ValueType], index: usize) -> Option<ValueType>
     types.get(index).copied()
 }
 
-/// Adds what is wrong with arguments for parameters of these types.
+/// Adds the mistakes in arguments for parameters of these types.
 pub(crate) fn judge_arguments(
     scope: &Scope<'_>,
     variables: &ScopeVariables<'_>,
@@ -62,12 +62,12 @@ pub(crate) fn judge_arguments(
     Ok(())
 }
 
-/// What has a type in a text: a parameter of a method or of a message, or a field.
+/// Something that has a type in a text: a parameter of a method or of a message, or a field.
 pub(crate) trait Typed {
     /// Its type.
     ghost as_written: { Self → TypeModel };
 
-    /// Its type.
+    /// Returns its type.
     fn written_type(&self) -> Type
         ensures { result ≡ as_written self.now };
 }
@@ -96,7 +96,7 @@ impl Typed for Field {
     }
 }
 
-/// The types of the first so many of these parameters or fields.
+/// Returns the types of the first `most` of these parameters or fields.
 fn types_of<T: Typed>(
     alloc: Global,
     scope: &Scope<'_>,
@@ -113,7 +113,7 @@ fn types_of<T: Typed>(
     Ok(types)
 }
 
-/// Adds what is wrong with arguments for these parameters or fields.
+/// Adds the mistakes in arguments for these parameters or fields.
 pub(crate) fn judge_typed_arguments<T: Typed>(
     alloc: Global,
     scope: &Scope<'_>,

@@ -1,4 +1,4 @@
-//! What is wrong with what a case of a switch awaits.
+//! Mistakes in what a case of a switch awaits.
 
 ghost use Rattle.std.specs.Prelude.{◌≡◌, ◌∷◌, [], ℕ, Some, OnOk, if◌then◌else◌};
 ghost use Rattle.names.specs.Cases.{awaited_span, closed_mistakes, message_case_mistakes, other_mistakes};
@@ -13,7 +13,7 @@ use program::{Direction, Side};
 use source::{Memory, Span};
 use tree::{Awaited, Bind, Message};
 
-/// Whether this end receives what goes in this direction.
+/// Returns whether this end receives what goes in this direction.
 pub(crate) fn receives(end: Side, direction: Direction) -> bool
     ensures { result ≡ receives end direction }
 {
@@ -23,7 +23,7 @@ pub(crate) fn receives(end: Side, direction: Direction) -> bool
     }
 }
 
-/// Adds that a case binds something where the other end is closed.
+/// Adds a mistake if a case for a close binds something.
 pub(crate) fn judge_closed(
     binds: &[Bind],
     word: Span,
@@ -34,7 +34,7 @@ pub(crate) fn judge_closed(
     judge_count(0, binds.len(), word.place, found)
 }
 
-/// Adds that an endpoint has no case for its close, where it lacks one.
+/// Adds that an endpoint has no case for its close, if it lacks one.
 pub(crate) fn judge_lacking(
     lacking: bool,
     name: Span,
@@ -58,7 +58,7 @@ fn awaited_span(awaited: Awaited) -> Span
     }
 }
 
-/// Adds that an earlier case awaits the same, where one does.
+/// Adds that an earlier case awaits the same, if one does.
 pub(crate) fn judge_case_twice(
     twice: bool,
     endpoint: Span,
@@ -75,7 +75,7 @@ pub(crate) fn judge_case_twice(
     Ok(())
 }
 
-/// Adds what is wrong with a case on what is no endpoint.
+/// Adds the mistakes in a case on a name that is no endpoint.
 pub(crate) fn judge_other_head(
     ty: ValueType,
     endpoint: Span,
@@ -93,7 +93,7 @@ pub(crate) fn judge_other_head(
     }
 }
 
-/// Adds what is wrong with a case on this message at this end.
+/// Adds the mistakes in a case for this message at this end.
 pub(crate) fn judge_message_case(
     message: &Message,
     end: Side,

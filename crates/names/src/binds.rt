@@ -1,4 +1,4 @@
-//! What is wrong with what the cases of a switch bind.
+//! Mistakes in what the cases of a switch bind.
 
 ghost use Rattle.std.specs.Prelude.{◌≡◌, ◌++◌, List, Option, OnOk, false, option_map, slice_get};
 ghost use Rattle.std.specs.Option.{option_map_or};
@@ -22,7 +22,7 @@ use source::{Memory, Span};
 use std::alloc::Global;
 use tree::{Bind, MessageParameter, Type};
 
-/// The type of what a message brings for this parameter, if there is one.
+/// Returns the type of what a message brings for this parameter; unknown if there is no parameter.
 fn brought_type(scope: &Scope<'_>, parameter: Option<&MessageParameter>) -> ValueType
     ensures { (p : ProgramText) → IsScope p scope.now → result ≡ brought_type p (option_map (λ x. x.now) parameter.entry) }
 {
@@ -32,7 +32,7 @@ fn brought_type(scope: &Scope<'_>, parameter: Option<&MessageParameter>) -> Valu
     }
 }
 
-/// Whether a message brings something of the exchange heap for this parameter.
+/// Returns whether a message brings something of the exchange heap for this parameter.
 fn brings_heap(parameter: Option<&MessageParameter>) -> bool
     ensures { result ≡ option_map_or (λ x. is_heap x.ty) (option_map (λ x. x.now) parameter.entry) false }
 {
@@ -42,7 +42,7 @@ fn brings_heap(parameter: Option<&MessageParameter>) -> bool
     }
 }
 
-/// Adds what is wrong with a type that is bound where this type is brought.
+/// Adds the mistakes in the written type of a name that is bound to something of type `brought`.
 fn judge_bound_type(
     scope: &Scope<'_>,
     written: Type,
@@ -59,7 +59,7 @@ fn judge_bound_type(
     ask(bound.agrees(brought), name.place, mismatch, found)
 }
 
-/// Declares a variable in the scope of a program, unless one in scope has its name, and adds what is wrong with that.
+/// Declares a variable in the scope of a program unless one in scope has its name, and adds the mistakes in the declaration.
 fn declare_in<'a>(
     alloc: Global,
     scope: &Scope<'a>,
@@ -75,7 +75,7 @@ fn declare_in<'a>(
     variables.declare(alloc, scope.text, variable, heap, found)
 }
 
-/// Adds what is wrong with a name that a case binds, and declares it.
+/// Adds the mistakes in a name that a case binds, and declares it.
 fn judge_bind<'a>(
     alloc: Global,
     scope: &Scope<'a>,
@@ -115,7 +115,7 @@ fn parameter_at(parameters: &[MessageParameter], index: usize) -> Option<&Messag
     parameters.get(index)
 }
 
-/// Adds what is wrong with the names that a case binds for these parameters, and declares them.
+/// Adds the mistakes in the names that a case binds for these parameters, and declares them.
 pub(crate) fn judge_bound<'a>(
     alloc: Global,
     scope: &Scope<'a>,

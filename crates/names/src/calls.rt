@@ -1,4 +1,4 @@
-//! What is wrong with the names and types in calls.
+//! Mistakes in the names and types of calls.
 
 ghost use Rattle.std.specs.Prelude.{◌≡◌, ◌&&◌, ◌∷◌, ℕ, []};
 ghost use Rattle.std.specs.Prelude.{Option, Some, OnOk};
@@ -26,27 +26,27 @@ use program::{Direction, Side};
 use source::{Memory, Span};
 use tree::{Call, Expression, Message, Type};
 
-/// What is done with what a call gives.
+/// What the result of a call is used for.
 #[derive(Clone, Copy, PartialEq, Eq)]
 pub(crate) enum Purpose {
-    /// It is a value of which this type is asked.
+    /// It is a value, which must be of this type.
     Asked(ValueType),
-    /// It stands alone.
+    /// The call is a statement of its own.
     Alone,
-    /// It is started.
+    /// The call is started.
     Started,
 }
 
-/// What a call is in its method, but for what it names before a dot.
+/// A call in its method, without the name before a dot.
 #[derive(Clone, Copy)]
 pub(crate) struct CallSite<'t> {
     purpose: Purpose,
-    /// The method or the message.
+    /// The name of the method or of the message.
     name: Span,
     arguments: &'t [Expression],
 }
 
-/// Whether the type of what a method gives fits what is done with it.
+/// Returns whether the result of a method fits the purpose of the call.
 fn result_fits(scope: &Scope<'_>, given: Option<Type>, purpose: Purpose) -> bool
     ensures { (p : ProgramText) → IsScope p scope.now → result ≡ result_fits p given purpose }
 {
@@ -59,7 +59,7 @@ fn result_fits(scope: &Scope<'_>, given: Option<Type>, purpose: Purpose) -> bool
     }
 }
 
-/// The type of what a method gives, if it gives anything.
+/// Returns the type of the result of a method; `Missing` if it has none.
 fn type_given(scope: &Scope<'_>, given: Option<Type>) -> ValueType
     ensures { (p : ProgramText) → IsScope p scope.now → result ≡ result_type p given }
 {
@@ -69,7 +69,7 @@ fn type_given(scope: &Scope<'_>, given: Option<Type>) -> ValueType
     }
 }
 
-/// What is asked of it: a block that a method gives has to be taken.
+/// Returns what is asked of the result of a call. A result that is no value must not be a block.
 fn demand_of(purpose: Purpose) -> Demand
     ensures { result ≡ demand_of purpose }
 {
@@ -79,7 +79,7 @@ fn demand_of(purpose: Purpose) -> Demand
     }
 }
 
-/// Adds that a method cannot be started, where that is asked of it.
+/// Adds that a method cannot be started, if the call starts it and it cannot.
 fn judge_start(
     context: &NameContext<'_, '_>,
     startable: bool,
@@ -95,7 +95,7 @@ fn judge_start(
     }
 }
 
-/// Adds what is wrong with a call of this method.
+/// Adds the mistakes in a call of this method.
 fn judge_known_method(
     context: &NameContext<'_, '_>,
     callee: Callee<'_>,
@@ -126,7 +126,7 @@ fn judge_known_method(
     )
 }
 
-/// Adds that this name, of this sort, is not declared, and what is wrong with the arguments behind it.
+/// Adds that nothing declares this name, which is of this sort, and the mistakes in the arguments after it.
 pub(crate) fn judge_unknown(
     context: &NameContext<'_, '_>,
     name: Span,
@@ -147,7 +147,7 @@ pub(crate) fn judge_unknown(
     judge_arguments(scope, variables, &[], arguments, found)
 }
 
-/// Adds what is wrong with a call of a method, if there is one; before it this class may be written.
+/// Adds the mistakes in a call of a method, or that nothing declares it. `class` is the class before the dot, if there is one.
 fn judge_method(
     context: &NameContext<'_, '_>,
     callee: Option<Callee<'_>>,
@@ -172,7 +172,7 @@ fn judge_method(
     }
 }
 
-/// Whether this end sends what goes in this direction.
+/// Returns whether this end sends what goes in this direction.
 fn sends(end: Side, direction: Direction) -> bool
     ensures { result ≡ sends end direction }
 {
@@ -188,14 +188,14 @@ fn is_alone(purpose: Purpose) -> bool
     matches!(purpose, Purpose::Alone)
 }
 
-/// Whether what is called for this purpose at this end is a send in this direction.
+/// Returns whether a call for this purpose at this end is a send in this direction.
 fn is_sent(purpose: Purpose, end: Side, direction: Direction) -> bool
     ensures { result ≡ is_alone purpose && sends end direction }
 {
     is_alone(purpose) && sends(end, direction)
 }
 
-/// Adds what is wrong with sending this message at this end.
+/// Adds the mistakes in sending this message at this end.
 fn judge_known_message(
     context: &NameContext<'_, '_>,
     message: &Message,
@@ -225,7 +225,7 @@ fn judge_known_message(
     judge_typed_arguments(alloc, scope, variables, &message.params, arguments, found)
 }
 
-/// Why this send at this end is wrong.
+/// Returns why this send at this end is wrong.
 fn send_mismatch(purpose: Purpose, end: Side, word: Span) -> Mismatch
     ensures { result ≡ send_mismatch purpose end word }
 {
@@ -236,7 +236,7 @@ fn send_mismatch(purpose: Purpose, end: Side, word: Span) -> Mismatch
     }
 }
 
-/// Adds what is wrong with a send at an end of the contract that is the item at this index.
+/// Adds the mistakes in a send at an end of the contract that is item `index`.
 fn judge_end(
     context: &NameContext<'_, '_>,
     index: usize,
@@ -261,7 +261,7 @@ fn judge_end(
     }
 }
 
-/// Adds what is wrong with a call on a variable of this type, which is a send.
+/// Adds the mistakes in a call on a variable of this type, which is a send.
 fn judge_send(
     context: &NameContext<'_, '_>,
     ty: ValueType,
@@ -288,7 +288,7 @@ fn judge_send(
     }
 }
 
-/// Adds what is wrong with a call of a method of the class of this name.
+/// Adds the mistakes in a call of a method of the class of this name.
 fn judge_class(
     context: &NameContext<'_, '_>,
     class: Span,
@@ -311,7 +311,8 @@ fn judge_class(
     }
 }
 
-/// Adds what is wrong with a call by two names: on a variable, if one in scope has the first, and else of a class.
+/// Adds the mistakes in a call by two names: a send on a variable if one in scope has the first name, otherwise a
+/// method of a class.
 fn judge_member(
     context: &NameContext<'_, '_>,
     front: Span,
@@ -328,7 +329,7 @@ fn judge_member(
     }
 }
 
-/// Adds what is wrong with a call.
+/// Adds the mistakes in a call.
 pub(crate) fn judge_call<'a>(
     around: &Surroundings<'_, 'a>,
     variables: &ScopeVariables<'a>,

@@ -1,4 +1,4 @@
-//! What is wrong with the cases of a switch.
+//! Mistakes in the cases of a switch.
 
 ghost use Rattle.std.specs.Prelude.{◌≡◌, List, Some, [], take, if◌then◌else◌, OnOk, option_map};
 ghost use Rattle.tree.specs.Trees.{message_tree};
@@ -37,7 +37,7 @@ struct ContractEnd {
     item: usize,
 }
 
-/// Adds what is wrong with the head of the case at this index in its switch.
+/// Adds the mistakes in the head of the case at this index in its switch.
 pub(crate) fn judge_head<'a>(
     context: &NameContext<'_, 'a>,
     heads: &Heads<'a>,
@@ -64,7 +64,7 @@ pub(crate) fn judge_head<'a>(
     }
 }
 
-/// Adds what is wrong with the head of a case on this end of a contract.
+/// Adds the mistakes in the head of a case on this end of a contract.
 fn judge_endpoint_head<'a>(
     context: &NameContext<'_, 'a>,
     heads: &Heads<'a>,
@@ -84,7 +84,7 @@ fn judge_endpoint_head<'a>(
     judge_lacking(lacking, case.endpoint, found)
 }
 
-/// Adds what is wrong with what such a case awaits. An earlier one may await the same.
+/// Adds the mistakes in what a case on this end awaits. `twice` is whether an earlier case awaits the same.
 fn judge_awaited(
     context: &NameContext<'_, '_>,
     end: ContractEnd,
@@ -104,7 +104,7 @@ fn judge_awaited(
     }
 }
 
-/// Adds what is wrong with a case that awaits this message.
+/// Adds the mistakes in a case that awaits this message.
 fn judge_message(
     context: &NameContext<'_, '_>,
     end: ContractEnd,
@@ -126,7 +126,7 @@ fn judge_message(
     }
 }
 
-/// Adds what is wrong with a case on what is no endpoint, unless its type is unknown.
+/// Adds the mistakes in a case on a name that is no endpoint; none if its type is missing or unknown.
 fn judge_no_endpoint(ty: ValueType, case: &Case, found: &mut Vec<Mistake>) -> Result<(), Memory>
     ensures { OnOk result (Adds found.old.items found.new.items
         (if is_silent ty then [] else other_mistakes ty (case_head case.now) case.now.message)) }
@@ -137,7 +137,7 @@ fn judge_no_endpoint(ty: ValueType, case: &Case, found: &mut Vec<Mistake>) -> Re
     judge_other_head(ty, case.endpoint, case.message, &case.binds, found)
 }
 
-/// Adds what is wrong with what a case binds, and declares it.
+/// Adds the mistakes in what a case binds, and declares it.
 pub(crate) fn judge_binds<'a>(
     alloc: Global,
     scope: &Scope<'a>,
@@ -160,7 +160,7 @@ pub(crate) fn judge_binds<'a>(
     }
 }
 
-/// The message that a case awaits at this end of the contract that is the item at this index.
+/// Returns the message that a case awaits at this end of the contract that is item `index`.
 fn awaited_message<'a>(
     scope: &Scope<'a>,
     index: usize,
@@ -176,7 +176,7 @@ fn awaited_message<'a>(
     }
 }
 
-/// The parameters of a message, if there is one.
+/// Returns the parameters of a message; none if there is no message.
 fn parameters_of<'a>(message: Option<&'a Message>) -> &'a [MessageParameter]
     ensures { result.now ≡ bound_params (option_map (λ m. message_tree m.now) message.entry) }
 {

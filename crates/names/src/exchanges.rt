@@ -1,4 +1,4 @@
-//! What is wrong with the names and types in exchanges.
+//! Mistakes in the names and types of exchanges.
 
 ghost use Rattle.std.specs.Prelude.{◌++◌, IfOk};
 ghost use Rattle.names.specs.Bodies.{exchanged_type, holder_mistakes, exchange_mistakes};
@@ -13,7 +13,7 @@ use declarations::{Demand, Mismatch, Mistake, Scope, ValueType};
 use source::{Memory, Span};
 use tree::Exchange;
 
-/// Adds what is wrong with an exchange.
+/// Adds the mistakes in an exchange.
 pub(crate) fn judge_exchange(
     scope: &Scope<'_>,
     variables: &ScopeVariables<'_>,
@@ -30,7 +30,7 @@ pub(crate) fn judge_exchange(
     ask(given.agrees(asked), exchange.given.place, mismatch, found)
 }
 
-/// The type of the field with which something is exchanged; adds what is wrong with the field, or with what has it.
+/// Returns the type of the exchanged field; adds the mistakes in the field, or in the variable that holds it.
 fn judge_holder(
     scope: &Scope<'_>,
     held: ValueType,
@@ -51,7 +51,7 @@ fn judge_holder(
     }
 }
 
-/// The type of a field of what a variable holds; adds what is wrong with it, and one that does not own.
+/// Returns the type of a field of what a variable holds; adds the mistakes in it, and one if the field does not own.
 fn judge_owning(
     scope: &Scope<'_>,
     held: ValueType,

@@ -1,4 +1,4 @@
-//! What is wrong with the names and types in expressions.
+//! Mistakes in the names and types of expressions.
 
 ghost use Rattle.std.specs.Prelude.{◌≡◌, List, OnOk, IfOk};
 ghost use Rattle.declarations.specs.declared.mistake.Mistake.{Mistake as MistakeModel};
@@ -25,7 +25,7 @@ use tree::{
     Prefixed, Relation, Sum, Target, Unary,
 };
 
-/// The type of an expression, and where it begins; adds what is wrong in it.
+/// Returns the type of an expression and where it begins; adds the mistakes in it.
 #[cycle(expressions)]
 pub(crate) fn judge_operand(
     scope: &Scope<'_>,
@@ -41,7 +41,7 @@ pub(crate) fn judge_operand(
     }
 }
 
-/// The same of a disjunction.
+/// Returns the same for a disjunction.
 #[cycle(expressions)]
 fn judge_disjunction(
     scope: &Scope<'_>,
@@ -59,7 +59,7 @@ fn judge_disjunction(
     Ok(left)
 }
 
-/// The same of a conjunction.
+/// Returns the same for a conjunction.
 #[cycle(expressions)]
 fn judge_conjunction(
     scope: &Scope<'_>,
@@ -77,7 +77,7 @@ fn judge_conjunction(
     Ok(left)
 }
 
-/// The same of an equality.
+/// Returns the same for an equality.
 #[cycle(expressions)]
 fn judge_equality(
     scope: &Scope<'_>,
@@ -95,7 +95,7 @@ fn judge_equality(
     Ok(left)
 }
 
-/// The same of a relation.
+/// Returns the same for a relation.
 #[cycle(expressions)]
 fn judge_relation(
     scope: &Scope<'_>,
@@ -113,7 +113,7 @@ fn judge_relation(
     Ok(left)
 }
 
-/// The same of a sum.
+/// Returns the same for a sum.
 #[cycle(expressions)]
 fn judge_sum(
     scope: &Scope<'_>,
@@ -129,7 +129,7 @@ fn judge_sum(
     }
 }
 
-/// The same of a sequence of factors.
+/// Returns the same for a sequence of factors.
 #[cycle(expressions)]
 fn judge_factors(
     scope: &Scope<'_>,
@@ -148,7 +148,7 @@ fn judge_factors(
     joined_terms(terms, found)
 }
 
-/// Takes one more factor into the terms of a sum; adds what is wrong with that.
+/// Adds one more factor to the terms of a sum; adds the mistakes in that.
 #[inline(always)]
 #[cycle(expressions)]
 fn judge_factor(
@@ -175,7 +175,7 @@ fn judge_factor(
     Ok(())
 }
 
-/// The same of an atom with what stands before it.
+/// Returns the same for an atom with its prefixes.
 #[inline(always)]
 #[cycle(expressions)]
 fn judge_unary(
@@ -192,7 +192,7 @@ fn judge_unary(
     }
 }
 
-/// The same where something stands before the atom.
+/// Returns the same for an atom with prefixes.
 #[cycle(expressions)]
 fn judge_prefixed(
     scope: &Scope<'_>,
@@ -206,7 +206,7 @@ fn judge_prefixed(
     judge_signs(&prefixed.prefixes, atom, found)
 }
 
-/// An operand with all of these before it, from the last on; adds what is wrong with that.
+/// Returns an operand with all of these signs before it, applied from the last one on; adds the mistakes in that.
 fn judge_signs(
     prefixes: &[Prefix],
     inner: Operand,
@@ -224,7 +224,7 @@ fn judge_signs(
     Ok(operand)
 }
 
-/// The same of an atom.
+/// Returns the same for an atom.
 #[inline(always)]
 #[cycle(expressions)]
 fn judge_atom(
@@ -250,7 +250,7 @@ fn judge_atom(
     }
 }
 
-/// The same of a target within an expression.
+/// Returns the same for a target within an expression.
 #[cycle(expressions)]
 fn judge_mentioned(
     scope: &Scope<'_>,
@@ -272,7 +272,7 @@ fn judge_mentioned(
     }
 }
 
-/// The type of an expression; adds what is wrong in it.
+/// Returns the type of an expression; adds the mistakes in it.
 pub(crate) fn judge_expression(
     scope: &Scope<'_>,
     variables: &ScopeVariables<'_>,
@@ -288,8 +288,8 @@ pub(crate) fn judge_expression(
     Ok(operand.ty)
 }
 
-/// The same of an expression that is the whole of a value, an argument or what is returned: a variable of the exchange
-/// heap may stand there alone.
+/// Returns the same for an expression that is the whole of a value, an argument or a returned value: it may be a
+/// variable of the exchange heap alone.
 pub(crate) fn judge_whole(
     scope: &Scope<'_>,
     variables: &ScopeVariables<'_>,

@@ -7,10 +7,10 @@ use thiserror::Error;
 /// Why a program is not resolved.
 #[derive(Debug, Drop, Error)]
 pub enum NameFaults {
-    /// All that is wrong with its names and types; there is at least one finding.
+    /// All findings about its names and types, at least one.
     #[error("names or types are wrong")]
     Found(Vec<Finding>),
-    /// A growth of memory was refused.
+    /// An allocation failed.
     #[error("out of memory")]
     Memory,
 }

@@ -13,8 +13,7 @@ use std::collections::BTreeMap;
 use tables::Table;
 use tree::{Awaited, Case, Switch};
 
-/// What is written at the endpoint of a case and at the message that it awaits; at no message where the other end is
-/// closed.
+/// The words of the endpoint of a case and of the message that it awaits; no message if the case is for a close.
 type Key<'a> = (&'a [u8], Option<&'a [u8]>);
 
 /// The endpoint of a case, and what is awaited there.
@@ -24,8 +23,8 @@ pub(crate) struct Awaiting {
     awaited: Awaited,
 }
 
-/// Where each endpoint, and each endpoint with a message, stands first among the cases of a switch. Names are compared
-/// and never hashed.
+/// The index of the first case of a switch for each endpoint, and for each endpoint with what is awaited there. Names
+/// are compared and never hashed.
 #[derive(Drop)]
 pub(crate) struct Heads<'a> {
     cases: BTreeMap<Key<'a>, usize>,
@@ -36,7 +35,7 @@ impl<'a> Heads<'a> {
     ghost use Rattle.names.specs.Cases.{Head, awaits_too};
     ghost use Rattle.names.specs.Heads.{IsHeads, lacks};
 
-    /// The heads of a switch.
+    /// Returns the heads of a switch.
     pub(crate) fn of(alloc: Global, text: &'a [u8], switch: &Switch) -> Result<Heads<'a>, Memory>
         ensures { IfOk result (IsHeads text.now (switch_heads (switch_tree switch.now))) }
     {
@@ -48,7 +47,7 @@ impl<'a> Heads<'a> {
         Ok(Heads { cases, endpoints })
     }
 
-    /// Whether one of the heads before this index awaits the same as this case.
+    /// Returns whether a head before this index awaits the same as this case.
     pub(crate) fn is_twice(&self, text: &'a [u8], index: usize, awaiting: Awaiting) -> bool
         ensures { (all : List Head) (h : Head) → IsHeads text.now all self.now → awaiting ≡ awaiting_of h
             → result ≡ awaits_too text.now h (take index all) }
@@ -56,7 +55,7 @@ impl<'a> Heads<'a> {
         stands_before(self.index_of(key_of(text, awaiting)), index)
     }
 
-    /// Whether the endpoint has no case for its close, and none of the heads before this index names it.
+    /// Returns whether the endpoint has no case for its close, and no head before this index names it.
     pub(crate) fn is_lacking(&self, text: &'a [u8], index: usize, endpoint: Span) -> bool
         ensures { (all : List Head) (h : Head) → IsHeads text.now all self.now → endpoint ≡ h.endpoint
             → result ≡ lacks text.now all (take index all) h }
@@ -67,7 +66,7 @@ impl<'a> Heads<'a> {
         !(named || closed)
     }
 
-    /// How many heads stand before the first one that is written so.
+    /// Returns the index of the first head with this key.
     fn index_of(&self, key: Key<'a>) -> Option<usize>
         ensures { (text : List ℕ) (all : List Head) → IsHeads text all self.now → result ≡ key_at text (key_words key.entry) all }
     {
@@ -75,7 +74,7 @@ impl<'a> Heads<'a> {
     }
 }
 
-/// Whether it is found, and before this index.
+/// Returns whether it was found before this index.
 fn stands_before(found: Option<usize>, index: usize) -> bool
     ensures { result ≡ is_before index found }
 {
@@ -85,7 +84,7 @@ fn stands_before(found: Option<usize>, index: usize) -> bool
     }
 }
 
-/// What is written at a head.
+/// Returns the words of a head.
 fn key_of<'a>(text: &'a [u8], awaiting: Awaiting) -> Key<'a>
     ensures { key_words result ≡ (word_at text.now awaiting.endpoint, awaited_word text.now awaiting.awaited) }
 {
@@ -96,7 +95,7 @@ fn key_of<'a>(text: &'a [u8], awaiting: Awaiting) -> Key<'a>
     }
 }
 
-/// What is written at these heads.
+/// Returns the words of these heads.
 fn keys_of<'a>(alloc: Global, text: &'a [u8], list: &[Awaiting]) -> Result<Vec<Key<'a>>, Memory>
     ensures { IfOk result (λ keys. map key_words keys.items
         ≡ map (λ a. (word_at text.now a.endpoint, awaited_word text.now a.awaited)) list.now) }
@@ -108,7 +107,7 @@ fn keys_of<'a>(alloc: Global, text: &'a [u8], list: &[Awaiting]) -> Result<Vec<K
     Ok(keys)
 }
 
-/// The endpoints of these heads.
+/// Returns the endpoints of these heads.
 fn endpoints_of(alloc: Global, list: &[Awaiting]) -> Result<Vec<Span>, Memory>
     ensures { IfOk result (λ names. names.items ≡ map (λ a. a.endpoint) list.now) }
 {
@@ -119,7 +118,7 @@ fn endpoints_of(alloc: Global, list: &[Awaiting]) -> Result<Vec<Span>, Memory>
     Ok(names)
 }
 
-/// What the head of a case awaits.
+/// Returns what the head of a case awaits.
 pub(crate) fn awaiting_at(case: &Case) -> Awaiting
     ensures { result ≡ awaiting_of (head_of (case_tree case.now)) }
 {
@@ -129,7 +128,7 @@ pub(crate) fn awaiting_at(case: &Case) -> Awaiting
     }
 }
 
-/// What the heads of a switch await, in order.
+/// Returns what the heads of a switch await, in order.
 fn awaiting_in(alloc: Global, switch: &Switch) -> Result<Vec<Awaiting>, Memory>
     ensures { IfOk result (λ list. list.items ≡ map awaiting_of (switch_heads (switch_tree switch.now))) }
 {

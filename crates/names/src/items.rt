@@ -1,4 +1,4 @@
-//! What is wrong with the names and types of a program.
+//! Mistakes in the names and types of a program.
 
 ghost use Rattle.std.specs.Prelude.{◌≡◌, OnOk};
 ghost use Rattle.std.specs.List.{flat_map};
@@ -15,7 +15,7 @@ use declarations::{
 use source::Memory;
 use std::alloc::Global;
 
-/// Adds all that is wrong with the names and types of a program.
+/// Adds all mistakes in the names and types of a program.
 pub(crate) fn judge_program(
     alloc: Global,
     scope: &Scope<'_>,
@@ -28,7 +28,7 @@ pub(crate) fn judge_program(
     judge_definitions(alloc, scope, found)
 }
 
-/// Adds what is wrong within each item.
+/// Adds the mistakes within each item.
 fn judge_definitions(
     alloc: Global,
     scope: &Scope<'_>,
@@ -43,7 +43,7 @@ fn judge_definitions(
     Ok(())
 }
 
-/// Adds what is wrong within an item.
+/// Adds the mistakes within an item.
 fn judge_definition<'a>(
     alloc: Global,
     scope: &Scope<'a>,

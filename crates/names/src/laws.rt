@@ -1,4 +1,4 @@
-//! Laws of names: they hold of every program, whatever the code does.
+//! Laws about names. They hold for every program, whatever the code does.
 
 ghost use Rattle.std.specs.Prelude.{◌≡◌, [], All};
 ghost use Rattle.tree.specs.Trees.{contracts_of};
@@ -9,7 +9,7 @@ ghost use Rattle.program.specs.Parts.{IsWhole};
 
 use declarations::laws::contracts_without_findings_are_whole;
 
-/// The contracts of a program with nothing wrong in it are whole.
+/// The contracts of a program without mistakes are whole.
 pub fn clean_contracts_are_whole()
     ensures { (p : ProgramText) → program_mistakes p ≡ [] → All (λ c. IsWhole c.parts) (resolved_contracts p.text (contracts_of p.items)) }
 {

@@ -1,4 +1,4 @@
-//! What is wrong with the variables in an expression, their fields and their elements.
+//! Mistakes in the variables of an expression, their fields and their elements.
 
 ghost use Rattle.std.specs.Prelude.{◌≡◌, List, [], ◌∷◌, OnOk, IfOk, codes, false, if◌then◌else◌};
 ghost use Rattle.std.specs.Option.{option_map_or};
@@ -26,7 +26,7 @@ use program::Scalar;
 use source::{Memory, Span};
 use tree::Field;
 
-/// What a variable holds; adds the name if nothing declares it.
+/// Returns the type of a variable; adds the name if nothing declares it.
 pub(crate) fn judge_variable(
     scope: &Scope<'_>,
     variables: &ScopeVariables<'_>,
@@ -46,7 +46,7 @@ pub(crate) fn judge_variable(
     }
 }
 
-/// A variable within an expression; adds what is wrong with it.
+/// Returns the operand for a variable within an expression; adds the mistakes in it.
 pub(crate) fn judge_mention(
     scope: &Scope<'_>,
     variables: &ScopeVariables<'_>,
@@ -64,7 +64,7 @@ pub(crate) fn judge_mention(
     })
 }
 
-/// A field of a variable within an expression; adds what is wrong with it.
+/// Returns the operand for a field of a variable within an expression; adds the mistakes in it.
 pub(crate) fn judge_field_of(
     scope: &Scope<'_>,
     variables: &ScopeVariables<'_>,
@@ -84,7 +84,8 @@ pub(crate) fn judge_field_of(
     })
 }
 
-/// An element of a variable within an expression, where the index was judged; adds what is wrong with it.
+/// Returns the operand for an element of a variable within an expression; adds the mistakes in it, without those in
+/// the index, which is judged already.
 #[inline(always)]
 pub(crate) fn judge_element_of(
     scope: &Scope<'_>,
@@ -105,7 +106,7 @@ pub(crate) fn judge_element_of(
     })
 }
 
-/// Adds a variable that has no elements.
+/// Adds a mistake if the variable has no elements.
 fn judge_element(held: ValueType, variable: Span, found: &mut Vec<Mistake>) -> Result<(), Memory>
     ensures { OnOk result (Adds found.old.items found.new.items (element_mistakes held variable)) }
 {
@@ -118,7 +119,7 @@ fn judge_element(held: ValueType, variable: Span, found: &mut Vec<Mistake>) -> R
     }
 }
 
-/// The type of an element, where the index is built on an unknown name or not.
+/// Returns the type of an element. `lost` is whether the index is built on an undeclared name.
 fn type_of_element(held: ValueType, lost: bool) -> ValueType
     ensures { result ≡ element_type held lost }
 {
@@ -130,7 +131,7 @@ fn type_of_element(held: ValueType, lost: bool) -> ValueType
     }
 }
 
-/// The type of a field of what a variable holds; adds what is wrong with it.
+/// Returns the type of a field of what a variable holds; adds the mistakes in it.
 pub(crate) fn judge_field(
     scope: &Scope<'_>,
     held: ValueType,
@@ -153,19 +154,19 @@ pub(crate) fn judge_field(
     }
 }
 
-/// Whether a field of this type, of what a variable holds, owns.
+/// Returns whether a field of this type, of what a variable holds, owns.
 #[inline(always)]
 pub(crate) fn owns(scope: &Scope<'_>, held: ValueType, field: Span, ty: ValueType) -> bool
     ensures { (s : InScope) → IsScope s.program scope.now → ty ≡ field_type s held field → result ≡ owns s held field }
 {
     match ty {
-        // Most fields are scalars, which own nothing, so these are not looked up a second time.
+        // Most fields are scalars, which own nothing. They need no second look-up.
         ValueType::Scalar(_) => false,
         _ => is_owner(scope, held, field),
     }
 }
 
-/// Whether a field of what a variable holds owns.
+/// Returns whether a field of what a variable holds owns.
 fn is_owner(scope: &Scope<'_>, held: ValueType, field: Span) -> bool
     ensures { (s : InScope) → IsScope s.program scope.now → result ≡ owns s held field }
 {
@@ -184,7 +185,7 @@ fn is_owning(field: Option<Field>) -> bool
     }
 }
 
-/// The type of a field of an array; adds any but its length.
+/// Returns the type of a field of an array; adds the field unless it is `Length`.
 fn judge_length(text: &[u8], field: Span, found: &mut Vec<Mistake>) -> Result<ValueType, Memory>
     ensures { IfOk result (let is_length = same_word (word_at text.now field) (codes "Length") in
         IsGiven (if is_length then ValueType.Scalar Scalar.Int else ValueType.Unknown)
@@ -197,15 +198,15 @@ fn judge_length(text: &[u8], field: Span, found: &mut Vec<Mistake>) -> Result<Va
     Ok(ValueType::Unknown)
 }
 
-/// Whether this name is `Length`.
+/// Returns whether this name is `Length`.
 pub(crate) fn is_length(text: &[u8], name: Span) -> bool
     ensures { result ≡ same_word (word_at text.now name) (codes "Length") }
 {
     name.slice(text) == b"Length".as_slice()
 }
 
-/// The type of a field of what a pointer leads to; adds one that the struct lacks.
-// Nothing is said of the pointer's own name, so in the clause that of the field stands for it.
+/// Returns the type of a field of the struct that a pointer leads to; adds the field if the struct lacks it.
+// No mistake names the pointer itself, so the clause uses the name of the field in its place.
 fn judge_struct_field(
     scope: &Scope<'_>,
     index: usize,
@@ -221,7 +222,7 @@ fn judge_struct_field(
     }
 }
 
-/// The type of a field of a struct, which is the item at this index; adds one that it lacks.
+/// Returns the type of a field of the struct that is item `index`; adds the field if the struct lacks it.
 fn judge_field_in(
     scope: &Scope<'_>,
     index: usize,

@@ -1,4 +1,4 @@
-//! What is wrong with the names and types in classes.
+//! Mistakes in the names and types of classes.
 
 ghost use Rattle.std.specs.Prelude.{OnOk, []};
 ghost use Rattle.std.specs.List.{flat_map};
@@ -20,7 +20,7 @@ use source::Memory;
 use std::alloc::Global;
 use tree::{Method, Parameter, Type};
 
-/// Adds what is wrong with the names and types in a class.
+/// Adds the mistakes in the names and types of a class.
 pub(crate) fn judge_class<'a>(
     alloc: Global,
     scope: &Scope<'a>,
@@ -34,7 +34,7 @@ pub(crate) fn judge_class<'a>(
     judge_methods(alloc, scope, methods, found)
 }
 
-/// Adds what is wrong with the names and types in each method of a class.
+/// Adds the mistakes in the names and types of each method of a class.
 fn judge_methods<'a>(
     alloc: Global,
     scope: &Scope<'a>,
@@ -50,7 +50,7 @@ fn judge_methods<'a>(
     Ok(())
 }
 
-/// Adds what is wrong with the names and types in a method.
+/// Adds the mistakes in the names and types of a method.
 fn judge_method<'a>(
     alloc: Global,
     scope: &Scope<'a>,
@@ -75,7 +75,7 @@ fn judge_method<'a>(
     judge_block(&around, &mut variables, &method.body, found)
 }
 
-/// Adds the names in the type that a method gives, if it gives anything, that are not declared.
+/// Adds the undeclared names in the result type of a method, if it has one.
 fn judge_result(
     scope: &Scope<'_>,
     written: Option<Type>,
@@ -90,7 +90,7 @@ fn judge_result(
     }
 }
 
-/// Declares the parameters of a method, and adds what is wrong with them.
+/// Declares the parameters of a method, and adds the mistakes in them.
 fn judge_parameters<'a>(
     alloc: Global,
     scope: &Scope<'a>,
@@ -107,7 +107,7 @@ fn judge_parameters<'a>(
     Ok(())
 }
 
-/// Declares a parameter, and adds what is wrong with it.
+/// Declares a parameter, and adds the mistakes in it.
 fn judge_parameter<'a>(
     alloc: Global,
     scope: &Scope<'a>,

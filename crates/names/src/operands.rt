@@ -12,7 +12,7 @@ use program::Scalar;
 use source::{Memory, Place};
 use tree::{Prefix, PrefixOperator};
 
-/// What an expression gives, and where it begins.
+/// The type of an expression, and where it begins.
 #[derive(Clone, Copy)]
 pub(crate) struct Operand {
     pub(crate) ty: ValueType,
@@ -20,7 +20,7 @@ pub(crate) struct Operand {
 }
 
 impl Operand {
-    /// A number.
+    /// Returns a number at this place.
     pub(crate) fn number(place: Place) -> Operand
         ensures { result ≡ record { ty = ValueType.Scalar Scalar.Int; place = place } }
     {
@@ -30,7 +30,7 @@ impl Operand {
         }
     }
 
-    /// A truth value.
+    /// Returns a truth value at this place.
     pub(crate) fn truth(place: Place) -> Operand
         ensures { result ≡ record { ty = ValueType.Scalar Scalar.Bool; place = place } }
     {
@@ -41,7 +41,7 @@ impl Operand {
     }
 }
 
-/// `&&` and `||`; `==` and `!=`; `<`, `<=`, `>` and `>=`; `+`, `-` and `*`.
+/// Operators between two operands: `&&` and `||`; `==` and `!=`; `<`, `<=`, `>` and `>=`; `+`, `-` and `*`.
 #[derive(Clone, Copy, PartialEq, Eq)]
 pub(crate) enum Joint {
     Logic,
@@ -63,8 +63,8 @@ pub(crate) fn add_wrong_type(
     Ok(())
 }
 
-/// Adds a wrong type, unless all is well.
-// Inlined, so that what is wrong is put together only where something is.
+/// Adds a wrong type unless `well`.
+// Inlined, so that a mismatch is built only if something is wrong.
 #[inline(always)]
 pub(crate) fn ask(
     well: bool,
@@ -114,7 +114,7 @@ fn ask_either(ty: ValueType, place: Place, found: &mut Vec<Mistake>) -> Result<(
     add_wrong_type(place, Mismatch::Given(Demand::Scalar, ty), found)
 }
 
-/// Asks for what can be compared with what stands on the left.
+/// Asks for something that can be compared with the left operand.
 fn ask_like(
     left: ValueType,
     ty: ValueType,
@@ -132,7 +132,7 @@ fn ask_like(
     ask_either(ty, place, found)
 }
 
-/// What is asked on the left of an operator.
+/// Asks of a left operand what its operator demands.
 fn ask_left(joint: Joint, left: Operand, found: &mut Vec<Mistake>) -> Result<(), Memory>
     ensures { OnOk result (Adds found.old.items found.new.items (left_asked joint left.ty left.place)) }
 {
@@ -144,7 +144,7 @@ fn ask_left(joint: Joint, left: Operand, found: &mut Vec<Mistake>) -> Result<(),
     }
 }
 
-/// What is asked on the right of an operator.
+/// Asks of a right operand what its operator demands.
 fn ask_right(
     joint: Joint,
     left: ValueType,
@@ -161,7 +161,7 @@ fn ask_right(
     }
 }
 
-/// The type of two operands that are joined.
+/// Returns the type of two operands that are joined.
 fn type_joined(joint: Joint, left: ValueType, right: ValueType) -> ValueType
     ensures { result ≡ (if is_unknown left || is_unknown right then ValueType.Unknown else joined_type joint) }
 {
@@ -174,7 +174,7 @@ fn type_joined(joint: Joint, left: ValueType, right: ValueType) -> ValueType
     }
 }
 
-/// Two operands, joined; adds what is wrong with that.
+/// Returns two operands joined; adds the mistakes in that.
 #[inline(always)]
 pub(crate) fn join(
     joint: Joint,
@@ -192,7 +192,7 @@ pub(crate) fn join(
     })
 }
 
-/// What is asked behind a sign.
+/// Asks of an operand what the sign before it demands.
 fn ask_signed(
     operator: PrefixOperator,
     inner: Operand,
@@ -206,7 +206,7 @@ fn ask_signed(
     }
 }
 
-/// The type of an operand with a sign before it.
+/// Returns the type of an operand with a sign before it.
 fn type_signed(operator: PrefixOperator, inner: ValueType) -> ValueType
     ensures { result ≡ (if is_unknown inner then ValueType.Unknown else signed_type operator) }
 {
@@ -219,7 +219,7 @@ fn type_signed(operator: PrefixOperator, inner: ValueType) -> ValueType
     }
 }
 
-/// An operand with a sign before it; adds what is wrong with that.
+/// Returns an operand with a sign before it; adds the mistakes in that.
 pub(crate) fn sign(
     prefix: Prefix,
     inner: Operand,

@@ -1,4 +1,4 @@
-//! What is wrong with the names and types in statements that hold no others.
+//! Mistakes in the names and types of statements that hold no others.
 
 ghost use Rattle.std.specs.Prelude.{◌≡◌, ◌++◌, ◌∷◌, [], None, Some, OnOk, option_map};
 ghost use Rattle.std.specs.Option.{option_map_or};
@@ -31,7 +31,7 @@ use program::Side;
 use source::{Memory, Span};
 use tree::{Assign, Declare, Expression, NewChannel, Type, Value};
 
-/// Adds what is wrong with the value of a declaration, if it has one.
+/// Adds the mistakes in the value of a declaration, if it has one.
 fn judge_given<'a>(
     around: &Surroundings<'_, 'a>,
     variables: &ScopeVariables<'a>,
@@ -48,7 +48,7 @@ fn judge_given<'a>(
     }
 }
 
-/// Adds what is wrong with a declaration, and declares its variable.
+/// Adds the mistakes in a declaration, and declares its variable.
 pub(crate) fn judge_declare<'a>(
     around: &Surroundings<'_, 'a>,
     variables: &mut ScopeVariables<'a>,
@@ -70,7 +70,7 @@ pub(crate) fn judge_declare<'a>(
     variables.declare(alloc, scope.text, variable, heap, found)
 }
 
-/// Adds what is wrong with an assignment.
+/// Adds the mistakes in an assignment.
 pub(crate) fn judge_assign<'a>(
     around: &Surroundings<'_, 'a>,
     variables: &ScopeVariables<'a>,
@@ -86,7 +86,7 @@ pub(crate) fn judge_assign<'a>(
     judge_value(around, variables, asked, &assign.value, found)
 }
 
-/// The type of what this name means.
+/// Returns the type of what this name means.
 pub(crate) fn held_type(scope: &Scope<'_>, variables: &ScopeVariables<'_>, name: Span) -> ValueType
     ensures { (p : ProgramText) (f : NameFrame) → IsScope p scope.now → IsNameFrame p.text f variables.now
         → result ≡ type_named (record { program = p; variables = f.variables }) name }
@@ -97,7 +97,7 @@ pub(crate) fn held_type(scope: &Scope<'_>, variables: &ScopeVariables<'_>, name:
     }
 }
 
-/// Adds that no variable has this name.
+/// Adds the name if no variable in scope has it.
 pub(crate) fn judge_use(
     scope: &Scope<'_>,
     variables: &ScopeVariables<'_>,
@@ -111,7 +111,7 @@ pub(crate) fn judge_use(
     Ok(())
 }
 
-/// Adds what is wrong with deleting what this name means.
+/// Adds the mistakes in deleting the variable of this name.
 pub(crate) fn judge_delete(
     scope: &Scope<'_>,
     variables: &ScopeVariables<'_>,
@@ -127,7 +127,7 @@ pub(crate) fn judge_delete(
     ask(well, name.place, Mismatch::Given(Demand::Block, ty), found)
 }
 
-/// Whether it is an end of the contract that is the item at this index.
+/// Returns whether it is an end of the contract that is item `index`.
 fn is_end_of(index: usize, ty: ValueType) -> bool
     ensures { result ≡ is_end_of index ty }
 {
@@ -137,7 +137,7 @@ fn is_end_of(index: usize, ty: ValueType) -> bool
     }
 }
 
-/// Whether both are the same end of a channel.
+/// Returns whether both are the same end of a channel.
 fn same_end(first: ValueType, second: ValueType) -> bool
     ensures { result ≡ same_end first second }
 {
@@ -147,8 +147,8 @@ fn same_end(first: ValueType, second: ValueType) -> bool
     }
 }
 
-/// What is asked of the second end of a new channel of the contract that is the item at this index: the other end, where the first
-/// is one.
+/// Returns what is asked of the second end of a new channel of the contract that is item `index`: the opposite end, if
+/// the first one is an end of it.
 fn demand_beside(index: usize, first: ValueType) -> Demand
     ensures { result ≡ demand_beside index first }
 {
@@ -163,7 +163,7 @@ fn demand_beside(index: usize, first: ValueType) -> Demand
     }
 }
 
-/// Adds what is wrong with these types for the two ends of a new channel of a contract.
+/// Adds the mistakes in the types of the two ends of a new channel of a contract.
 fn judge_ends(
     index: usize,
     types: (ValueType, ValueType),
@@ -188,7 +188,7 @@ fn judge_ends(
     ask(well, second.place, second_mismatch, found)
 }
 
-/// Adds what is wrong with the contract and the types of the ends of a new channel.
+/// Adds the mistakes in the contract and in the types of the ends of a new channel.
 fn judge_new_ends(
     scope: &Scope<'_>,
     variables: &ScopeVariables<'_>,
@@ -207,7 +207,7 @@ fn judge_new_ends(
     }
 }
 
-/// Adds what is wrong with a new channel.
+/// Adds the mistakes in a new channel.
 pub(crate) fn judge_channel(
     scope: &Scope<'_>,
     variables: &ScopeVariables<'_>,
@@ -222,7 +222,7 @@ pub(crate) fn judge_channel(
     judge_use(scope, variables, channel.second, found)
 }
 
-/// Adds what is wrong with a value that a void method returns.
+/// Adds the mistakes in a value that a void method returns.
 fn judge_needless(
     context: &NameContext<'_, '_>,
     word: Span,
@@ -241,7 +241,7 @@ fn judge_needless(
     }
 }
 
-/// Adds what is wrong with what is returned where a type is asked.
+/// Adds the mistakes in a `return` of a method that gives a value.
 fn judge_returned(
     context: &NameContext<'_, '_>,
     asked: Type,
@@ -265,7 +265,7 @@ fn judge_returned(
     }
 }
 
-/// Adds what is wrong with a `return`.
+/// Adds the mistakes in a `return`.
 pub(crate) fn judge_return(
     context: &NameContext<'_, '_>,
     asked: Option<Type>,

@@ -16,14 +16,15 @@ use source::Memory;
 use std::alloc::Global;
 use tree::Tree;
 
-/// Resolves a program: its contracts in order of the text, each with its messages, states and edges.
+/// Resolves a program to its contracts in order of the text, each with its messages, states and edges.
 ///
-/// The tree is that of the text, as `parse` makes it, and fewer than 2^32 symbols spell it. Messages and states are counted
-/// through the whole program, each from 0, so no two of them share a number; a named state is counted at its name, and behind it the
-/// unnamed ones of its paths. A name in an edge means the first declaration of that name in its contract.
+/// The tree is the one that `parse` makes of the text, spelled with fewer than 2^32 tokens. Messages and states are
+/// each numbered from 0 through the whole program, so no two messages and no two states share a number. A named state
+/// is numbered at its name, followed by the unnamed states of its paths. A name in an edge means the first declaration
+/// of that name in its contract.
 ///
-/// `Found` has all that is wrong with the names and types of the program, and comes exactly where something is; `Memory`
-/// is answered where a growth was refused.
+/// # Errors
+/// `Found`, with all findings about names and types, if there is any; `Memory` if an allocation fails.
 pub fn resolve(alloc: Global, tree: &Tree, text: &[u8]) -> Result<Resolved, NameFaults>
     requires { length (program (program_tree tree.now)) < 2 ^ 32 }
     ensures found { IfErr result (TellsMistakes (program_of text.now tree.now)) }
@@ -35,8 +36,8 @@ pub fn resolve(alloc: Global, tree: &Tree, text: &[u8]) -> Result<Resolved, Name
     }
 }
 
-/// Resolves a program as `resolve` does, and gives its tree back. Where something is wrong, the tree goes before the findings are
-/// written, so that they can have its memory.
+/// Resolves a program as `resolve` does, and returns its tree as well. If there are findings, the tree is dropped
+/// before they are written, so that they can use its memory.
 pub fn resolve_tree(alloc: Global, tree: Tree, text: &[u8]) -> Result<(Resolved, Tree), NameFaults>
     requires { length (program (program_tree tree)) < 2 ^ 32 }
     ensures found { IfErr result (TellsMistakes (program_of text.now tree)) }
@@ -52,7 +53,7 @@ pub fn resolve_tree(alloc: Global, tree: Tree, text: &[u8]) -> Result<(Resolved,
     }
 }
 
-/// What names mean in a program, or all that is wrong with them.
+/// Returns the resolved program, or all mistakes in its names and types.
 fn judge_names(
     alloc: Global,
     tree: &Tree,
@@ -73,10 +74,13 @@ fn judge_names(
     }
 }
 
-/// All that is wrong with the names and types of a program, in the order in which it is judged. The findings that `resolve` tells are
-/// those of these mistakes, in the same order.
+/// Returns all mistakes in the names and types of a program, in the order in which they are judged. The findings of
+/// `resolve` are those of these mistakes, in the same order.
 ///
-/// The tree is that of the text. `Memory` is answered where a growth was refused.
+/// The tree is that of the text.
+///
+/// # Errors
+/// `Memory` if an allocation fails.
 pub fn mistakes_of(alloc: Global, tree: &Tree, text: &[u8]) -> Result<Vec<Mistake>, Memory>
     ensures { IfOk result (λ mistakes. mistakes.items ≡ program_mistakes (program_of text.now tree.now)) }
 {
@@ -84,7 +88,7 @@ pub fn mistakes_of(alloc: Global, tree: &Tree, text: &[u8]) -> Result<Vec<Mistak
     mistakes_in(alloc, &scope)
 }
 
-/// All that is wrong with the names and types in scope.
+/// Returns all mistakes in the names and types in scope.
 fn mistakes_in(alloc: Global, scope: &Scope<'_>) -> Result<Vec<Mistake>, Memory>
     ensures { IfOk result (λ mistakes. (p : ProgramText) → IsScope p scope.now → mistakes.items ≡ program_mistakes p) }
 {

@@ -1,4 +1,4 @@
-//! What is wrong with the names and types in statements.
+//! Mistakes in the names and types of statements.
 
 ghost use Rattle.std.specs.Prelude.{map, take};
 ghost use Rattle.tree.specs.StatementTrees.{plain_tree, statement_tree, statement_sequence, block_tree, test_tree};
@@ -23,7 +23,7 @@ use declarations::Mistake;
 use source::Memory;
 use tree::{Block, Case, If, Plain, Statement, Switch, Test};
 
-/// The same within a loop.
+/// Returns the same surroundings within a loop.
 fn within_loop<'s, 'a>(around: &Surroundings<'s, 'a>) -> Surroundings<'s, 'a>
     ensures { (m : bodies.Surroundings) → AreSurroundings m around.now → AreSurroundings (in_loop m) result }
 {
@@ -34,7 +34,7 @@ fn within_loop<'s, 'a>(around: &Surroundings<'s, 'a>) -> Surroundings<'s, 'a>
     }
 }
 
-/// The same within a switch.
+/// Returns the same surroundings within a switch.
 fn within_switch<'s, 'a>(around: &Surroundings<'s, 'a>) -> Surroundings<'s, 'a>
     ensures { (m : bodies.Surroundings) → AreSurroundings m around.now → AreSurroundings (in_switch m) result }
 {
@@ -44,7 +44,7 @@ fn within_switch<'s, 'a>(around: &Surroundings<'s, 'a>) -> Surroundings<'s, 'a>
     }
 }
 
-/// Adds what is wrong in a statement that holds no others.
+/// Adds the mistakes in a statement that holds no others.
 fn judge_plain<'a>(
     around: &Surroundings<'_, 'a>,
     variables: &mut ScopeVariables<'a>,
@@ -72,7 +72,7 @@ fn judge_plain<'a>(
     }
 }
 
-/// Adds what is wrong in a block. What it declares is in scope there alone.
+/// Adds the mistakes in a block. What it declares is in scope only there.
 #[cycle(bodies)]
 pub(crate) fn judge_block<'a>(
     around: &Surroundings<'_, 'a>,
@@ -89,7 +89,7 @@ pub(crate) fn judge_block<'a>(
     Ok(())
 }
 
-/// Adds what is wrong in these statements.
+/// Adds the mistakes in these statements.
 #[cycle(bodies)]
 fn judge_statements<'a>(
     around: &Surroundings<'_, 'a>,
@@ -106,7 +106,7 @@ fn judge_statements<'a>(
     Ok(())
 }
 
-/// Adds what is wrong in a statement.
+/// Adds the mistakes in a statement.
 #[cycle(bodies)]
 fn judge_statement<'a>(
     around: &Surroundings<'_, 'a>,
@@ -132,7 +132,7 @@ fn judge_statement<'a>(
     }
 }
 
-/// Adds what is wrong in a condition and its block.
+/// Adds the mistakes in a condition and its block.
 #[cycle(bodies)]
 fn judge_test<'a>(
     around: &Surroundings<'_, 'a>,
@@ -147,7 +147,7 @@ fn judge_test<'a>(
     judge_block(around, variables, &test.body, found)
 }
 
-/// Adds what is wrong in an `if`.
+/// Adds the mistakes in an `if`.
 #[cycle(bodies)]
 fn judge_if<'a>(
     around: &Surroundings<'_, 'a>,
@@ -169,7 +169,7 @@ fn judge_if<'a>(
     }
 }
 
-/// Adds what is wrong in a switch; these surroundings are those within it.
+/// Adds the mistakes in a switch. The surroundings are those within it.
 #[cycle(bodies)]
 fn judge_switch<'a>(
     around: &Surroundings<'_, 'a>,
@@ -188,7 +188,7 @@ fn judge_switch<'a>(
     Ok(())
 }
 
-/// Adds what is wrong in the case at this index in its switch. What it binds and declares is in scope there alone.
+/// Adds the mistakes in the case at this index in its switch. What it binds and declares is in scope only there.
 #[cycle(bodies)]
 fn judge_case<'a>(
     around: &Surroundings<'_, 'a>,

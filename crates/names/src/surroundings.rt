@@ -1,11 +1,11 @@
-//! What stands round a statement, and what is in scope there.
+//! The surroundings of a statement, and what is in scope there.
 
 use crate::variables::ScopeVariables;
 use declarations::{ClassMethods, Scope};
 use std::alloc::Global;
 use tree::Type;
 
-/// The program, the class and the result of the method, and whether there is something to break off or to turn back to.
+/// The program, the class and the result type of the method, and whether `break` and `continue` are allowed.
 #[derive(Clone, Copy)]
 pub(crate) struct Surroundings<'s, 'a> {
     pub(crate) alloc: Global,
@@ -21,7 +21,7 @@ impl<'s, 'a> Surroundings<'s, 'a> {
     ghost use Rattle.names.specs.Frames.{AreSurroundings, IsContext, IsNameFrame};
     ghost use Rattle.names.specs.Variables.{NameFrame};
 
-    /// What a name can mean here, where these variables are in scope.
+    /// Returns what a name can mean here, with these variables in scope.
     pub(crate) fn context<'t>(&self, variables: &'t ScopeVariables<'a>) -> NameContext<'t, 'a>
     where
         's: 't,
@@ -36,7 +36,7 @@ impl<'s, 'a> Surroundings<'s, 'a> {
     }
 }
 
-/// What a name can mean: what the program declares, and the variables in scope.
+/// What a name can mean: the declarations of the program, and the variables in scope.
 #[derive(Clone, Copy)]
 pub(crate) struct NameContext<'s, 'a> {
     pub(crate) alloc: Global,

@@ -1,4 +1,4 @@
-//! What is wrong with the names and types in targets.
+//! Mistakes in the names and types of targets.
 
 ghost use Rattle.std.specs.Prelude.{IfOk, OnOk};
 ghost use Rattle.tree.specs.ExpressionTrees.{target_tree};
@@ -17,7 +17,7 @@ use declarations::{Mismatch, Mistake, Scope, ValueType};
 use source::{Memory, Span};
 use tree::Target;
 
-/// The type that is asked of a value for this target; adds what is wrong with the target.
+/// Returns the type that is asked of a value for this target; adds the mistakes in the target.
 pub(crate) fn judge_target(
     scope: &Scope<'_>,
     variables: &ScopeVariables<'_>,
@@ -40,7 +40,7 @@ pub(crate) fn judge_target(
     }
 }
 
-/// A field as a target: the length of an array is read, and not written, and what a field owns is exchanged.
+/// Returns the same for a field. The length of an array can only be read, and an owning field can only be exchanged.
 fn judge_field_target(
     scope: &Scope<'_>,
     variables: &ScopeVariables<'_>,
@@ -60,7 +60,7 @@ fn judge_field_target(
     Ok(ty)
 }
 
-/// Adds the length of an array.
+/// Adds a mistake if the field is the length of an array.
 fn judge_written(
     scope: &Scope<'_>,
     held: ValueType,

@@ -11,7 +11,7 @@ use crate::operands::{Joint, Operand, join};
 use declarations::Mistake;
 use source::Memory;
 
-/// The terms before the last one, joined, if there are some, and the last one.
+/// The terms before the last one, joined, if there are any, and the last one.
 #[derive(Clone, Copy)]
 pub(crate) struct Terms {
     pub(crate) before: Option<Operand>,
@@ -19,7 +19,7 @@ pub(crate) struct Terms {
 }
 
 impl Terms {
-    /// The first factor of a sum.
+    /// Returns the terms of a sum with this factor alone.
     pub(crate) fn from_first(first: Operand) -> Terms
         ensures { (s : InScope) (e : Shape) (old new : List MistakeModel) → IsOperand s e old new first
             → IsJudgedTerms s (first_term e) old new result }
@@ -31,7 +31,7 @@ impl Terms {
     }
 }
 
-/// All terms as one operand; adds what is wrong with the operator before the last one.
+/// Returns all terms as one operand; adds the mistakes in the operator before the last one.
 #[inline(always)]
 pub(crate) fn joined_terms(terms: Terms, found: &mut Vec<Mistake>) -> Result<Operand, Memory>
     ensures { IfOk result (λ o. (s : InScope) (t : TermShapes) (start : List MistakeModel) → IsJudgedTerms s t start found.old.items terms

@@ -1,4 +1,4 @@
-//! What is wrong with a number of arguments, and with a jump that stands where it cannot.
+//! Mistakes in the number of arguments, and in jumps.
 
 ghost use Rattle.std.specs.Prelude.{◌∷◌, [], OnOk, if◌then◌else◌, ◌==◌};
 ghost use Rattle.declarations.specs.Mistakes.{Adds};
@@ -6,7 +6,7 @@ ghost use Rattle.declarations.specs.Mistakes.{Adds};
 use declarations::Mistake;
 use source::{Memory, Place, Span};
 
-/// Adds that there are too few arguments, or too many, unless there are as many as are asked.
+/// Adds that there are too few arguments, or too many, unless as many are given as are asked for.
 pub(crate) fn judge_count(
     asked: usize,
     given: usize,
@@ -23,7 +23,7 @@ pub(crate) fn judge_count(
     Ok(())
 }
 
-/// Adds a `break`, unless it has something to break off.
+/// Adds a `break` outside a loop or switch.
 pub(crate) fn judge_break(well: bool, word: Span, found: &mut Vec<Mistake>) -> Result<(), Memory>
     ensures { OnOk result (Adds found.old.items found.new.items
         (if well then [] else Mistake.BreakOutside word.place ∷ [])) }
@@ -35,7 +35,7 @@ pub(crate) fn judge_break(well: bool, word: Span, found: &mut Vec<Mistake>) -> R
     Ok(())
 }
 
-/// Adds a `continue`, unless it has something to turn back to.
+/// Adds a `continue` outside a loop.
 pub(crate) fn judge_continue(well: bool, word: Span, found: &mut Vec<Mistake>) -> Result<(), Memory>
     ensures { OnOk result (Adds found.old.items found.new.items
         (if well then [] else Mistake.ContinueOutside word.place ∷ [])) }

@@ -1,4 +1,4 @@
-//! What is wrong with the names and types in values.
+//! Mistakes in the names and types of values.
 
 ghost use Rattle.std.specs.Prelude.{◌≡◌, IfOk};
 ghost use Rattle.tree.specs.Values.{value_tree, new_tree, made_tree};
@@ -21,8 +21,8 @@ use declarations::{Demand, Mismatch, Mistake, NameSort, Scope, ValueType};
 use source::{Memory, Span};
 use tree::{Expression, Made, New, Value};
 
-/// The type of a pointer to the struct of this name; adds that there is none, and what is wrong with what is given for its
-/// fields that own.
+/// Returns the type of a pointer to the struct of this name; adds the name if no struct has it, and the mistakes in
+/// the arguments for its owning fields.
 fn judge_structure(
     context: &NameContext<'_, '_>,
     name: Span,
@@ -52,7 +52,7 @@ fn judge_structure(
     }
 }
 
-/// The type of what `new` makes; adds what is wrong in it.
+/// Returns the type of what `new` makes; adds the mistakes in it.
 fn judge_made(
     context: &NameContext<'_, '_>,
     made: &Made,
@@ -79,7 +79,7 @@ fn judge_made(
     }
 }
 
-/// Adds what is wrong with what `new` makes where this type is asked.
+/// Adds the mistakes in a `new` that must be of this type.
 fn judge_new(
     context: &NameContext<'_, '_>,
     asked: ValueType,
@@ -94,7 +94,7 @@ fn judge_new(
     ask(ty.agrees(asked), new.word.place, mismatch, found)
 }
 
-/// Adds what is wrong with a value of which this type is asked.
+/// Adds the mistakes in a value that must be of this type.
 pub(crate) fn judge_value<'a>(
     around: &Surroundings<'_, 'a>,
     variables: &ScopeVariables<'a>,

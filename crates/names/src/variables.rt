@@ -11,15 +11,15 @@ use source::{Memory, Span};
 use std::alloc::Global;
 use tables::Table;
 
-/// A variable: the name that declares it, and what it holds.
+/// A variable: the name that declares it, and its type.
 #[derive(Clone, Copy, PartialEq, Eq)]
 pub(crate) struct ScopeVariable {
     pub(crate) name: Span,
     pub(crate) ty: ValueType,
 }
 
-/// The variables in scope, in order of declaration, and how many of the exchange heap the method has declared so far,
-/// counted as far as one past the limit. No two in scope have one name.
+/// The variables in scope, in order of declaration, and the number of variables of the exchange heap that the method
+/// has declared so far, counted up to one past the limit. No two variables in scope have the same name.
 #[derive(Drop)]
 pub(crate) struct ScopeVariables<'a> {
     names: Table<'a>,
@@ -28,7 +28,7 @@ pub(crate) struct ScopeVariables<'a> {
 }
 
 impl<'a> ScopeVariables<'a> {
-    /// None.
+    /// Returns an empty scope.
     pub(crate) fn new(alloc: Global) -> ScopeVariables<'a>
         ensures { (text : List ℕ) → IsNameFrame text (record { variables = []; heap = 0 }) result }
     {
@@ -39,14 +39,14 @@ impl<'a> ScopeVariables<'a> {
         }
     }
 
-    /// How many are in scope.
+    /// Returns the number of variables in scope.
     pub(crate) fn len(&self) -> usize
         ensures { (text : List ℕ) (f : NameFrame) → IsNameFrame text f self.now → result ≡ length f.variables }
     {
         self.list.len()
     }
 
-    /// The variable of this name.
+    /// Returns the variable of this name.
     pub(crate) fn find(&self, text: &[u8], name: Span) -> Option<ScopeVariable>
         ensures { (f : NameFrame) → IsNameFrame text.now f self.now
             → option_map variable_model result ≡ variable_named text.now f.variables name }
@@ -55,7 +55,7 @@ impl<'a> ScopeVariables<'a> {
         self.list.get(place).copied()
     }
 
-    /// Declares a variable, unless one in scope has its name, and adds what is wrong with that.
+    /// Declares a variable unless one in scope has its name, and adds the mistakes in the declaration.
     pub(crate) fn declare(
         &mut self,
         alloc: Global,
@@ -75,7 +75,7 @@ impl<'a> ScopeVariables<'a> {
         self.enter(alloc, text, variable, found)
     }
 
-    /// Adds the name of one more of the exchange heap if it is one past the limit.
+    /// Adds the name of one more variable of the exchange heap if it is one past the limit.
     fn judge_heap(&self, name: Span, found: &mut Vec<Mistake>) -> Result<(), Memory>
         ensures { (text : List ℕ) (f : NameFrame) → IsNameFrame text f self.now
             → OnOk result (Adds found.old.items found.new.items (past_heap name f.heap)) }
@@ -87,7 +87,7 @@ impl<'a> ScopeVariables<'a> {
         Ok(())
     }
 
-    /// Counts one more of the exchange heap.
+    /// Counts one more variable of the exchange heap.
     fn count(&mut self)
         ensures { (text : List ℕ) (f : NameFrame) → IsNameFrame text f self.old
             → IsNameFrame text (record { variables = f.variables; heap = f.heap + 1 }) self.new }
@@ -97,7 +97,7 @@ impl<'a> ScopeVariables<'a> {
         }
     }
 
-    /// Brings a variable into scope, or adds that one has its name.
+    /// Brings a variable into scope, or adds that another one has its name.
     fn enter(
         &mut self,
         alloc: Global,
@@ -118,7 +118,7 @@ impl<'a> ScopeVariables<'a> {
         }
     }
 
-    /// Leaves a scope: the first so many stay.
+    /// Leaves a scope: the first `outer` variables stay.
     pub(crate) fn leave(&mut self, text: &[u8], outer: usize)
         ensures { (f : NameFrame) → IsNameFrame text.now f self.old
             → IsNameFrame text.now (record { variables = take outer f.variables; heap = f.heap }) self.new }

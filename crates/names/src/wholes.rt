@@ -1,4 +1,4 @@
-//! Expressions that are the whole of something: of a value, of an argument, of what is returned.
+//! Expressions that are the whole of a value, an argument or a returned value.
 
 ghost use Rattle.std.specs.Prelude.{IfOk};
 ghost use Rattle.tree.specs.ExpressionTrees.{expression_tree};
@@ -15,7 +15,7 @@ use declarations::{Demand, Mismatch, Mistake, Scope, ValueType};
 use source::Memory;
 use tree::{Expression, name_alone};
 
-/// The type of an expression that is the whole of something, and where it begins; adds what is wrong in it.
+/// Returns the type of an expression that is the whole of something, and where it begins; adds the mistakes in it.
 pub(crate) fn judge_whole_operand(
     scope: &Scope<'_>,
     variables: &ScopeVariables<'_>,
@@ -36,7 +36,7 @@ pub(crate) fn judge_whole_operand(
     }
 }
 
-/// An expression of which this type is asked.
+/// Adds the mistakes in an expression that must be of this type.
 pub(crate) fn judge_asked(
     scope: &Scope<'_>,
     variables: &ScopeVariables<'_>,
@@ -52,7 +52,7 @@ pub(crate) fn judge_asked(
     ask(operand.ty.agrees(asked), operand.place, mismatch, found)
 }
 
-/// An expression of which a truth value is asked.
+/// Adds the mistakes in an expression that must be a truth value.
 pub(crate) fn judge_truth(
     scope: &Scope<'_>,
     variables: &ScopeVariables<'_>,
@@ -66,7 +66,7 @@ pub(crate) fn judge_truth(
     ask_truth(operand.ty, operand.place, found)
 }
 
-/// An expression of which a number is asked.
+/// Adds the mistakes in an expression that must be a number.
 pub(crate) fn judge_number(
     scope: &Scope<'_>,
     variables: &ScopeVariables<'_>,

@@ -1,4 +1,4 @@
-//! The names that a method declares before a place in the blocks around that.
+//! The names that a method declares before a place, in the blocks around the place.
 
 ghost use Rattle.std.specs.Prelude.{◌≡◌, ◌++◌, ◌∷◌, [], IfOk, OnOk, map};
 ghost use Rattle.nearest.specs.Locals.{block_names, bound_names, case_names, cases_names};
@@ -13,8 +13,8 @@ use source::{Memory, Place, Span};
 use std::alloc::Global;
 use tree::{Bind, Block, Case, If, Method, Plain, Statement, Switch};
 
-/// The parameters and variables that a method declares before a place in the blocks around that, in order. Returns `Memory`
-/// if a growth is refused.
+/// Returns the parameters and variables that a method declares before a place, in the blocks around the place, in
+/// order. Returns `Memory` if an allocation was refused.
 pub fn names_before(alloc: Global, method: &Method, place: Place) -> Result<Vec<Span>, Memory>
     ensures { IfOk result (λ names. names.items ≡ method_names place (method_tree method.now)) }
 {
@@ -26,14 +26,14 @@ pub fn names_before(alloc: Global, method: &Method, place: Place) -> Result<Vec<
     Ok(names)
 }
 
-/// Whether the first of two places comes before the second.
+/// Returns whether the first of two places comes before the second.
 pub fn is_before(first: Place, second: Place) -> bool
     ensures { result ≡ is_before first second }
 {
     first < second
 }
 
-/// Adds a name if it stands before the place.
+/// Appends a name if it is before the place.
 fn add_name(place: Place, name: Span, names: &mut Vec<Span>) -> Result<(), Memory>
     ensures { OnOk result (names.new.items ≡ names.old.items ++ those_before place (name ∷ [])) }
 {
@@ -43,7 +43,7 @@ fn add_name(place: Place, name: Span, names: &mut Vec<Span>) -> Result<(), Memor
     Ok(())
 }
 
-/// Adds those of the names that a case binds that stand before the place.
+/// Appends those of the names that a case binds that are before the place.
 fn add_binds(place: Place, binds: &[Bind], names: &mut Vec<Span>) -> Result<(), Memory>
     ensures { OnOk result (names.new.items
         ≡ names.old.items ++ those_before place (bound_names binds.now)) }
@@ -54,7 +54,7 @@ fn add_binds(place: Place, binds: &[Bind], names: &mut Vec<Span>) -> Result<(), 
     Ok(())
 }
 
-/// Adds the name that a statement declares that holds no others, if it is a declaration.
+/// Appends the name that a plain statement declares, if it is a declaration before the place.
 fn add_declared(place: Place, plain: &Plain, names: &mut Vec<Span>) -> Result<(), Memory>
     ensures { OnOk result (names.new.items
         ≡ names.old.items ++ statement_names place (trees.Plain (plain_tree plain.now))) }
@@ -65,7 +65,7 @@ fn add_declared(place: Place, plain: &Plain, names: &mut Vec<Span>) -> Result<()
     }
 }
 
-/// Adds what a block declares, if the place is not behind its end.
+/// Appends what a block declares, if the place is before its closing brace.
 #[cycle(bodies)]
 fn add_block(place: Place, block: &Block, names: &mut Vec<Span>) -> Result<(), Memory>
     ensures { OnOk result (names.new.items
@@ -77,7 +77,7 @@ fn add_block(place: Place, block: &Block, names: &mut Vec<Span>) -> Result<(), M
     add_statements(place, &block.statements, names)
 }
 
-/// Adds what these statements declare.
+/// Appends what these statements declare.
 #[cycle(bodies)]
 fn add_statements(
     place: Place,
@@ -93,7 +93,7 @@ fn add_statements(
     Ok(())
 }
 
-/// Adds what a statement declares.
+/// Appends what a statement declares.
 #[cycle(bodies)]
 fn add_statement(place: Place, statement: &Statement, names: &mut Vec<Span>) -> Result<(), Memory>
     ensures { OnOk result (names.new.items
@@ -108,7 +108,7 @@ fn add_statement(place: Place, statement: &Statement, names: &mut Vec<Span>) -> 
     }
 }
 
-/// Adds what the blocks of an `if` declare.
+/// Appends what the blocks of an `if` declare.
 #[cycle(bodies)]
 fn add_branches(place: Place, branches: &If, names: &mut Vec<Span>) -> Result<(), Memory>
     ensures { OnOk result (names.new.items ≡ names.old.items
@@ -125,7 +125,7 @@ fn add_branches(place: Place, branches: &If, names: &mut Vec<Span>) -> Result<()
     }
 }
 
-/// Adds what the cases of a switch bind and declare.
+/// Appends what the cases of a switch bind and declare.
 #[cycle(bodies)]
 fn add_cases(place: Place, switch: &Switch, names: &mut Vec<Span>) -> Result<(), Memory>
     ensures { OnOk result (names.new.items ≡ names.old.items
@@ -142,7 +142,7 @@ fn add_cases(place: Place, switch: &Switch, names: &mut Vec<Span>) -> Result<(),
     add_case(place, switch.close.place, case, names)
 }
 
-/// Adds what a case that ends there binds and declares.
+/// Appends what a case that ends at `end` binds and declares, if the place is before that.
 #[cycle(bodies)]
 fn add_case(place: Place, end: Place, case: &Case, names: &mut Vec<Span>) -> Result<(), Memory>
     ensures { OnOk result (names.new.items

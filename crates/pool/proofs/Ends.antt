@@ -10,7 +10,7 @@ use Rattle.pool.specs.Rounds.{AreOf, AreRound}
 use Rattle.pool.proofs.Places.{all_after, each_twice, keeps_twice, sum_kept}
 
 module _ (count : ℕ) (full cut done : List DequeOwner) (begins : EachChanges (LostParts count) full cut) (works : EachChanges Took cut done) (whole : All IsWholeOwner full) (few : count ≤ 64) where
-  -- from the beginning to the work's end
+  -- from the beginning to the end of the work
   so_far : EachChanges (λ a b. Keeps a b × (owner_parts b + count ≡ owner_parts a)) full done
   so_far = each_twice (LostParts count) Took (λ a b. Keeps a b × (owner_parts b + count ≡ owner_parts a))
       (λ a b c h k. (keeps_twice a b c h.keeps k.keeps, (let e = h.parts in let f = k.parts in omega arith))) full cut done begins works
@@ -40,7 +40,7 @@ module _ (count : ℕ) (full cut done : List DequeOwner) (begins : EachChanges (
     pub parts_end : All (λ (o : DequeOwner). owner_parts o ≡ 1024) end
     parts_end = all_after (λ a b. Keeps a b × (owner_parts b ≡ owner_parts a)) IsWholeOwner (λ (o : DequeOwner). owner_parts o ≡ 1024) (λ a b h w. h.1 ∙ w.parts) full end to_the_end whole
 
-    -- what was put is known at the end
+    -- at the end, the tasks put are those put at the beginning
     pub put_end : (n : ℕ) → all_put n full ≡ all_put n end
     put_end n = sum_kept (λ (o : DequeOwner). copies n (worker_view o).put) full end to_the_end.lengths (λ d o below. ap (copies n) (sym (to_the_end.each d o below).0.put))
 

@@ -1,4 +1,4 @@
--- What the workers have done, put together.
+-- The work of all workers, put together.
 use Rattle.std.proofs.Common.{◌≡◌, ℕ, ◌+◌, ◌<◌, List, [], ◌∷◌, ◌++◌, All, ap, ◌∙◌, sym, subst, arith, map, length, length-append, get_or, ⊎_elim}
 use Rattle.std.specs.Global.{Vec}
 use Rattle.std.proofs.Math.Nat.{eq-or-lt_of_le}
@@ -17,7 +17,7 @@ use Rattle.pool.specs.declared.done.Done.{Done}
 use Rattle.pool.specs.declared.gathering.Gathered.{Gathered}
 use Rattle.pool.proofs.Puts.{times-append}
 
--- one owner more
+-- one more owner
 each_push : (change : DequeOwner → DequeOwner → Type 0) (os ps : List DequeOwner) (o p : DequeOwner) → EachChanges change os ps → change o p → EachChanges change (os ++ o ∷ []) (ps ++ p ∷ [])
 each_push change os ps o p h k = record {
   lengths = omega (arith, length-append os (o ∷ []), length-append ps (p ∷ []), h.lengths);
@@ -50,7 +50,7 @@ module _ {S X : Type 0} (takes : Task → Type 0) (seats : S → Type 0) (gives 
     each_seat = subst (All seats) (sym s) (All-nil seats);
   }
 
-  -- what one worker more has done
+  -- one more worker's work
   pub gathered_more : (begun : List DequeOwner) (owner : DequeOwner) (old new : Gathered S X) (s : DequeOwner × Vec Ticket × Bench S X)
       → new.owners.items ≡ old.owners.items ++ s.0 ∷ [] → new.rounds.items ≡ old.rounds.items ++ s.1 ∷ [] → new.seats.items ≡ old.seats.items ++ s.2.seat ∷ []
       → new.done.items ≡ old.done.items ++ s.2.done.items → AreGathered takes seats gives thieves begun old → IsWork takes seats gives thieves owner s

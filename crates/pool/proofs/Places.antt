@@ -1,4 +1,4 @@
--- Lists of owners in which one has changed, and each one after another.
+-- Lists of owners in which one owner, or one owner after another, has changed.
 use Rattle.std.proofs.Common.{zero, suc, drop, ◌≤◌, ◌≡◌, ℕ, ◌+◌, ◌<◌, List, [], ◌∷◌, ◌++◌, length, set, get_or, All, refl, sym, ap, ◌∙◌, subst, arith, length-set, get_or-set_same, get_or-set_other, sum_by, take, ⊎_elim}
 use Rattle.std.specs.List.{remove}
 use Rattle.std.proofs.lemmas.List.Sums.{sum_by-cons, sum_by-set}
@@ -10,19 +10,19 @@ use Rattle.pool.specs.Counts.{DequeOwner, Ticket}
 use Rattle.pool.specs.Owners.{EachChanges, GotParts, Keeps, LostParts, OneChanges}
 use Rattle.pool.specs.Rounds.{AreCutOff, AreNew, AreOf}
 
--- what comes next of a list that was dropped so far
+-- the next element of a list, after the first d
 pub next_is : {X : Type 0} (xs : List X) (d : ℕ) (x e : X) (rest : List X) → drop d xs ≡ x ∷ rest → (get_or xs d e ≡ x) × (rest ≡ drop (suc d) xs)
 next_is [] zero x e rest h = absurd (cc)
 next_is [] (suc d) x e rest h = absurd (cc)
 next_is (y ∷ ys) zero x e rest h = ((cc), (cc))
 next_is (y ∷ ys) (suc d) x e rest h = next_is ys d x e rest h
 
--- a list of no length
+-- a list of length 0 is empty
 pub no_items : {X : Type 0} (xs : List X) → length xs ≡ 0 → xs ≡ []
 no_items [] e = refl
 no_items (x ∷ xs) e = absurd (omega (arith, e))
 
--- the sum after a change of one owner
+-- the sum after one owner has changed
 pub sum_one : (f : DequeOwner → ℕ) (d : ℕ) (change : DequeOwner → DequeOwner → Type 0) (os os' : List DequeOwner) → d < length os → (one : OneChanges d change os os')
     → sum_by f os' + f one.old ≡ sum_by f os + f one.new
 sum_one f d change os os' in_place one =
@@ -34,7 +34,7 @@ pub length_one : (d : ℕ) (change : DequeOwner → DequeOwner → Type 0) (os o
 length_one d change os os' one = ap length one.now ∙ length-set os d one.new
 
 module _ (d : ℕ) (change : DequeOwner → DequeOwner → Type 0) (start os os' : List DequeOwner) (in_place : d < length os) (one : OneChanges d change os os') where
-  -- the owners below d + 1 have changed so, if those below d had, and this one has
+  -- the owners below d + 1 have changed so, if those below d had and this one has
   pub done_more : (Rel : ℕ → DequeOwner → DequeOwner → Type 0) → ((o : DequeOwner) → get_or os d o ≡ get_or start d o) → Rel d one.old one.new
       → ((i : ℕ) (o : DequeOwner) → i < d → Rel i (get_or start i o) (get_or os i o))
       → (i : ℕ) (o : DequeOwner) → i < d + 1 → Rel i (get_or start i o) (get_or os' i o)
@@ -50,12 +50,12 @@ module _ (d : ℕ) (change : DequeOwner → DequeOwner → Type 0) (start os os'
           let now : get_or os' i o ≡ get_or os i o = ap (λ (l : List DequeOwner). get_or l i o) one.now ∙ get_or-set_other os d i one.new o n in
           subst (λ (x : DequeOwner). Rel i (get_or start i o) x) (sym now) (before i o (omega arith))
 
-  -- the owners behind it are as they were
+  -- the owners after it are as they were
   pub left_more : ((i : ℕ) (o : DequeOwner) → d ≤ i → get_or os i o ≡ get_or start i o) → (i : ℕ) (o : DequeOwner) → d + 1 ≤ i → get_or os' i o ≡ get_or start i o
   left_more same i o above =
       ap (λ (l : List DequeOwner). get_or l i o) one.now ∙ get_or-set_other os d i one.new o (λ e. omega arith) ∙ same i o (omega arith)
 
--- each changed twice
+-- two changes of each owner
 pub each_twice : (one two both : DequeOwner → DequeOwner → Type 0) → ((a b c : DequeOwner) → one a b → two b c → both a c)
     → (os ps qs : List DequeOwner) → EachChanges one os ps → EachChanges two ps qs → EachChanges both os qs
 each_twice one two both put os ps qs h k = record {
@@ -68,7 +68,7 @@ pub all_after : (change : DequeOwner → DequeOwner → Type 0) (P Q : DequeOwne
     → (os ps : List DequeOwner) → EachChanges change os ps → All P os → All Q ps
 all_after change P Q step os ps h all d o below = step _ _ (h.each d o (omega (arith, h.lengths))) (all d o (omega (arith, h.lengths)))
 
--- a sum over owners of what no change touches
+-- a sum over owners stays the same if no term changes
 pub sum_kept : (f : DequeOwner → ℕ) (os ps : List DequeOwner) → length ps ≡ length os → ((d : ℕ) (o : DequeOwner) → d < length os → f (get_or os d o) ≡ f (get_or ps d o))
     → sum_by f os ≡ sum_by f ps
 sum_kept f [] [] same each = refl
@@ -79,7 +79,7 @@ sum_kept f (o ∷ os) (p ∷ ps) same each =
     let tail : sum_by f os ≡ sum_by f ps = sum_kept f os ps (omega arith) (λ d x below. each (suc d) x (omega arith)) in
     omega (arith, sum_by-cons f o os, sum_by-cons f p ps)
 
--- kept twice
+-- kept by two changes
 pub keeps_twice : (a b c : DequeOwner) → Keeps a b → Keeps b c → Keeps a c
 keeps_twice a b c h k = record {
   deque = k.deque ∙ h.deque;
@@ -94,7 +94,7 @@ got_none os = record {
   each = λ d o below. record { keeps = record { deque = refl; flavor = refl; put = refl }; parts = omega arith };
 }
 
--- one pass more was taken in
+-- one more pass was taken in
 pub got_more : (k : ℕ) (a b c : DequeOwner) → GotParts k a b → GotParts 1 b c → GotParts (k + 1) a c
 got_more k a b c h j = record {
   keeps = keeps_twice a b c h.keeps j.keeps;
@@ -108,7 +108,7 @@ lost_none os = record {
   each = λ d o below. record { keeps = record { deque = refl; flavor = refl; put = refl }; parts = omega arith; taken = refl };
 }
 
--- passes of the same deques
+-- the passes are of the same deques after the change
 pub of_kept : (k : ℕ) (os os' : List DequeOwner) (ps : List Ticket) → EachChanges (GotParts k) os os' → AreOf os ps → AreOf os' ps
 of_kept k os os' ps h are = record {
   lengths = are.lengths ∙ sym h.lengths;
@@ -116,12 +116,12 @@ of_kept k os os' ps h are = record {
   parts = are.parts;
 }
 
--- an element of a list that has some
+-- the first element of a list that is not empty
 pub some_of : {X : Type 0} (xs : List X) (d : ℕ) → d < length xs → X
 some_of [] d below = absurd (omega (arith, below))
 some_of (x ∷ xs) d below = x
 
--- one pass more of each deque was cut off
+-- one more pass of each deque was cut off
 pub cut_more : (k : ℕ) (os ps qs : List DequeOwner) (passes : List Ticket) → EachChanges (LostParts k) os ps → AreCutOff ps qs passes → EachChanges (LostParts (k + 1)) os qs
 cut_more k os ps qs passes h cut = record {
   lengths = cut.lengths ∙ h.lengths;
@@ -135,7 +135,7 @@ cut_more k os ps qs passes h cut = record {
       };
 }
 
--- what was cut off is new
+-- the passes that were cut off are new
 pub new_more : (k : ℕ) (os ps qs : List DequeOwner) (passes : List Ticket) → EachChanges (LostParts k) os ps → AreCutOff ps qs passes → AreNew os passes
 new_more k os ps qs passes h cut = record {
   lengths = cut.count ∙ h.lengths;
@@ -150,7 +150,7 @@ new_more k os ps qs passes h cut = record {
       };
 }
 
--- what was dropped so far is less than all, where something is left
+-- if something is left after the first k elements, there are more than k
 pub below_of_next : {X : Type 0} (xs : List X) (k : ℕ) (x : X) (rest : List X) → drop k xs ≡ x ∷ rest → k < length xs
 below_of_next [] zero x rest e = absurd (cc)
 below_of_next [] (suc k) x rest e = absurd (cc)
@@ -163,7 +163,7 @@ take_next [] k d below = absurd (omega (arith, below))
 take_next (x ∷ xs) zero d below = refl
 take_next (x ∷ xs) (suc k) d below = ap (λ l. x ∷ l) (take_next xs k d (omega (arith, below)))
 
--- all elements, where nothing is left of a list as long
+-- if nothing is left of a list of the same length, all elements are taken
 pub take_all : {X Y : Type 0} (xs : List X) (ys : List Y) (k : ℕ) → length ys ≡ length xs → drop k xs ≡ [] → take k ys ≡ ys
 take_all [] [] zero same none = refl
 take_all [] [] (suc k) same none = refl
@@ -172,7 +172,7 @@ take_all (x ∷ xs) [] k same none = absurd (omega arith)
 take_all (x ∷ xs) (y ∷ ys) zero same none = absurd (cc)
 take_all (x ∷ xs) (y ∷ ys) (suc k) same none = ap (λ l. y ∷ l) (take_all xs ys k (omega arith) none)
 
--- what holds of each pair at the places below one holds of one pair more
+-- a property of the first n pairs, and of one more
 pub pairs_more : {H T : Type 0} (P : H → T → Type 0) (hs hs' : List H) (ts : List T) (h : H) (t : T) (n : ℕ) → length hs ≡ n → hs' ≡ hs ++ h ∷ []
     → ((s : T) → get_or ts n s ≡ t) → P h t → ((k : ℕ) (d : H) (s : T) → k < n → P (get_or hs k d) (get_or ts k s))
     → (k : ℕ) (d : H) (s : T) → k < suc n → P (get_or hs' k d) (get_or ts k s)
@@ -186,7 +186,7 @@ pairs_more P hs hs' ts h t n size is here this before k d s below = ⊎_elim
     subst (λ x. P x (get_or ts k s)) (sym a) (before k d s less))
     (eq-or-lt_of_le (omega (arith, below)))
 
--- the first element, and the others
+-- the first element, and then the others
 pub split_first : {X : Type 0} (xs rest : List X) (x : X) → 0 < length xs → x ≡ get_or xs 0 x → rest ≡ remove xs 0 → xs ≡ x ∷ rest
 split_first [] rest x some first others = absurd (omega (arith, some))
 split_first (y ∷ ys) rest x some first others = ap (λ z. z ∷ ys) (sym first) ∙ ap (λ l. x ∷ l) (sym others)

@@ -17,7 +17,7 @@ use Rattle.pool.specs.Owners.{AreThieves, Thief}
 use Rattle.pool.specs.Rounds.{AreNew, AreRound, IsFresh}
 use Rattle.pool.proofs.Shares.{taken_one}
 
--- a steal leaves the parts and what was put
+-- a steal changes neither the parts nor the tasks put
 pub after_steal : (s : Steal HeldTask) (v w : Hand) (E F : Type 0)
     → MatchSteal s ((w ≡ v) × E) ((w ≡ v) × F) (λ x. (w ≡ hand v.parts v.put (v.taken ++ x ∷ [])) × IsPart v.put (x ∷ []))
     → (w.parts ≡ v.parts) × (w.put ≡ v.put)
@@ -25,14 +25,14 @@ after_steal Empty v w E F h = (ap (λ (u : Hand). u.parts) h.0, ap (λ (u : Hand
 after_steal (Success x) v w E F h = (ap (λ (u : Hand). u.parts) h.0, ap (λ (u : Hand). u.put) h.0)
 after_steal Retry v w E F h = (ap (λ (u : Hand). u.parts) h.0, ap (λ (u : Hand). u.put) h.0)
 
--- a task that was stolen may be run
+-- a stolen task may be run
 pub stolen : (P : HeldTask → Type 0) (s : Steal HeldTask) (v w : Hand) (E F G H : Type 0) → All P v.put → G → H
     → MatchSteal s ((w ≡ v) × E) ((w ≡ v) × F) (λ x. (w ≡ hand v.parts v.put (v.taken ++ x ∷ [])) × IsPart v.put (x ∷ [])) → MatchSteal s G H P
 stolen P Empty v w E F G H all g k h = g
 stolen P (Success x) v w E F G H all g k h = taken_one P v.put x h.1 all
 stolen P Retry v w E F G H all g k h = k
 
--- the passes after a steal
+-- the passes after a steal are still a round
 pub round_set : (takes : Task → Type 0) (thieves : List Thief) (ps : List Ticket) (d : ℕ) (q : Ticket) → AreRound takes thieves ps → d < length thieves
     → ((t : Thief) → IsPassOf (stealer_deque (slice_index_or thieves d t)) q) → (view q).parts ≡ 1 → All (λ (x : HeldTask). takes x.task) (view q).put
     → AreRound takes thieves (set ps d q)

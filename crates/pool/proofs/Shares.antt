@@ -30,7 +30,7 @@ module _ (f : Hand → ℕ) where
   two_below (x ∷ xs) (suc i) zero v w apart at at' = let e : f x ≡ f w = ap f (some-injective x w at') in let h = one_below xs i v at in omega (arith, sum_by-cons f x xs)
   two_below (x ∷ xs) (suc i) (suc j) v w apart at at' = let h = two_below xs i j v w (λ e. apart (ap suc e)) at at' in omega (arith, sum_by-cons f x xs)
 
-  -- where no pass has a part, and those with none count nothing, the total is nothing
+  -- if no pass has a part, and a pass without parts counts nothing, the total is 0
   total_none : (views : List Hand) → sum_by parts_of views ≡ 0 → ((j : ℕ) (u : Hand) → get_elem? views j ≡ some u → u.parts ≡ 0 → f u ≡ 0) → sum_by f views ≡ 0
   total_none [] none idle = refl
   total_none (x ∷ xs) none idle =
@@ -39,7 +39,7 @@ module _ (f : Hand → ℕ) where
       let rest : sum_by f xs ≡ 0 = total_none xs (omega arith) (λ j u at. idle (suc j) u at) in
       omega (arith, sum_by-cons f x xs)
 
--- where one pass has all parts, the total is what it counts
+-- if one pass has all parts, the total is its count
 total_alone : (f : Hand → ℕ) (views : List Hand) (port : ℕ) (v : Hand) → get_elem? views port ≡ some v → sum_by parts_of views ≡ v.parts → f (hand 0 [] []) ≡ 0
     → ((j : ℕ) (u : Hand) → get_elem? views j ≡ some u → u.parts ≡ 0 → f u ≡ 0) → sum_by f views ≡ f v
 total_alone f views port v at all zero_idle idle_zero =
@@ -132,7 +132,7 @@ merges port v other u some_part items views h at apart at' =
       fits_set h.0 vs other none ((λ _. refl), λ no. absurd (omega arith)) (λ j x other' e. now j x e),
     )
 
--- where the deque is empty, who has all parts has taken what was put
+-- if the deque is empty, a pass with all parts has taken all tasks that were put
 pub ends : (port : ℕ) (v : Hand) → Finds Shares port v (v.parts ≡ 1024 → (n : ℕ) → copies n v.put ≡ copies n v.taken)
 ends port v views h at full n =
     let p = h.3 in

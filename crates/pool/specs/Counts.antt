@@ -1,4 +1,4 @@
--- How often a number stands among tasks and results.
+-- How often a number occurs among tasks and results.
 use Rattle.std.specs.Prelude.{◌≡◌, ◌==◌, ℕ, ◌+◌, List, All, count_by, map, sum_by}
 use Rattle.std.specs.declared.alloc.Global.{Global}
 use Rattle.crossbeam_deque.specs.Handles.{Pass, view, worker_view}
@@ -18,7 +18,7 @@ DequeOwner = Worker HeldTask Global Hand Sharing
 abbrev pub Ticket : Type 0
 Ticket = Pass HeldTask Hand Global
 
--- how often the number stands in the list
+-- how often the number occurs in the list
 abbrev pub times : ℕ → List ℕ → ℕ
 times n xs = count_by (λ x. x == n) xs
 
@@ -26,7 +26,7 @@ times n xs = count_by (λ x. x == n) xs
 abbrev pub method_of : {X : Type 0} → Done X → ℕ
 method_of d = d.method.0
 
--- how often these results are of the method
+-- how many of these results are of the method
 abbrev pub times_done : {X : Type 0} → ℕ → List (Done X) → ℕ
 times_done n done = times n (map method_of done)
 
@@ -42,8 +42,8 @@ all_taken n owners = sum_by (λ (o : DequeOwner). copies n (worker_view o).taken
 abbrev pub taken_by : ℕ → List Ticket → ℕ
 taken_by n passes = sum_by (λ (p : Ticket). copies n (view p).taken) passes
 
--- The results of a bench grew by as much as what was taken did: it was taken so often before, and so often after. Each new result is
--- one that the job promises.
+-- The results of a bench grew by as much as the taken tasks did, whose count went from `before` to `after` for each number. If the old
+-- results are as the job promises, so are the new ones.
 module _ {S X : Type 0} (gives : ℕ → X → Type 0) where
   pub record Does (before after : ℕ → ℕ) (old new : Bench S X) : Type 0 where
     pub counted : (n : ℕ) → times_done n new.done.items + before n ≡ times_done n old.done.items + after n

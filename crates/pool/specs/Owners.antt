@@ -9,7 +9,7 @@ use Rattle.pool.specs.declared.deque.Sharing.{Sharing}
 use Rattle.pool.specs.declared.held.Hand.{Hand}
 use Rattle.pool.specs.declared.held.HeldTask.{HeldTask}
 
--- what other threads steal by
+-- the side of a deque by which other threads steal
 abbrev pub Thief : Type 0
 Thief = Stealer HeldTask Global Hand Sharing
 
@@ -42,7 +42,7 @@ pub record AreFilled (takes : Task → Type 0) (owners : List DequeOwner) : Type
   pub whole : All IsWholeOwner owners
   pub tasks : All (λ (o : DequeOwner). All (λ (x : HeldTask). takes x.task) (owner_put o)) owners
 
--- the owner is that of the same deque, and knows the same of what was put
+-- the owner is that of the same deque, and knows the same about what was put
 pub record Keeps (old new : DequeOwner) : Type 0 where
   pub deque : worker_deque new ≡ worker_deque old
   pub flavor : worker_flavor new ≡ worker_flavor old
@@ -63,13 +63,13 @@ pub record CutOff (old new : DequeOwner) (p : Ticket) : Type 0 where
   pub none : (view p).taken ≡ []
   pub put : (view p).put ≡ owner_put old
 
--- so many passes with one part were cut off
+-- `count` passes with one part each were cut off
 pub record LostParts (count : ℕ) (old new : DequeOwner) : Type 0 where
   pub keeps : Keeps old new
   pub parts : owner_parts new + count ≡ owner_parts old
   pub taken : owner_taken new ≡ owner_taken old
 
--- so many passes with one part were taken in
+-- `count` passes with one part each were taken in
 pub record GotParts (count : ℕ) (old new : DequeOwner) : Type 0 where
   pub keeps : Keeps old new
   pub parts : owner_parts new ≡ owner_parts old + count

@@ -1,4 +1,4 @@
--- Passes of all deques, one for each, in order: what a worker steals by.
+-- Passes of all deques, one for each, in order: what a worker steals with.
 use Rattle.std.specs.Prelude.{◌≡◌, ℕ, ◌<◌, List, [], All, length, slice_index_or, sum_by}
 use Rattle.std.specs.Global.{Vec}
 use Rattle.crossbeam_deque.specs.Handles.{IsPassOf, stealer_deque, stealer_flavor, view, worker_deque, worker_view}
@@ -16,7 +16,7 @@ pub record AreRound (takes : Task → Type 0) (thieves : List Thief) (ps : List 
   pub tasks : All (λ (p : Ticket). All (λ (x : HeldTask). takes x.task) (view p).put) ps
   pub fifo : All (λ (t : Thief). stealer_flavor t ≡ 0) thieves
 
--- the same, and none has taken anything
+-- the same, and no pass has taken anything
 pub record IsFresh (takes : Task → Type 0) (thieves : List Thief) (ps : List Ticket) : Type 0 where
   pub round : AreRound takes thieves ps
   pub none : (n : ℕ) → taken_by n ps ≡ 0

@@ -16,7 +16,7 @@ held_number x = number_of x.task
 abbrev pub parts_of : Hand → ℕ
 parts_of v = v.parts
 
--- how often these tasks have the number
+-- how many of these tasks have the number
 abbrev pub copies : ℕ → List HeldTask → ℕ
 copies n xs = count_by (λ x. held_number x == n) xs
 
@@ -31,13 +31,13 @@ Fits put v = (v.parts ≡ 0 → v.taken ≡ []) × (0 < v.parts → v.put ≡ pu
 abbrev pub EachFits : List HeldTask → List Hand → Type 0
 EachFits put views = (port : ℕ) (v : Hand) → get_elem? views port ≡ some v → Fits put v
 
--- These tasks are inside, and these are the views of all passes. There are 1024 parts in all; what was put is what is gone, and behind
--- it what is inside; and the passes have taken what is gone.
+-- These tasks are inside, and these are the views of all passes. There are 1024 parts in all; what was put is what is gone followed by
+-- what is inside; and the passes have taken what is gone.
 abbrev pub Shares : List HeldTask → List Hand → Type 0
 Shares items views = (put : List HeldTask) × (gone : List HeldTask) × (put ≡ gone ++ items) × (sum_by parts_of views ≡ 1024)
     × ((n : ℕ) → sum_by (took n) views ≡ copies n gone)
     × EachFits put views
 
--- these tasks stand in the list, side by side
+-- these tasks are in the list, side by side
 abbrev pub IsPart : List HeldTask → List HeldTask → Type 0
 IsPart put xs = (front : List HeldTask) × (rest : List HeldTask) × (put ≡ (front ++ xs) ++ rest)

@@ -1,4 +1,4 @@
--- Where a worker begins and ends.
+-- What a worker begins and ends with.
 use Rattle.std.specs.Prelude.{◌≡◌, ℕ, ◌+◌, ◌<◌, List, [], All, IfOk, Result, length, slice_index_or}
 use Rattle.std.specs.Global.{Vec}
 use Rattle.crossbeam_deque.specs.Handles.{worker_view}
@@ -11,11 +11,11 @@ use Rattle.pool.specs.Rounds.{AreRound, IsFresh, all_by}
 use Rattle.pool.specs.declared.bench.Bench.{Bench}
 use Rattle.pool.specs.declared.gathering.Gathered.{Gathered}
 
--- the deque of its own with which a worker begins
+-- the own deque of a worker when it begins
 abbrev pub owner_of : {S : Type 0} → ℕ × DequeOwner × Vec Ticket × S → DequeOwner
 owner_of s = s.1
 
--- A worker's number, its own deque, from which nothing was taken, a pass of each deque, of which none has taken anything, and a seat in
+-- A worker's number, its own deque, from which nothing was taken, a pass of each deque, none of which has taken anything, and a seat in
 -- which tasks may be run.
 module _ {S : Type 0} (takes : Task → Type 0) (seats : S → Type 0) where
   pub record IsStint (thieves : List Thief) (s : ℕ × DequeOwner × Vec Ticket × S) : Type 0 where
@@ -35,7 +35,7 @@ module _ {S X : Type 0} (takes : Task → Type 0) (seats : S → Type 0) (gives 
     pub given : All (λ d. gives (method_of d) d.out) s.2.done.items
     pub seat : seats s.2.seat
 
-  -- the workers that began with these deques ended so, each with its work or for want of memory
+  -- the workers that began with these deques ended so, each with its work or out of memory
   pub record AreWork (begun : List DequeOwner) (shifts : List (Result (DequeOwner × Vec Ticket × Bench S X) Memory)) : Type 0 where
     pub lengths : length begun ≡ length shifts
     pub each : (k : ℕ) (o : DequeOwner) (s : Result (DequeOwner × Vec Ticket × Bench S X) Memory) → k < length shifts

@@ -1,4 +1,4 @@
-//! The passes of the workers taken back, and whether all that was put was taken.
+//! Taking back the passes of the workers, and checking that all that was put was taken.
 
 ghost use Rattle.std.specs.Prelude.{◌≡◌, ℕ, ◌+◌, ◌<◌, All, OnOk, length, slice_index_or, vec_len};
 ghost use Rattle.crossbeam_deque.specs.Handles.{IsPassOf, view, worker_deque, worker_flavor};
@@ -10,7 +10,7 @@ ghost use Rattle.pool.specs.Rule.{copies};
 use crate::deque::{Cut, DequeOwner, Sweeps, Ticket};
 use source::Memory;
 
-/// Takes a pass into the owner at an index.
+/// Takes a pass back into the owner at an index.
 fn absorb_at(owners: &mut Vec<DequeOwner>, index: usize, pass: Ticket)
     requires index { index < length owners.old.items }
     requires part { (o : OwnerModel) → 0 < owner_parts (slice_index_or owners.old.items index o) }
@@ -22,7 +22,7 @@ fn absorb_at(owners: &mut Vec<DequeOwner>, index: usize, pass: Ticket)
     owner.absorb::<Cut>(pass);
 }
 
-/// Takes in a pass of each deque.
+/// Takes back a pass of each deque.
 fn absorb_round(owners: &mut Vec<DequeOwner>, passes: Vec<Ticket>)
     requires parts { All (λ o. 0 < owner_parts o) owners.old.items }
     requires passes { AreOf owners.old.items passes.items }
@@ -38,7 +38,7 @@ fn absorb_round(owners: &mut Vec<DequeOwner>, passes: Vec<Ticket>)
     rest.destroy_empty();
 }
 
-/// Takes in the passes of all workers.
+/// Takes back the passes of all workers.
 pub(crate) fn absorb_all(owners: &mut Vec<DequeOwner>, rounds: Vec<Vec<Ticket>>)
     requires parts { All (λ o. 0 < owner_parts o) owners.old.items }
     requires rounds { All (λ passes. AreOf owners.old.items passes.items) rounds.items }
@@ -52,9 +52,10 @@ pub(crate) fn absorb_all(owners: &mut Vec<DequeOwner>, rounds: Vec<Vec<Ticket>>)
     rest.destroy_empty();
 }
 
-/// Whether all that was put was taken, which the deques of whose passes none is out tell by being empty.
+/// Checks that all that was put was taken. If all passes of a deque were taken back, it shows this by being empty.
 ///
-/// `Memory` is answered where one is not. It never is, since each worker took tasks until it found each deque empty.
+/// # Errors
+/// `Memory` if a deque is not empty. This never happens, since each worker took tasks until it found each deque empty.
 pub(crate) fn sweep(owners: Vec<DequeOwner>) -> Result<(), Memory>
     requires fifo { All (λ o. worker_flavor o ≡ 0) owners.items }
     requires parts { All (λ o. owner_parts o ≡ 1024) owners.items }

@@ -1,4 +1,4 @@
-//! What a worker has in hand.
+//! A worker's seat and results.
 
 use crate::done::Done;
 

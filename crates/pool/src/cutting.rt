@@ -1,4 +1,4 @@
-//! Passes cut off for the workers, one of each deque for each of them.
+//! Cutting off passes for the workers, one of each deque for each of them.
 
 ghost use Rattle.std.specs.Prelude.{◌≡◌, ◌<◌, ◌+◌, All, IfOk, OnOk, length, slice_index_or, vec_len};
 ghost use Rattle.pool.specs.Counts.{DequeOwner as OwnerModel};
@@ -9,7 +9,7 @@ use crate::deque::{Cut, DequeOwner, Ticket};
 use source::Memory;
 use std::alloc::Global;
 
-/// A pass of the deque at an index.
+/// Cuts off a pass of the deque at an index.
 fn cut_at(owners: &mut Vec<DequeOwner>, index: usize) -> Ticket
     requires index { index < length owners.old.items }
     requires part { (o : OwnerModel) → 1 < owner_parts (slice_index_or owners.old.items index o) }
@@ -19,9 +19,10 @@ fn cut_at(owners: &mut Vec<DequeOwner>, index: usize) -> Ticket
     owner.another::<Cut>()
 }
 
-/// A pass of each deque.
+/// Cuts off a pass of each deque.
 ///
-/// `Memory` is answered where a growth was refused.
+/// # Errors
+/// `Memory` if out of memory.
 fn cut_round(alloc: Global, owners: &mut Vec<DequeOwner>) -> Result<Vec<Ticket>, Memory>
     requires parts { All (λ o. 1 < owner_parts o) owners.old.items }
     ensures { IfOk result (λ passes. AreCutOff owners.old.items owners.new.items passes.items) }
@@ -33,9 +34,10 @@ fn cut_round(alloc: Global, owners: &mut Vec<DequeOwner>) -> Result<Vec<Ticket>,
     Ok(passes)
 }
 
-/// For each of so many workers a pass of each deque.
+/// Cuts off a pass of each deque for each of `count` workers.
 ///
-/// `Memory` is answered where a growth was refused.
+/// # Errors
+/// `Memory` if out of memory.
 pub(crate) fn cut_all(
     alloc: Global,
     owners: &mut Vec<DequeOwner>,

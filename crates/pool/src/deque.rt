@@ -1,4 +1,4 @@
-//! A deque under its rule, and what each kind of step tells.
+//! The rule of a deque, and what each kind of step shows.
 
 ghost use Rattle.std.specs.Prelude.{◌≡◌, ◌-◌, ◌+◌, ◌++◌, ℕ, []};
 ghost use Rattle.pool.specs.Rule.{IsPart, Shares, copies, hand};
@@ -19,7 +19,7 @@ impl Protocol<HeldTask, Hand> for Sharing {
     ghost guest = { hand 0 [] [] };
 }
 
-/// A task is put. Only who has all parts puts, so all is put before the first pass is cut off.
+/// A task is put. Only an owner with all parts puts, so all tasks are put before the first pass is cut off.
 pub struct Puts;
 
 impl Outcome<HeldTask, Hand> for Puts {
@@ -33,7 +33,7 @@ impl Outcome<HeldTask, Hand> for TakesTask {
     ghost then = { λ v xs w. (w ≡ hand v.parts v.put (v.taken ++ xs)) × IsPart v.put xs };
 }
 
-/// The same where all passes were taken in: an empty deque then says that all that was put was taken.
+/// The same if all passes were taken back: an empty deque then shows that all that was put was taken.
 pub struct Sweeps;
 
 impl Outcome<HeldTask, Hand> for Sweeps {
@@ -42,7 +42,7 @@ impl Outcome<HeldTask, Hand> for Sweeps {
     ghost empty = { λ v. v.parts ≡ 1024 → (n : ℕ) → copies n v.put ≡ copies n v.taken };
 }
 
-/// One part is cut off, or a pass taken in.
+/// One part is cut off, or a pass is taken back.
 pub struct Cut;
 
 impl Split<Hand> for Cut {
@@ -60,7 +60,7 @@ impl Join<Hand> for Cut {
 /// The owner's side of a deque: it puts tasks, and takes them in their order.
 pub(crate) type DequeOwner = Worker<HeldTask, Global, Hand, Sharing>;
 
-/// What other threads steal by.
+/// The side of a deque by which other threads steal.
 pub(crate) type Thief = Stealer<HeldTask, Global, Hand, Sharing>;
 
 /// What a worker needs to steal from one deque, and what it knows of it.

@@ -1,8 +1,8 @@
-//! What came of a task.
+//! The result of a task.
 
 use program::MethodId;
 
-/// What came of a task.
+/// The result of a task.
 #[derive(Drop)]
 pub struct Done<X> {
     /// The task's method.

@@ -7,10 +7,10 @@ use thiserror::Error;
 /// Why tasks were not shared out. Those that were not done are given up.
 #[derive(Clone, Copy, Debug, PartialEq, Eq, Error)]
 pub enum PoolFault {
-    /// The seats are not 1 to 64. Looked at first.
+    /// The number of seats is not 1 to 64. This is checked first.
     #[error("workers not 1 to 64")]
     Workers,
-    /// A growth of memory, or a thread, was refused.
+    /// An allocation or a thread was refused.
     #[error("out of memory")]
     Memory,
 }

@@ -13,9 +13,10 @@ use source::Memory;
 use std::alloc::Global;
 use tasks::{Task, give_up_all};
 
-/// So many deques with nothing in them, each with room for so many tasks at first.
+/// Makes `count` empty deques, each with room for `room` tasks at first.
 ///
-/// `Memory` is answered where a growth was refused.
+/// # Errors
+/// `Memory` if out of memory.
 fn empty_deques<J: Job>(
     alloc: Global,
     job: &J,
@@ -36,7 +37,8 @@ fn empty_deques<J: Job>(
 
 /// Puts a task into the deque at an index.
 ///
-/// `Memory` is answered where a growth was refused, and the task is given up.
+/// # Errors
+/// `Memory` if out of memory; the task is given up.
 fn put_at<J: Job>(
     job: &J,
     owners: &mut Vec<DequeOwner>,
@@ -60,7 +62,8 @@ fn put_at<J: Job>(
 
 /// Puts the tasks into the deques in turn: task k into the deque of worker k modulo the number of workers.
 ///
-/// `Memory` is answered where a growth was refused, and all tasks are given up.
+/// # Errors
+/// `Memory` if out of memory; all tasks are given up.
 fn put_all<J: Job>(
     job: &J,
     mut owners: Vec<DequeOwner>,
@@ -88,9 +91,10 @@ fn put_all<J: Job>(
     Ok(owners)
 }
 
-/// A deque for each of so many workers, and the tasks in them.
+/// Makes a deque for each of `count` workers, and puts the tasks into them.
 ///
-/// `Memory` is answered where a growth was refused, and all tasks are given up.
+/// # Errors
+/// `Memory` if out of memory; all tasks are given up.
 pub(crate) fn fill_deques<J: Job>(
     alloc: Global,
     job: &J,
@@ -113,9 +117,10 @@ pub(crate) fn fill_deques<J: Job>(
     }
 }
 
-/// A stealer of each deque, in order.
+/// Returns a stealer of each deque, in order.
 ///
-/// `Memory` is answered where a growth was refused.
+/// # Errors
+/// `Memory` if out of memory.
 pub(crate) fn stealers(alloc: Global, owners: &[DequeOwner]) -> Result<Vec<Thief>, Memory>
     requires fifo { All (λ o. worker_flavor o ≡ 0) owners.now }
     ensures { IfOk result (λ v. AreThieves owners.now v.items) }

@@ -1,12 +1,12 @@
-//! Where the work on a task can be held.
+//! The gate before the work on each task.
 
-/// Is told before the work on each task begins, and may wait. Workers share it between their threads.
+/// A call before the work on each task, which may wait. The threads of all workers share the gate.
 pub trait Gate: Sync {
     /// Called once before the task of this number is run, by the worker that runs it.
     fn enter(&self, task: u32);
 }
 
-/// The gate that holds nobody.
+/// A gate that never waits.
 #[derive(Clone, Copy, PartialEq, Eq, Drop)]
 pub struct Open;
 

@@ -1,4 +1,4 @@
-//! What all workers have done, put together.
+//! Gathering what all workers have done.
 
 ghost use Rattle.std.specs.Prelude.{◌++◌, [], ◌∷◌, List, IfOk};
 ghost use Rattle.pool.specs.Counts.{DequeOwner as OwnerModel};
@@ -23,7 +23,8 @@ pub struct Gathered<S, X> {
 
 /// Adds what one worker has done.
 ///
-/// `Memory` is answered where a growth was refused, or where the worker answers it.
+/// # Errors
+/// `Memory` if out of memory, or if the worker returned it.
 fn gather_one<J: Job, G>(
     common: &Common<'_, J, G>,
     all: Gathered<J::Seat, J::Out>,
@@ -61,9 +62,10 @@ fn gather_one<J: Job, G>(
     })
 }
 
-/// What the workers have done that ended so, the first of them and the others.
+/// Gathers what the workers have done, the first of them and the others.
 ///
-/// `Memory` is answered where a growth was refused, or where one of the workers answers it.
+/// # Errors
+/// `Memory` if out of memory, or if one of the workers returned it.
 pub(crate) fn gather<J: Job, G>(
     alloc: Global,
     common: &Common<'_, J, G>,

@@ -1,17 +1,17 @@
-//! What lies in a deque, and what a pass of it knows.
+//! What is in a deque, and what a pass of it knows.
 
 ghost use Rattle.std.specs.Prelude.{◌≡◌};
 
 use std::collections::LinkedList;
 use tasks::Task;
 
-/// A task in a deque. It gives the task up where it is dropped, so a deque that is dropped gives up all that is left in it.
+/// A task in a deque. Dropping it gives the task up, so a deque that is dropped gives up all that is left in it.
 pub struct HeldTask {
     pub(crate) task: Task,
 }
 
 impl HeldTask {
-    /// The task, which is no longer given up then.
+    /// Returns the task, which is then no longer given up.
     pub(crate) fn into_task(self) -> Task
         ensures { result ≡ self.task }
     {

@@ -7,12 +7,12 @@ ghost use Rattle.tasks.specs.declared.task.Task.{Task};
 use source::Memory;
 use tasks::Task;
 
-/// What workers do with a task. It holds what it needs, and says which tasks and seats it accepts and what its result promises.
+/// What workers do with a task. A job holds what it needs, and defines which tasks and seats it accepts and what its result promises.
 pub trait Job: Sync {
     /// What a worker keeps from task to task.
     type Seat: Send + Drop;
 
-    /// What comes of a task.
+    /// The result of a task.
     type Out: Send + Drop;
 
     /// The tasks that may be run.
@@ -24,9 +24,10 @@ pub trait Job: Sync {
     /// What the result for the task of a number promises.
     ghost gives: { Self → ℕ → Self.Out → Type 0 };
 
-    /// Runs a task in a seat, which stays one in which tasks may be run.
+    /// Runs a task in a seat, in which tasks may still be run afterwards.
     ///
-    /// `Memory` is answered where a growth was refused, and gives the task back.
+    /// # Errors
+    /// `Memory` if out of memory, with the task.
     fn run(&self, task: Task, seat: &mut Self::Seat) -> Result<Self::Out, (Task, Memory)>
         requires task { takes self.now task }
         requires seat { seats self.now seat.old }

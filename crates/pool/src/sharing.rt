@@ -1,4 +1,4 @@
-//! Tasks shared out over workers.
+//! Sharing tasks out over workers.
 
 ghost use Rattle.std.specs.Prelude.{◌≡◌, ℕ, ◌<◌, ◌≤◌, ◌⊎◌, ◌↔◌, All, IfOk, IsErrOf, length, map, vec_len};
 ghost use Rattle.tasks.specs.Tasks.{number_of};
@@ -21,12 +21,13 @@ use std::sync::Wait;
 use std::thread::Threads;
 use tasks::{Task, give_up_all};
 
-/// The most workers.
+/// The greatest number of workers.
 pub const MOST_WORKERS: usize = 64;
 
-/// What the workers have done that began so, put together.
+/// Runs the workers that begin with these stints, and gathers what they have done.
 ///
-/// `Memory` is answered where a growth or a thread was refused, or where one of the workers answers it.
+/// # Errors
+/// `Memory` if an allocation or a thread was refused, or if one of the workers returns it.
 fn work_all<J: Job, G: Gate, R: Threads + Wait + Sync>(
     rt: &R,
     alloc: Global,
@@ -44,9 +45,10 @@ fn work_all<J: Job, G: Gate, R: Threads + Wait + Sync>(
     gather(alloc, common, own, rest)
 }
 
-/// What all workers have done, where no task was left behind.
+/// Runs all workers and returns what they have done. No task is left.
 ///
-/// `Memory` is answered where a growth or a thread was refused. The tasks that were not done are given up.
+/// # Errors
+/// `Memory` if an allocation or a thread was refused; the tasks that were not done are given up.
 fn share_all<J: Job, G: Gate, R: Threads + Wait + Sync>(
     rt: &R,
     alloc: Global,
@@ -86,14 +88,15 @@ fn share_all<J: Job, G: Gate, R: Threads + Wait + Sync>(
 
 /// Shares tasks out over a worker for each seat.
 ///
-/// Task k is put into the deque of worker k modulo the number of workers, all before the first worker begins. A worker takes the tasks of
-/// its own deque, and then steals from those of the others, from the next one on, until it has found each empty. The first worker works in
-/// the calling thread, and each other one in a thread of its own. So each task is run once, whoever took it, and the gate is entered before
-/// it. The seats come back in their order, and each result with its method.
+/// Task k is put into the deque of worker k modulo the number of workers, before the first worker begins. A worker takes the tasks of its
+/// own deque, and then steals from those of the others, from the next one on, until it has found each empty. The first worker runs in the
+/// calling thread, and each other one in a thread of its own. So each task is run once, whoever took it, after the gate was entered for it.
+/// Returns the seats in their order, and each result with its method.
 ///
-/// `Workers` is answered where there are not 1 to `MOST_WORKERS` seats, before anything is done. `Memory` is answered where a growth or a
-/// thread was refused: a worker to which that happens takes no more tasks, and the others go on to the end. The tasks that were not done
-/// are given up then, and seats and results are dropped.
+/// # Errors
+/// `Workers` if there are not 1 to `MOST_WORKERS` seats, before anything is done. `Memory` if an allocation or a thread was refused: that
+/// worker takes no more tasks, and the others go on to the end. The tasks that were not done are then given up, and seats and results are
+/// dropped.
 pub fn share_out<J: Job, G: Gate, R: Threads + Wait + Sync>(
     rt: &R,
     alloc: Global,

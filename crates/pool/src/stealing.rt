@@ -36,9 +36,10 @@ fn steal_at<J: Job, G: Gate>(
     common.thieves[index].steal_as::<TakesTask>(pass)
 }
 
-/// Steals tasks from the deque at an index, until it is found empty.
+/// Steals tasks from the deque at an index until it is found empty.
 ///
-/// `Memory` is answered where a growth was refused. No more tasks are taken then.
+/// # Errors
+/// `Memory` if out of memory; no more tasks are taken then.
 fn steal_from<J: Job, G: Gate, R: Wait>(
     rt: &R,
     common: &Common<'_, J, G>,
@@ -67,7 +68,8 @@ fn steal_from<J: Job, G: Gate, R: Wait>(
 /// Goes round the deques of the other workers, from the next one on, and steals from each until it is found empty. Nothing is put into a
 /// deque any more, so it stays empty.
 ///
-/// `Memory` is answered where a growth was refused. No more tasks are taken then.
+/// # Errors
+/// `Memory` if out of memory; no more tasks are taken then.
 pub(crate) fn steal_round<J: Job, G: Gate, R: Wait>(
     rt: &R,
     common: &Common<'_, J, G>,

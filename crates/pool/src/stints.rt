@@ -1,4 +1,4 @@
-//! Where a worker begins and ends.
+//! What a worker begins and ends with.
 
 ghost use Rattle.std.specs.Prelude.{◌≡◌, ℕ, [], All, IfOk, length, map, vec_len};
 ghost use Rattle.pool.specs.Owners.{IsOwn, owner_taken};
@@ -19,16 +19,17 @@ pub(crate) struct Common<'a, J, G> {
     pub(crate) thieves: &'a [Thief],
 }
 
-/// What a worker begins with: its number, its own deque, a pass of each deque, and its seat. It is a tuple, since a struct with a
-/// pass in it is not known to go to another thread.
+/// What a worker begins with: its number, its own deque, a pass of each deque, and its seat. It is a tuple, since a struct that
+/// contains a pass is not known to be `Send`.
 pub(crate) type Stint<S> = (usize, DequeOwner, Vec<Ticket>, S);
 
-/// What a worker ends with, in the same way: its own deque, its passes, and what it has done.
+/// What a worker ends with, as a tuple too: its own deque, its passes, and what it has done.
 pub(crate) type Shift<S, X> = Result<(DequeOwner, Vec<Ticket>, Bench<S, X>), Memory>;
 
-/// What each worker begins with.
+/// Returns what each worker begins with.
 ///
-/// `Memory` is answered where a growth was refused.
+/// # Errors
+/// `Memory` if out of memory.
 pub(crate) fn stints<J: Job, G>(
     alloc: Global,
     common: &Common<'_, J, G>,

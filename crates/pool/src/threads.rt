@@ -1,4 +1,4 @@
-//! A thread for each worker but the first.
+//! A thread for each worker except the first.
 
 ghost use Rattle.std.specs.Prelude.{◌≡◌, ℕ, ◌<◌, All, IfOk, length, slice_index_or, vec_len};
 ghost use denote.Param.Send.{IsSync};
@@ -57,7 +57,8 @@ fn start_one<'s, 'a: 's, E, J: Job, G: Gate, R: Threads + Wait + Sync>(
 
 /// Starts the threads of these workers.
 ///
-/// An error is answered where a growth or a thread was refused.
+/// # Errors
+/// `AllocError` if an allocation or a thread was refused.
 fn start_all<'s, 'a: 's, E, J: Job, G: Gate, R: Threads + Wait + Sync>(
     scope: &Scope<'s, E>,
     rt: &'a R,
@@ -83,7 +84,8 @@ fn start_all<'s, 'a: 's, E, J: Job, G: Gate, R: Threads + Wait + Sync>(
 
 /// Runs the first worker in this thread, and each other one in a thread of its own.
 ///
-/// `Memory` is answered where a growth or a thread was refused. All threads have ended then, too.
+/// # Errors
+/// `AllocError` if an allocation or a thread was refused; all threads have ended then, too.
 pub(crate) fn run_all<J: Job, G: Gate, R: Threads + Wait + Sync>(
     rt: &R,
     alloc: Global,

@@ -19,9 +19,10 @@ use source::Memory;
 use std::alloc::Global;
 use std::sync::Wait;
 
-/// Runs a task behind the gate, and keeps its result.
+/// Passes the gate, runs one task and stores its result.
 ///
-/// `Memory` is answered where a growth was refused, and the task is given up.
+/// # Errors
+/// `Memory` if the job ran out of memory, and then the task is given up, or if the result could not be stored.
 pub(crate) fn run_one<J: Job, G: Gate>(
     common: &Common<'_, J, G>,
     held: HeldTask,
@@ -47,9 +48,10 @@ pub(crate) fn run_one<J: Job, G: Gate>(
     }
 }
 
-/// Takes tasks from the worker's own deque, until it gives none.
+/// Takes and runs tasks of the worker's own deque until it gives none.
 ///
-/// `Memory` is answered where a growth was refused. No more tasks are taken then.
+/// # Errors
+/// `Memory` if out of memory; no more tasks are taken then.
 fn run_own<J: Job, G: Gate, R: Wait>(
     rt: &R,
     common: &Common<'_, J, G>,
@@ -74,7 +76,8 @@ fn run_own<J: Job, G: Gate, R: Wait>(
 
 /// Does a worker's work: the tasks of its own deque, and then those that it finds in the others.
 ///
-/// `Memory` is answered where a growth was refused. The worker takes no more tasks then.
+/// # Errors
+/// `Memory` if out of memory; the worker takes no more tasks then.
 pub(crate) fn work<J: Job, G: Gate, R: Wait>(
     rt: &R,
     alloc: Global,

@@ -2,7 +2,7 @@
 use Rattle.std.proofs.Common.{ℕ, zero, suc, ◌<◌, List, [], ◌∷◌, length, map, get_or, arith}
 use Rattle.program.specs.Lists.{Each}
 
--- what holds of each that is made of these holds of what is made of the one at a place
+-- what holds of each image holds of the image of the element at an index
 pub each_made : {X Y : Type 0} → (f : X → Y) (P : Y → Type 0) (xs : List X) (n : ℕ) (d : X) → n < length (map f xs) → Each P (map f xs) → P (f (get_or xs n d))
 each_made f P [] n d within all = absurd (omega arith)
 each_made f P (x ∷ xs) zero d within all = all.0

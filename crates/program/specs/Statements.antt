@@ -1,4 +1,4 @@
--- Statements without where they lie in memory.
+-- Statements as plain values, without their layout in memory.
 use Rattle.std.specs.Prelude.{List, [], ◌∷◌, Option, Some, None}
 use Rattle.source.specs.declared.place.Place.{Place}
 use Rattle.program.specs.declared.number.MessageId.{MessageId}
@@ -14,7 +14,7 @@ use Rattle.program.specs.declared.statement.Mention.{Mention}
 use Rattle.program.specs.declared.statement.Ways.{Ways}
 use Rattle.program.specs.declared.statement.Statement.TheOpen as layer
 
--- a new block: what the length of an array reads, what takes it, and what is given for each field that owns
+-- a new block: what the length of an array reads, the variable that takes the block, and the variables given for owning fields
 pub record NewModel : Type 0 where
   pub reads : List Mention
   pub target : Mention
@@ -23,7 +23,8 @@ pub record NewModel : Type 0 where
 abbrev pub new_model : made.New.New → NewModel
 new_model n = record { reads = n.reads.items; target = n.target; arguments = n.arguments.items }
 
--- a call or a start: what it reads, its place, the method, what is given, what takes what it gives, and what is used behind it
+-- a call or a start: what its arguments read, its place, the method, the arguments, the variable
+-- that takes the result, and what is used after the call
 pub record CallModel : Type 0 where
   pub reads : List Mention
   pub place : Place
@@ -42,7 +43,7 @@ call_model c = record {
   behind = c.behind.items;
 }
 
--- a send: what it reads, its place, the endpoint, the message, and what is given
+-- a send: what its arguments read, its place, the endpoint, the message, and the variables that go into it
 pub record SendModel : Type 0 where
   pub reads : List Mention
   pub place : Place
@@ -54,7 +55,7 @@ abbrev pub send_model : called.Send.Send → SendModel
 send_model s = record { reads = s.reads.items; place = s.place; endpoint = s.endpoint; message = s.message; payloads = s.payloads.items }
 
 mutual
-  -- a statement: a simple one reads, and then does what it does
+  -- a statement; a simple one reads some variables and then has one effect
   pub data StatementModel : Type 0 where
     Simple : List Mention → Effect → StatementModel
     New : NewModel → StatementModel
@@ -66,30 +67,30 @@ mutual
     While : TestModel → StatementModel
     Switch : Place → CasesModel → StatementModel
 
-  -- statements in a row
+  -- statements in order
   pub data StatementsModel : Type 0 where
     NoStatement : StatementsModel
     MoreStatements : StatementModel → StatementsModel → StatementsModel
 
-  -- statements, and what goes out of scope behind them
+  -- a block: its statements, and the variables that go out of scope after them
   pub data BlockModel : Type 0 where
     Braces : StatementsModel → Option Forget → BlockModel
 
-  -- a condition: its place, what it reads, which ways it can go; and its block
+  -- a condition with its block: its place, what it reads, which ways it can go, and the block
   pub data TestModel : Type 0 where
     Test : Place → List Mention → Ways → BlockModel → TestModel
 
-  -- what stands behind the first block of an `if`
+  -- what follows the first block of an `if`
   pub data OthersModel : Type 0 where
     NoOther : OthersModel
     Else : BlockModel → OthersModel
     ElseIf : TestModel → OthersModel → OthersModel
 
-  -- a case of a switch: its endpoint, what it waits for, what it binds, and what is done then
+  -- a case of a switch: its endpoint, what it awaits, the variables that it binds, and its block
   pub data CaseModel : Type 0 where
     Case : Mention → Awaited → List VarId → BlockModel → CaseModel
 
-  -- cases in a row
+  -- cases in order
   pub data CasesModel : Type 0 where
     NoCase : CasesModel
     MoreCases : CaseModel → CasesModel → CasesModel
@@ -99,7 +100,7 @@ pub record IfModel : Type 0 where
   pub first : TestModel
   pub others : OthersModel
 
--- lists as rows
+-- lists as sequences
 
 abbrev pub statement_sequence : List StatementModel → StatementsModel
 statement_sequence [] = NoStatement
@@ -119,7 +120,7 @@ abbrev pub case_sequence : List CaseModel → CasesModel
 case_sequence [] = NoCase
 case_sequence (c ∷ cs) = MoreCases c (case_sequence cs)
 
--- One layer in memory, with what it holds in its places.
+-- One layer in memory as a value, with the values of what it contains in place.
 
 abbrev pub simple_model : made.Simple.Simple → StatementModel
 simple_model s = Simple s.reads.items s.effect
@@ -147,7 +148,7 @@ test_step t = Test t.place t.reads.items t.ways t.body
 abbrev pub case_step : layer.Case-F StatementModel BlockModel CaseModel IfModel TestModel → CaseModel
 case_step c = Case c.endpoint c.awaited c.targets.items c.body
 
--- What lies in memory.
+-- Whole statements in memory, as values.
 
 abbrev pub statement_model : made.Statement.Statement → StatementModel
 statement_model = made.Statement.fold-Statement StatementModel BlockModel CaseModel IfModel TestModel

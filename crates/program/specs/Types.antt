@@ -1,16 +1,18 @@
--- When two scalars, and two ends of a channel, are the same.
+-- When two scalar types, and two ends of a channel, are the same.
 use Rattle.std.specs.Prelude.{Bool, true, false}
 use Rattle.program.specs.declared.types.Scalar.{Scalar}
 use Rattle.program.specs.declared.types.Scalar.TheVariants as scalar
 use Rattle.program.specs.declared.types.Side.{Side}
 use Rattle.program.specs.declared.types.Side.TheVariants as side
 
+-- whether two scalar types are the same
 abbrev pub same_scalar : Scalar → Scalar → Bool
 same_scalar scalar.Int scalar.Int = true
 same_scalar scalar.Byte scalar.Byte = true
 same_scalar scalar.Bool scalar.Bool = true
 same_scalar _ _ = false
 
+-- whether two ends are the same
 abbrev pub same_side : Side → Side → Bool
 same_side side.Imp side.Imp = true
 same_side side.Exp side.Exp = true

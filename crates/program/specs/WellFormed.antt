@@ -1,4 +1,4 @@
--- Methods whose numbers mean something: each is in range, and what a call, a start or a switch lacks is nothing.
+-- Parameters, owning fields, and methods in which each number is in range.
 use Rattle.std.specs.Prelude.{◌≡◌, ◌≤◌, ◌<◌, ℕ, ◌==◌, Bool, true, false, ◌&&◌, not, List, [], ◌∷◌, length, map, Option, None, Some}
 use Rattle.std.specs.Prelude.{slice_get, IfSome, IsSomeAnd}
 use Rattle.std.specs.List.{filter}
@@ -32,7 +32,7 @@ use Rattle.program.specs.declared.limits.TheConstants.{MOST_FIELDS, MOST_VARIABL
 use Rattle.program.specs.Lists.{Each, is_among}
 use Rattle.program.specs.Scopes.{AreNested, GoesBack, Grows, InTurn, IsInScope}
 
--- a variable that a method gets from its caller
+-- whether a variable is a parameter
 abbrev pub is_parameter : Role → Bool
 is_parameter Lent = true
 is_parameter Claimed = true
@@ -47,19 +47,19 @@ is_claimed Local = false
 abbrev pub parameters : MethodModel → List VariableModel
 parameters m = filter (λ v. is_parameter v.role) m.variables
 
--- blocks of one type; the state of an endpoint is no part of it
+-- whether two types are the same, apart from the states of endpoints
 abbrev pub same_type : HeapType → HeapType → Bool
 same_type (Struct m) (Struct n) = m.0 == n.0
 same_type (Array s) (Array t) = same_scalar s t
 same_type (Endpoint m s p) (Endpoint n t q) = (m.0 == n.0) && same_side s t
 same_type _ _ = false
 
--- the two ends of a channel of this contract
+-- whether the types are those of the two ends of a channel of this contract
 abbrev pub are_ends : ℕ → HeapType → HeapType → Bool
 are_ends contract (Endpoint m s p) (Endpoint n t q) = (m.0 == contract) && ((n.0 == contract) && not (same_side s t))
 are_ends contract _ _ = false
 
--- a state, and a message, of a contract
+-- the contract has a state, or a message, with this number
 pub record IsStateOf (c : ContractModel) (id : StateId) : Type 0 where
   pub index : ℕ
   pub state : StateModel
@@ -72,7 +72,7 @@ pub record IsMessageOf (c : ContractModel) (id : MessageId) : Type 0 where
   pub there : slice_get c.parts.messages index ≡ Some message
   pub is : message.id ≡ id
 
--- The numbers in a type stand for something. Of a struct there is nothing but its number.
+-- The contract and the state in a type exist. The number of a struct is not checked.
 abbrev pub IsType : List ContractModel → HeapType → Type 0
 IsType contracts (Struct n) = Unit {0}
 IsType contracts (Array element) = Unit {0}
@@ -83,19 +83,19 @@ abbrev pub contract_held : List ContractModel → HeapType → Option ContractMo
 contract_held contracts (Endpoint contract side state) = slice_get contracts contract.0
 contract_held contracts _ = None
 
--- an end of a channel
+-- whether it is an end of a channel
 abbrev pub is_end : HeapType → Bool
 is_end (Endpoint contract side state) = true
 is_end _ = false
 
--- what a block of this type has in its fields that own: of a struct the type of each, in order; of an array nothing
+-- the types of the owning fields of a block: for a struct in order, for anything else none
 abbrev pub field_types : (structs : List (List HeapType)) → HeapType → List HeapType
 field_types structs (Struct n) = option_map_or (λ types. types) (slice_get structs n.0) []
 field_types structs (Array element) = []
 field_types structs (Endpoint contract side state) = []
 
--- Where a statement stands: the program; the variables of its own method, and what that gives; the last variable in scope, and the last
--- that stays at a `break` and at a `continue`.
+-- The setting of a statement: the program, the variables and the result of its method, the last variable in scope,
+-- and the last one that stays in scope at a `break` and at a `continue`.
 pub record Setting : Type 0 where
   pub program : ProgramModel
   pub variables : List VariableModel
@@ -104,15 +104,15 @@ pub record Setting : Type 0 where
   pub at_break : Option VarId
   pub at_continue : Option VarId
 
--- where this one is the last in scope
+-- the setting with this variable as the last in scope
 abbrev pub with_last : Setting → Option VarId → Setting
 with_last s scope = record s { scope = scope }
 
--- in a switch that stands there
+-- the setting inside a switch
 abbrev pub in_switch : Setting → Setting
 in_switch s = record s { at_break = s.scope }
 
--- in a loop that stands there
+-- the setting inside a loop
 abbrev pub in_loop : Setting → Setting
 in_loop s = record s { at_break = s.scope; at_continue = s.scope }
 
@@ -127,7 +127,7 @@ closes (MoreCases (Case endpoint (Message id) targets body) cases) = closes case
 closes (MoreCases (Case endpoint Closed targets body) cases) = endpoint.variable.0 ∷ closes cases
 
 module _ (s : Setting) where
-  -- the number of a variable
+  -- the method has a variable with this number
   abbrev pub IsVariable : VarId → Type 0
   IsVariable v = v.0 < length s.variables
 
@@ -137,47 +137,47 @@ module _ (s : Setting) where
   abbrev pub IsIn : VarId → Type 0
   IsIn v = IsInScope s.variables s.scope v
 
-  -- a variable of this type
+  -- the variable has this type
   abbrev pub Holds : HeapType → VarId → Type 0
   Holds k v = IsSomeAnd (slice_get s.variables v.0) (λ x. same_type x.ty k ≡ true)
 
-  -- a variable for each of these, of its type
+  -- one variable for each type, of that type
   abbrev pub HoldAll : List HeapType → List VarId → Type 0
   HoldAll [] [] = Unit {0}
   HoldAll [] (v ∷ vs) = ⊥
   HoldAll (k ∷ types) [] = ⊥
   HoldAll (k ∷ types) (v ∷ vs) = Holds k v × HoldAll types vs
 
-  -- an endpoint whose contract is so
+  -- the variable is an endpoint, and its contract satisfies `P`
   abbrev pub IsEnd : (ContractModel → Type 0) → Mention → Type 0
   IsEnd P m = IsSomeAnd (slice_get s.variables m.variable.0) (λ v. IsSomeAnd (contract_held s.program.contracts v.ty) P)
 
-  -- an argument for each parameter, of its type, and claimed where the parameter is
+  -- one argument for each parameter, of its type, and claimed exactly if the parameter is
   abbrev pub AreGiven : List VariableModel → List Argument → Type 0
   AreGiven [] [] = Unit {0}
   AreGiven [] (a ∷ given) = ⊥
   AreGiven (p ∷ params) [] = ⊥
   AreGiven (p ∷ params) (a ∷ given) = (Holds p.ty a.mention.variable × (a.claimed ≡ is_claimed p.role)) × AreGiven params given
 
-  -- a variable exactly where a block is given, of its type
+  -- there is a variable exactly if a block is given, and it has the type of the block
   abbrev pub IsTaken : Option HeapType → Option Mention → Type 0
   IsTaken None None = Unit {0}
   IsTaken None (Some m) = ⊥
   IsTaken (Some k) None = ⊥
   IsTaken (Some k) (Some m) = Holds k m.variable
 
-  -- it is in scope there
+  -- the same, and the variable is in scope
   abbrev pub IsTarget : Option HeapType → Option Mention → Type 0
   IsTarget result target = IsTaken result target × IfSome target (λ m. IsIn m.variable)
 
-  -- a call of this method
+  -- a well-formed call of this method
   pub record IsCallOf (c : CallModel) (m : MethodModel) : Type 0 where
     pub reads : Each IsMention c.reads
     pub arguments : AreGiven (parameters m) c.arguments
     pub target : IsTarget m.result c.target
     pub behind : Each IsMention c.behind
 
-  -- A method is started where it gives nothing and claims its parameters.
+  -- A started method gives nothing and claims its parameters.
   pub record IsStartOf (c : CallModel) (m : MethodModel) : Type 0 where
     pub call : IsCallOf c m
     pub void : m.gives ≡ false
@@ -192,14 +192,15 @@ module _ (s : Setting) where
   IsChannel c = IsSomeAnd (slice_get s.variables c.first.variable.0) (λ v. IsSomeAnd (slice_get s.variables c.second.variable.0)
       (λ w. are_ends c.contract.0 v.ty w.ty ≡ true))
 
-  -- A new block: what takes it is in scope and no endpoint, and for each field that owns a variable of its type is given.
+  -- The target of a new block is in scope and is not an endpoint, and each owning field is given a variable of its
+  -- type.
   pub record IsNew (n : NewModel) : Type 0 where
     pub reads : Each IsMention n.reads
     pub in_scope : IsIn n.target.variable
     pub taken : IsSomeAnd (slice_get s.variables n.target.variable.0) (λ x. (is_end x.ty ≡ false)
         × HoldAll (field_types s.program.structs x.ty) (map (λ m. m.variable) n.arguments))
 
-  -- a variable, and a field that owns, of its type and of the block that another variable has
+  -- the given variable is in scope and has the type of the owning field, which is in the holder's block
   abbrev pub IsExchange : Exchange → Type 0
   IsExchange e = IsIn e.given.variable × IsSomeAnd (slice_get s.variables e.holder.variable.0)
       (λ v. IsSomeAnd (slice_get (field_types s.program.structs v.ty) e.field) (λ k. Holds k e.given.variable))
@@ -213,7 +214,7 @@ module _ (s : Setting) where
   IsAction (does.Exchange e) = IsExchange e
   IsAction (does.NewChannel c) = (IsIn c.first.variable × IsIn c.second.variable) × IsChannel c
 
-  -- What a `break` and a `continue` leave goes out of scope, and a `return` knows what is in scope.
+  -- Variables that a `break` or a `continue` leaves go out of scope; a `return` records what is in scope.
   abbrev pub IsEffect : Effect → Type 0
   IsEffect effects.Nothing = Unit {0}
   IsEffect (effects.Act action) = IsAction action
@@ -225,13 +226,13 @@ module _ (s : Setting) where
   IsAwaited (Message id) c = IsMessageOf c id
   IsAwaited Closed c = Unit {0}
 
-  -- what a case binds, for what its message brings; a close brings nothing
+  -- a case binds a variable for each block that its message brings, of its type; a close brings nothing
   abbrev pub IsBrought : Awaited → List VarId → Type 0
   IsBrought (Message id) targets = IsSomeAnd (slice_get s.program.messages id.0) (λ types. HoldAll types targets)
   IsBrought Closed targets = targets ≡ []
 
 abbrev mutual
-  -- a statement
+  -- a well-formed statement
   pub IsStatement : Setting → StatementModel → Type 0
   IsStatement s (Simple reads effect) = Each (IsMention s) reads × IsEffect s effect
   IsStatement s (New n) = IsNew s n
@@ -244,14 +245,14 @@ abbrev mutual
   -- each endpoint of a switch has a case for its close
   IsStatement s (Switch place cases) = Each (λ e. is_among (closes cases) e ≡ true) (endpoints cases) × AreCases (in_switch s) cases
 
-  -- Statements in a row, and the last variable in scope behind them. What is declared comes into scope between them.
+  -- Statements in order, and the last variable in scope after them. Declared variables come into scope between them.
   pub AreStatements : Setting → StatementsModel → (behind : Option VarId) → Type 0
   AreStatements s NoStatement behind = Grows s.variables s.scope behind
   AreStatements s (MoreStatements x xs) behind =
       (here : Option VarId) × (Grows s.variables s.scope here
       × (IsStatement (with_last s here) x × AreStatements (with_last s here) xs behind))
 
-  -- What a block declares goes out of scope behind it.
+  -- Variables declared in a block go out of scope after it.
   pub IsBlock : Setting → BlockModel → Type 0
   IsBlock s (Braces statements forget) = (behind : Option VarId) × (AreStatements s statements behind × GoesBack behind s.scope forget)
 
@@ -263,7 +264,7 @@ abbrev mutual
   AreOthers s (Else b) = IsBlock s b
   AreOthers s (ElseIf t others) = IsTest s t × AreOthers s others
 
-  -- A case. What it binds comes into scope before its statements, and goes out of it behind them.
+  -- The variables that a case binds come into scope before its statements and go out of scope after them.
   pub IsCase : Setting → CaseModel → Type 0
   IsCase s (Case endpoint awaited targets (Braces statements forget)) =
       (IsEnd s (IsAwaited s awaited) endpoint × IsBrought s awaited targets)
@@ -274,7 +275,8 @@ abbrev mutual
   AreCases s NoCase = Unit {0}
   AreCases s (MoreCases c cases) = IsCase s c × AreCases s cases
 
--- where the statements of a method begin, if these parameters are in scope there; a `break` and a `continue` leave them in scope
+-- the setting of the first statement of a method; `begins` is the last variable in scope, which a `break` and a
+-- `continue` leave in scope
 abbrev pub setting : ProgramModel → MethodModel → (begins : Option VarId) → Setting
 setting p m begins = record {
   program = p;
@@ -285,26 +287,26 @@ setting p m begins = record {
   at_continue = begins;
 }
 
--- a method of a program
+-- a well-formed method of a program
 pub record IsWellFormed (p : ProgramModel) (m : MethodModel) : Type 0 where
   pub result : IfSome m.result (IsType p.contracts)
   pub void : m.gives ≡ false → m.result ≡ None
   pub types : Each (λ v. IsType p.contracts v.ty) m.variables
   pub few : length m.variables ≤ MOST_VARIABLES
   pub nested : AreNested m.variables
-  -- the last variable in scope where the method begins: all parameters are in scope there
+  -- the last variable in scope when the method begins; all parameters are in scope then
   pub begins : Option VarId
   pub begins_with : IfSome begins (λ v. v.0 < length m.variables)
   pub parameters : (n : VarId) (v : VariableModel) → slice_get m.variables n.0 ≡ Some v → is_parameter v.role ≡ true
       → IsInScope m.variables begins n
   pub statements : AreStatements (setting p m begins) m.statements m.scope
 
--- what a struct has in its fields that own, in order: types as they are declared, no more than may be
+-- the types of the owning fields of a struct, in order: they are within the limit, and their contracts and states exist
 pub record AreFields (contracts : List ContractModel) (types : List HeapType) : Type 0 where
   pub few : length types ≤ MOST_FIELDS
   pub types_are : Each (IsType contracts) types
 
--- a program: what its messages bring, what its structs have in fields that own, and its methods
+-- a well-formed program: the types that its messages bring, those of the owning fields of its structs, and its methods
 pub record AreWellFormed (p : ProgramModel) : Type 0 where
   pub messages_are : Each (Each (IsType p.contracts)) p.messages
   pub structs_are : Each (AreFields p.contracts) p.structs

@@ -4,7 +4,7 @@ use crate::number::{MessageId, MethodId};
 use crate::statement::Mention;
 use source::Place;
 
-/// What is given for a parameter of the exchange heap: the variable, and whether the parameter is claimed.
+/// An argument for a parameter of the exchange heap: the variable, and whether the parameter is claimed.
 #[derive(Clone, Copy)]
 pub struct Argument {
     pub mention: Mention,
@@ -14,29 +14,29 @@ pub struct Argument {
 /// A call of a method, or the start of one.
 #[derive(Drop)]
 pub struct Call {
-    /// What its arguments read, in order of the text.
+    /// The variables that the arguments read, in order of the text.
     pub reads: Vec<Mention>,
-    /// Where the method's name stands.
+    /// The place of the method's name.
     pub place: Place,
     pub method: MethodId,
-    /// What is given for each parameter of the exchange heap, in order.
+    /// The arguments for the parameters of the exchange heap, in order.
     pub arguments: Vec<Argument>,
-    /// The variable that takes the block which the method gives; none where it gives none.
+    /// The variable that takes the block that the method gives, if it gives one.
     pub target: Option<Mention>,
-    /// What is used behind the call where a field or an element takes the scalar that the method gives: what its index reads,
-    /// and then the variable that it is a part of.
+    /// What is used after the call if a field or an element takes the scalar that the method gives: what its index
+    /// reads, then the variable that it is a part of.
     pub behind: Vec<Mention>,
 }
 
 /// A send of a message.
 #[derive(Drop)]
 pub struct Send {
-    /// What its arguments read, in order of the text.
+    /// The variables that the arguments read, in order of the text.
     pub reads: Vec<Mention>,
-    /// Where the word stands that is made of `Send` and the name of the message.
+    /// The place of the word made of `Send` and the name of the message.
     pub place: Place,
     pub endpoint: Mention,
     pub message: MessageId,
-    /// What is given for each parameter of the exchange heap, in order.
+    /// The variables given for the parameters of the exchange heap, in order.
     pub payloads: Vec<Mention>,
 }

@@ -5,7 +5,7 @@ ghost use Rattle.std.specs.Prelude.{◌≡◌, string_bytes};
 use crate::number::{MessageId, StateId};
 use source::Place;
 
-/// Which way a message goes, seen from the exporter.
+/// The direction of a message, seen from the exporter.
 #[derive(Clone, Copy, Debug, PartialEq, Eq)]
 pub enum Direction {
     In,
@@ -25,8 +25,8 @@ pub struct Resolved {
     pub contracts: Vec<Contract>,
 }
 
-/// A contract: its messages and states in order of the text, the first state, and its edges in order of the text. The names of its
-/// states stand in one text, so that none of them takes memory of its own.
+/// A contract: its messages and states in order of the text, the first state, and its edges in order of the text.
+/// The names of its states are in one text, so no name takes memory of its own.
 #[derive(Drop)]
 pub struct Contract {
     pub name: String,
@@ -37,8 +37,8 @@ pub struct Contract {
     pub edges: Vec<Edge>,
 }
 
-/// A state, and where among the names of states it stands how it is printed: a named one by its name, an unnamed one by the message of
-/// its edge, in parentheses.
+/// A state. `name` is the part of the names of states that it is printed as: its name, or for an unnamed state the
+/// message of its edge in parentheses.
 #[derive(Clone, Copy)]
 pub struct State {
     pub id: StateId,
@@ -46,7 +46,7 @@ pub struct State {
     pub place: Place,
 }
 
-/// Bytes of a text, from one to before another, both counted from 0.
+/// Bytes of a text: the first, and the one after the last, both counted from 0.
 #[derive(Clone, Copy)]
 pub struct Part {
     pub start: usize,
@@ -56,7 +56,7 @@ pub struct Part {
 impl Contract {
     ghost use Rattle.program.specs.Parts.{state_model};
 
-    /// How a state of the contract is printed; nothing where its name does not lie within the names of states.
+    /// Returns how a state of the contract is printed, or an empty slice if its name is not within the names of states.
     pub fn state_name(&self, state: State) -> &[u8]
         ensures { result.now ≡ (state_model (string_bytes self.now.state_names) state).name }
     {
@@ -65,7 +65,7 @@ impl Contract {
     }
 }
 
-/// A message, and which way it goes.
+/// A message and its direction.
 #[derive(Drop)]
 pub struct Message {
     pub id: MessageId,

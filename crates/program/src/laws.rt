@@ -10,7 +10,7 @@ ghost use Rattle.program.specs.declared.limits.TheConstants.{MOST_PARAMETERS, MO
 
 use crate::statement::Statement;
 
-/// The limits in digits.
+/// The limits as numbers.
 pub fn limits()
     ensures contracts { MOST_CONTRACTS ≡ 256 }
     ensures states { MOST_STATES ≡ 500000 }
@@ -35,7 +35,7 @@ pub fn threads_share_methods()
     threads_share_statements();
 }
 
-/// Values of this type may be shared.
+/// Threads may share values of this type by reference.
 fn shared<T: Sync>()
     ensures { IsSync T.row }
 {}

@@ -1,4 +1,4 @@
-//! What a program is once its names are numbers, and when its methods are well formed.
+//! A program whose names are numbers, and when its methods are well formed.
 #![tactic(auto)]
 
 mod call;

@@ -5,19 +5,19 @@ use crate::statement::Statement;
 use crate::types::HeapType;
 use source::Place;
 
-/// How a method came to a variable of the exchange heap.
+/// How a method got a variable of the exchange heap.
 #[derive(Clone, Copy, Debug, PartialEq, Eq)]
 pub enum Role {
     /// A parameter that is lent for the call.
     Lent,
-    /// A parameter that is the method's own from then on.
+    /// A parameter that belongs to the method from then on.
     Claimed,
     /// A variable that a statement declares, or a case binds.
     Local,
 }
 
-/// A variable of the exchange heap: its name as it is written, what it holds, how the method came to it, and the variable of the
-/// exchange heap before it in scope, the last one declared there, if there is one.
+/// A variable of the exchange heap: its name as it is written, its type, how the method got it, and the variable of
+/// the exchange heap before it in scope, which is the last one declared there, if there is one.
 #[derive(Drop)]
 pub struct Variable {
     pub name: Vec<u8>,
@@ -26,9 +26,10 @@ pub struct Variable {
     pub outer: Option<VarId>,
 }
 
-/// A method: where its name stands, whether it takes something, which is whether it has a parameter of any kind, whether it gives
-/// something, and what that is where it is of the exchange heap, its variables of the exchange heap in order of declaration,
-/// parameters first, its statements in order, the last variable of the exchange heap in scope behind them, and where its body ends.
+/// A method: the place of its name; whether it has a parameter of any kind; whether it gives something, and the
+/// type of that if it is of the exchange heap; its variables of the exchange heap in order of declaration,
+/// parameters first; its statements in order; the last variable of the exchange heap in scope after them; and where
+/// its body ends.
 #[derive(Drop)]
 pub struct Method {
     pub name: Place,

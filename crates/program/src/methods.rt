@@ -1,4 +1,4 @@
-//! The methods of a program, and what is known of them.
+//! The methods of a program, with its contracts and types.
 
 ghost use Rattle.std.specs.Prelude.{◌≡◌, ◌<◌, Some, length, map, slice_get};
 ghost use Rattle.program.specs.Parts.{contract_model};
@@ -13,12 +13,15 @@ use crate::number::MethodId;
 use crate::types::HeapType;
 use std::marker::Model;
 
-/// The methods of a program in order of the text, with its contracts, what its messages bring and what its structs have in fields that
-/// own, all names in them resolved, and well formed: each number stands for something, a method has at most `MOST_VARIABLES` variables,
-/// and a struct at most `MOST_FIELDS` fields that own; a call and a send give for each parameter of the exchange heap a variable of its
-/// type, and a call has a target exactly where the callee gives a block; what is assigned is in scope; a started method gives nothing and
-/// claims its parameters; a switch has a case for the close of each of its endpoints; what a case binds takes what its message brings,
-/// and comes into scope there. What goes out of scope is just what came into it.
+/// The methods of a program in order of the text, with its contracts, the types that its messages bring and the
+/// types of the owning fields of its structs.
+///
+/// All names are resolved, and the program is well formed: each number refers to something; a method has at most
+/// `MOST_VARIABLES` variables, and a struct at most `MOST_FIELDS` owning fields; a call and a send give a variable
+/// of the right type for each parameter of the exchange heap, and a call has a target exactly if the callee gives a
+/// block; what is assigned is in scope; a started method gives nothing and claims its parameters; a switch has a
+/// case for the close of each of its endpoints; what a case binds takes what its message brings, and comes into
+/// scope there. Exactly what came into scope goes out of it.
 #[derive(Drop)]
 pub struct Methods {
     contracts: Resolved,
@@ -52,7 +55,7 @@ impl Model for Methods {
 }
 
 impl Methods {
-    /// The methods of a program with these contracts, whose messages bring this for their parameters of the exchange heap.
+    /// Returns the methods of a program with these contracts, types that messages bring and types of owning fields.
     pub fn new(
         contracts: Resolved,
         messages: Vec<Vec<HeapType>>,
@@ -78,14 +81,15 @@ impl Methods {
         }
     }
 
-    /// The contracts, in order of the text.
+    /// Returns the contracts, in order of the text.
     pub fn contracts(&self) -> &Resolved
         ensures { map contract_model result.now.contracts.items ≡ contracts_model self.now }
     {
         &self.contracts
     }
 
-    /// What each message brings for its parameters of the exchange heap, in order; a message has its place here as its number.
+    /// Returns the types that each message brings for its parameters of the exchange heap, in order. The index is
+    /// the number of the message.
     pub fn messages(&self) -> &[Vec<HeapType>]
         ensures messages { type_lists result.now ≡ messages_model self.now }
         ensures types { Each (Each (IsType (contracts_model self.now))) (messages_model self.now) }
@@ -93,7 +97,7 @@ impl Methods {
         &self.messages
     }
 
-    /// What each struct has in its fields that own, in order; a struct has its place here as its number.
+    /// Returns the types of the owning fields of each struct, in order. The index is the number of the struct.
     pub fn structs(&self) -> &[Vec<HeapType>]
         ensures structs { type_lists result.now ≡ structs_model self.now }
         ensures types { Each (AreFields (contracts_model self.now)) (structs_model self.now) }
@@ -101,7 +105,7 @@ impl Methods {
         &self.structs
     }
 
-    /// The methods, in order of the text.
+    /// Returns the methods, in order of the text.
     pub fn list(&self) -> &[Method]
         ensures list { map method_model result.now ≡ methods_model self.now }
         ensures well_formed { AreWellFormed (program_model self.now) }
@@ -109,7 +113,7 @@ impl Methods {
         self.list.as_slice()
     }
 
-    /// The method of this number.
+    /// Returns the method with this number.
     pub fn method(&self, id: MethodId) -> &Method
         requires there { id.0 < length (methods_model self.now) }
         ensures method { slice_get (methods_model self.now) id.0 ≡ Some (method_model result.now) }

@@ -1,18 +1,19 @@
-//! Statements with a number for each variable of the exchange heap; scalars are forgotten.
+//! Statements with a number for each variable of the exchange heap; scalars are left out.
 
 use crate::call::{Call, Send};
 use crate::number::{ContractId, MessageId, VarId};
 use source::Place;
 
-/// A variable of the exchange heap where it is named.
+/// An occurrence of a variable of the exchange heap.
 #[derive(Clone, Copy)]
 pub struct Mention {
     pub variable: VarId,
     pub place: Place,
 }
 
-/// Variables of the exchange heap that go out of scope here: the last one declared of those that do, and of those that stay
-/// in scope. Each variable knows the one before it in scope, so these two name them all.
+/// The variables of the exchange heap that go out of scope here: `last` is the last declared of them, `outer` the
+/// last declared of those that stay in scope. Each variable knows the one before it in scope, so these two
+/// determine all of them.
 #[derive(Clone, Copy)]
 pub struct Forget {
     pub place: Place,
@@ -29,8 +30,8 @@ pub struct Channel {
     pub second: Mention,
 }
 
-/// What a field that owns holds, and what a variable has, change places. The field is one of the block that the holder has, and its
-/// number counts the fields of the struct that own. The place is that of the word `exchange`.
+/// Swaps what an owning field holds with what a variable has. The field is in the block that `holder` has, and its
+/// number counts the owning fields of the struct. The place is that of the word `exchange`.
 #[derive(Clone, Copy)]
 pub struct Exchange {
     pub place: Place,
@@ -39,34 +40,34 @@ pub struct Exchange {
     pub given: Mention,
 }
 
-/// What one step does with what variables and fields have. The method goes on behind it.
+/// What one step does with what variables and fields have. The method continues after it.
 #[derive(Clone, Copy)]
 pub enum Action {
-    /// A field or an element of what the variable has is read or written.
+    /// Reads or writes a field or an element of what the variable has.
     Use(Mention),
-    /// The target takes what the source has.
+    /// Moves what the source has to the target.
     Move { target: Mention, source: Mention },
-    /// What the variable has is freed.
+    /// Frees what the variable has.
     Delete(Mention),
-    /// What a field holds and what a variable has change places.
+    /// Swaps what a field holds with what a variable has.
     Exchange(Exchange),
-    /// Two variables take the two ends of a new channel.
+    /// Gives the two ends of a new channel to two variables.
     NewChannel(Channel),
 }
 
-/// What a simple statement does behind its reads.
+/// What a simple statement does after its reads.
 #[derive(Clone, Copy)]
 pub enum Effect {
-    /// Only scalars change.
+    /// Changes nothing but scalars.
     Nothing,
-    /// Something is done with what variables and fields have.
+    /// Acts on what variables and fields have.
     Act(Action),
-    /// The innermost loop or switch ends. What it and what stands in it has declared goes out of scope.
+    /// Ends the innermost loop or switch. Variables declared by it or in it go out of scope.
     Break(Option<Forget>),
-    /// The innermost loop goes back to its test, likewise.
+    /// Goes back to the test of the innermost loop. Variables declared in it go out of scope.
     Continue(Option<Forget>),
-    /// The method ends, and gives what this variable has, if there is one. The last variable of the exchange heap in scope
-    /// names all of them.
+    /// Ends the method, which gives what `value` has, if there is one. `scope` is the last variable of the exchange
+    /// heap in scope, which determines all of them.
     Return {
         place: Place,
         value: Option<Mention>,
@@ -74,16 +75,16 @@ pub enum Effect {
     },
 }
 
-/// A statement that holds no others: the variables whose blocks its expressions read, in order of the text, and then what it
-/// does.
+/// A statement that contains no other: the variables whose blocks its expressions read, in order of the text, and
+/// what it does then.
 #[derive(Drop)]
 pub struct Simple {
     pub reads: Vec<Mention>,
     pub effect: Effect,
 }
 
-/// A new struct or array: the variables whose blocks the length of an array reads, the variable that takes it, and those that are given
-/// for the fields of the struct that own, in order.
+/// A new struct or array: the variables whose blocks the length of an array reads, the variable that takes the new
+/// block, and those given for the owning fields of a struct, in order.
 #[derive(Drop)]
 pub struct New {
     pub reads: Vec<Mention>,
@@ -91,27 +92,27 @@ pub struct New {
     pub arguments: Vec<Mention>,
 }
 
-/// A statement. What is large stands in a box, so that a list of statements takes little for each.
+/// A statement. Large variants are boxed, so that an element of a list of statements stays small.
 #[cycle(statement)]
 #[derive(Drop)]
 pub enum Statement {
     Simple(Simple),
-    /// A variable takes a new block.
+    /// Gives a new block to a variable.
     New(New),
-    /// A method runs and comes back.
+    /// Calls a method, and continues when it returns.
     Call(Box<Call>),
-    /// A method runs as a process of its own.
+    /// Starts a method as a process of its own.
     Start(Box<Call>),
-    /// A message goes to the other end of a channel.
+    /// Sends a message to the other end of a channel.
     Send(Send),
     Block(Block),
     If(Box<If>),
     While(Box<Test>),
-    /// Waits for a message at one of its endpoints, or for the end of their peers. The place is that of the word `switch`.
+    /// Waits for a message or the close of a channel at one of its endpoints. The place is that of the word `switch`.
     Switch { place: Place, cases: Vec<Case> },
 }
 
-/// Statements in a row, and what goes out of scope behind them.
+/// Statements in order, and what goes out of scope after them.
 #[cycle(statement)]
 #[derive(Drop)]
 pub struct Block {
@@ -122,16 +123,16 @@ pub struct Block {
 /// Which ways a condition can go.
 #[derive(Clone, Copy)]
 pub enum Ways {
-    /// It may be true or false.
+    /// The condition may be true or false.
     Either,
-    /// It is just `true`.
+    /// The condition is just `true`.
     Body,
-    /// It is just `false`.
+    /// The condition is just `false`.
     Past,
 }
 
-/// A condition of an `if` or a `while`, with its block: where that word stands, what the condition reads, which ways it can
-/// go.
+/// A condition of an `if` or a `while` with its block: the place of that word, what the condition reads, which ways
+/// it can go.
 #[cycle(statement)]
 #[derive(Drop)]
 pub struct Test {
@@ -141,7 +142,7 @@ pub struct Test {
     pub body: Block,
 }
 
-/// Conditions in order, each asked where those before it were false, and what is done where all were.
+/// Conditions in order, each evaluated if those before it were false, and the block to run if all were false.
 #[cycle(statement)]
 #[derive(Drop)]
 pub struct If {
@@ -155,13 +156,13 @@ pub struct If {
 pub enum Awaited {
     /// A message.
     Message(MessageId),
-    /// That the other end is gone, and nothing is left to be received.
+    /// The other end is gone, and nothing is left to receive.
     Closed,
 }
 
-/// A case of a switch: where its endpoint is named, what it waits for there, the variables that take what the message brings for
-/// each of its parameters of the exchange heap, in order, and what is done then. What goes out of scope behind it, at the place of
-/// the token that follows, has these variables too.
+/// A case of a switch: its endpoint, what it waits for there, the variables that take what the message brings for
+/// each of its parameters of the exchange heap, in order, and the statements to run then. These variables, too, go
+/// out of scope after the case, at the place of the token that follows.
 #[cycle(statement)]
 #[derive(Drop)]
 pub struct Case {

@@ -1,4 +1,4 @@
-//! What variables of the exchange heap hold.
+//! Types of variables of the exchange heap.
 
 use crate::number::{ContractId, StateId, StructId};
 
@@ -17,15 +17,15 @@ pub enum Side {
     Exp,
 }
 
-/// What a variable of the exchange heap holds, by its type.
+/// The type of a variable of the exchange heap.
 #[derive(Clone, Copy, Debug, PartialEq, Eq)]
 pub enum HeapType {
     /// A struct.
     Struct(StructId),
-    /// An array of such elements.
+    /// An array of elements of this type.
     Array(Scalar),
-    /// An end of a channel of this contract, in the state that the type names, or else in the first one. Of a variable that is no
-    /// parameter the state says nothing: it must exist, and no more.
+    /// An end of a channel of this contract, in the state that the type names, or in the first state if it names
+    /// none. For a variable that is not a parameter the state only has to exist; it has no other meaning.
     Endpoint {
         contract: ContractId,
         side: Side,

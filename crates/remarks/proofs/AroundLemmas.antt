@@ -1,4 +1,4 @@
--- What is found in a list of trees, by their nodes in memory.
+-- Searches in a list of trees, by their nodes in memory.
 use Rattle.std.proofs.Common.{◌≡◌, ℕ, ◌+◌, Bool, Bor, true, false, cond, not, List, [], ◌∷◌, ◌++◌, length, map, reverse, Option, Some, None, sym, refl, ap, ◌∙◌, arith}
 use Rattle.std.specs.Prelude.{find, nat_lt, option_map, option_and_then, position, slice_get}
 use Rattle.std.specs.List.{position_or_len}
@@ -42,7 +42,7 @@ place_mapped f test (x ∷ xs) = ap (λ n. cond (not (test (f x))) (1 + n) 0) (p
 there : {X : Type 0} (xs : List X) (n : ℕ) → option_and_then (slice_get xs) (cond (nat_lt n (length xs)) (Some n) None) ≡ slice_get xs n
 there xs n = grind (arith, nat_tests, slice_get_past)
 
--- the element at the first place at which what is made of it passes a test
+-- the first element with an image that passes a test
 first_mapped : {X Y : Type 0} (f : X → Y) (test : Y → Bool) (xs : List X) → option_and_then (slice_get xs) (position test (map f xs)) ≡ find (λ x. test (f x)) xs
 first_mapped f test xs =
     ap (λ n. option_and_then (slice_get xs) (cond (nat_lt n (length (map f xs))) (Some n) None)) (place_mapped f test xs)

@@ -15,7 +15,7 @@ use Rattle.nearest.specs.Locals.{is_before, method_names}
 abbrev pub item_around : ProgramText → Place → Option ItemTree
 item_around p q = find (λ i. is_before (defined_name i.definition).place q) (reverse p.items)
 
--- the item before which so many stand, and without a number the one around a place
+-- the item of this number, which counts the items before it, or without a number the one around a place
 abbrev pub item_meant : ProgramText → Place → Option ℕ → Option ItemTree
 item_meant p q None = item_around p q
 item_meant p q (Some n) = slice_get p.items n
@@ -26,7 +26,7 @@ contract_meant p q n = option_and_then (λ i. as_contract i.definition) (item_me
 abbrev pub struct_meant : ProgramText → Place → Option ℕ → Option StructTree
 struct_meant p q n = option_and_then (λ i. as_struct i.definition) (item_meant p q n)
 
--- the class of this name, and without a name the one around a place
+-- the class of this name, or without a name the one around a place
 abbrev pub class_meant : ProgramText → Place → Option Span → Option ClassTree
 class_meant p q None = option_and_then (λ i. as_class i.definition) (item_around p q)
 class_meant p q (Some name) = option_and_then (λ c. Some c.1) (class_named p name)
@@ -35,8 +35,8 @@ class_meant p q (Some name) = option_and_then (λ c. Some c.1) (class_named p na
 abbrev pub method_around : ProgramText → Place → Option MethodTree
 method_around p q = option_and_then (λ c. find (λ m. is_before m.name.place q) (reverse c.methods)) (class_meant p q None)
 
--- The variables in scope at a place where so many are: within a declaration its own name is none of them. Where a name is declared twice,
--- the last may be left out.
+-- The `count` variables in scope at a place. Within a declaration, its own name is not among them. If a name
+-- is declared twice, the last may be left out.
 abbrev pub variables_at : ProgramText → Place → ℕ → List Span
 variables_at p q count = take count (option_map_or (method_names q) (method_around p q) [])
 

@@ -1,11 +1,11 @@
--- What more is said of a fault of a text.
+-- Remarks on faults of a text.
 use Rattle.std.specs.Prelude.{codes, Option, None}
 use Rattle.source.specs.Places.{first_place}
 use Rattle.source.specs.declared.fault.TextFault.{TextFault}
 use Rattle.source.specs.declared.fault.TextFault.TheVariants.{Stray, OpenComment, TooLong, TooDeep, TooLarge, Memory}
 use Rattle.remarks.specs.Remarks.{RemarkModel, at}
 
--- nothing of want of memory, which is no fault of the text
+-- the remark on a fault; none for `Memory`, which is no fault of the text
 abbrev pub fault_remark : TextFault → Option RemarkModel
 fault_remark (Stray place) = at place (codes "no blank, comment or token begins so")
 fault_remark (OpenComment place) = at place (codes "its end, */, is missing")

@@ -1,4 +1,4 @@
--- What code has in memory, in the words of the definitions.
+-- What the code has in memory, as values of the definitions.
 use Rattle.std.specs.Prelude.{List, map}
 use Rattle.source.specs.declared.token.Span.{Span}
 use Rattle.tree.specs.Trees.{DefinitionTree, item_tree}
@@ -12,7 +12,7 @@ use Rattle.remarks.specs.declared.listing.ItemListing.{ItemListing}
 abbrev pub program_model : ItemListing → ProgramText
 program_model l = record { text = l.text.now; items = map item_tree l.items.now }
 
--- the name of an item that is of a sort
+-- the name of an item, if it is of this sort
 abbrev pub name_of_sort : ItemSort → DefinitionTree → List Span
 name_of_sort sort.Contract d = contract_name d
 name_of_sort sort.Struct d = struct_name d

@@ -1,4 +1,4 @@
--- What more is said of a mistake in names or types.
+-- Remarks on mistakes in names or types.
 use Rattle.std.specs.Prelude.{ℕ, List, [], ◌++◌, codes, drop, Option, Some, option_and_then}
 use Rattle.std.specs.Fmt.{decimal}
 use Rattle.program.specs.declared.types.Side.{Side}
@@ -23,7 +23,7 @@ use Rattle.remarks.specs.declared.line.Remark.{Remark}
 use Rattle.std.specs.Str.Lossy.{utf8_lossy}
 use Rattle.tables.specs.Words.{word_at}
 
--- what is said, and where
+-- a remark: its place and its text
 pub record RemarkModel : Type 0 where
   pub place : Place
   pub text : List ℕ
@@ -49,7 +49,7 @@ mismatch_words p mismatch.SendStarted = codes "a method is started, not a send"
 mismatch_words p mismatch.LengthWritten = codes "the length of an array is read only"
 mismatch_words p mismatch.FieldOwns = codes "a field that owns is exchanged only"
 
--- what has a limit: a phrase before the number, and one behind it
+-- what has a limit: a phrase before the number, and one after it
 abbrev pub limit_front : Limit → List ℕ
 limit_front limit.Parameters = codes "a message has at most "
 limit_front limit.Fields = codes "a struct has at most "
@@ -64,7 +64,7 @@ limit_back limit.Fields = codes " fields that own"
 limit_back limit.Methods = codes " methods"
 limit_back limit.Variables = codes " variables of the exchange heap"
 
--- the word that is compared with the names of a sort, and what stands before such a name
+-- the word that is compared with the names of a sort, and what is written before such a name
 abbrev pub word_sought : ProgramText → Span → NameSort → List ℕ
 word_sought p name (sort.Sent n) = drop 4 (word_at p.text name)
 word_sought p name _ = word_at p.text name
@@ -79,12 +79,12 @@ near_remark p name s = option_and_then
     (λ near. at near.place (codes "the nearest name is " ++ (front_words s ++ cut_name (word_at p.text near))))
     (nearest_name p.text (word_sought p name s) (candidates p name.place s))
 
--- what more is said of a name of a sort that nothing declares
+-- the remark on a name of a sort that nothing declares
 abbrev pub unknown_remark : ProgramText → Span → NameSort → Option RemarkModel
 unknown_remark p name sort.Length = at name.place (codes "an array has only its Length")
 unknown_remark p name s = near_remark p name s
 
--- what more is said of a mistake
+-- the remark on a mistake
 abbrev pub remark_of : ProgramText → Mistake → Option RemarkModel
 remark_of p (mistake.DeclaredTwice name first) = at first (codes "declared here first")
 remark_of p (mistake.Unknown name sort) = unknown_remark p name sort

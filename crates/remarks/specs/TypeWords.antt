@@ -1,4 +1,4 @@
--- Types, and what is asked of something, in words.
+-- Types and demands in words.
 use Rattle.std.specs.Prelude.{ℕ, List, [], ◌++◌, codes, if◌then◌else◌, length, nat_lt, slice_get, take}
 use Rattle.std.specs.Option.{option_map_or}
 use Rattle.std.specs.Str.Lossy.{utf8_lossy}
@@ -18,7 +18,7 @@ use Rattle.tables.specs.Words.{word_at}
 abbrev pub cut_name : List ℕ → List ℕ
 cut_name word = if nat_lt MAX_NAME (length word) then utf8_lossy (take MAX_NAME word) ++ codes ".." else utf8_lossy word
 
--- the name of the item before which so many stand
+-- the name of the item of this number, which counts the items before it
 abbrev pub item_name : ProgramText → ℕ → List ℕ
 item_name p n = option_map_or (λ i. cut_name (word_at p.text (defined_name i.definition))) (slice_get p.items n) []
 
@@ -27,7 +27,7 @@ scalar_words Int = codes "int"
 scalar_words Byte = codes "byte"
 scalar_words Bool = codes "bool"
 
--- what is of this type
+-- a type in words
 abbrev pub type_words : ProgramText → ValueType → List ℕ
 type_words p (ty.Scalar s) = scalar_words s
 type_words p (ty.Pointer n) = codes "a block of " ++ item_name p n
@@ -37,7 +37,7 @@ type_words p (ty.Endpoint Exp n) = item_name p n ++ codes ".Exp"
 type_words p ty.Missing = codes "nothing"
 type_words p ty.Unknown = codes "something unknown"
 
--- what is asked
+-- a demand in words
 abbrev pub demand_words : ProgramText → Demand → List ℕ
 demand_words p (demand.OfType k) = type_words p k
 demand_words p demand.Number = codes "a number"

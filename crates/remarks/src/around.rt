@@ -1,4 +1,4 @@
-//! What stands around a place of the text, and what an item is.
+//! The item and the method around a place of the text, and items by what they declare.
 
 ghost use Rattle.std.specs.Prelude.{◌≡◌, find, map, option_and_then, option_map, reverse};
 ghost use Rattle.std.specs.Prelude.{slice_get};
@@ -17,7 +17,7 @@ use source::{Place, Span};
 use tree::{Class, Contract, Definition, Item, Method, Struct};
 
 impl<'a> ItemListing<'a> {
-    /// The contract before which so many items stand, and without a number the one around a place.
+    /// Returns the contract that is the item of this number, or without a number the one around a place.
     pub(crate) fn contract_meant(&self, place: Place, number: Option<usize>) -> Option<&'a Contract>
         ensures { option_map (λ c. contract_tree c.now) result
             ≡ contract_meant (program_model self.now) place number }
@@ -25,7 +25,7 @@ impl<'a> ItemListing<'a> {
         as_contract(&self.item_meant(place, number)?.definition)
     }
 
-    /// The struct before which so many items stand, and without a number the one around a place.
+    /// Returns the struct that is the item of this number, or without a number the one around a place.
     pub(crate) fn struct_meant(&self, place: Place, number: Option<usize>) -> Option<&'a Struct>
         ensures { option_map (λ s. struct_tree s.now) result
             ≡ struct_meant (program_model self.now) place number }
@@ -33,7 +33,7 @@ impl<'a> ItemListing<'a> {
         as_struct(&self.item_meant(place, number)?.definition)
     }
 
-    /// The class of a name, and without a name the one around a place.
+    /// Returns the class of this name, or without a name the one around a place.
     pub(crate) fn class_meant(&self, place: Place, name: Option<Span>) -> Option<&'a Class>
         ensures { option_map (λ c. class_tree c.now) result
             ≡ class_meant (program_model self.now) place name }
@@ -44,7 +44,7 @@ impl<'a> ItemListing<'a> {
         }
     }
 
-    /// The method around a place: the last of its class that is named before it.
+    /// Returns the method around a place: the last of its class that is named before it.
     pub(crate) fn method_around(&self, place: Place) -> Option<&'a Method>
         ensures { option_map (λ m. method_tree m.now) result
             ≡ method_around (program_model self.now) place }
@@ -52,7 +52,7 @@ impl<'a> ItemListing<'a> {
         last_method(&self.class_meant(place, None)?.methods, place)
     }
 
-    /// The item before which so many stand, and without a number the one around a place.
+    /// Returns the item of this number, which counts the items before it, or without a number the one around a place.
     fn item_meant(&self, place: Place, number: Option<usize>) -> Option<&'a Item>
         ensures { option_map (λ i. item_tree i.now) result
             ≡ item_meant (program_model self.now) place number }
@@ -63,7 +63,7 @@ impl<'a> ItemListing<'a> {
         }
     }
 
-    /// The item around a place: the last that is named before it.
+    /// Returns the item around a place: the last that is named before it.
     fn item_around(&self, place: Place) -> Option<&'a Item>
         ensures { option_map (λ i. item_tree i.now) result
             ≡ item_around (program_model self.now) place }
@@ -74,7 +74,7 @@ impl<'a> ItemListing<'a> {
             .find(|item| is_before(item.definition.name().place, place))
     }
 
-    /// The first item of a name.
+    /// Returns the first item of this name.
     fn item_named(&self, name: Span) -> Option<&'a Item>
         ensures { option_map (λ i. item_tree i.now) result
             ≡ option_and_then (slice_get (program_model self.now).items)
@@ -87,7 +87,7 @@ impl<'a> ItemListing<'a> {
     }
 }
 
-/// The last of these methods that is named before a place.
+/// Returns the last of these methods that is named before a place.
 fn last_method(methods: &[Method], place: Place) -> Option<&Method>
     ensures { option_map (λ m. method_tree m.now) result
         ≡ find (λ m. is_before m.name.place place) (reverse (map method_tree methods.now)) }
@@ -98,7 +98,7 @@ fn last_method(methods: &[Method], place: Place) -> Option<&Method>
         .find(|method| is_before(method.name.place, place))
 }
 
-/// A definition as a contract, if it is one.
+/// Returns a definition as a contract, if it is one.
 fn as_contract(definition: &Definition) -> Option<&Contract>
     ensures { option_map (λ c. contract_tree c.now) result
         ≡ as_contract (definition_tree definition.now) }
@@ -109,7 +109,7 @@ fn as_contract(definition: &Definition) -> Option<&Contract>
     }
 }
 
-/// A definition as a struct, if it is one.
+/// Returns a definition as a struct, if it is one.
 fn as_struct(definition: &Definition) -> Option<&Struct>
     ensures { option_map (λ s. struct_tree s.now) result
         ≡ as_struct (definition_tree definition.now) }
@@ -120,7 +120,7 @@ fn as_struct(definition: &Definition) -> Option<&Struct>
     }
 }
 
-/// A definition as a class, if it is one.
+/// Returns a definition as a class, if it is one.
 fn as_class(definition: &Definition) -> Option<&Class>
     ensures { option_map (λ c. class_tree c.now) result
         ≡ as_class (definition_tree definition.now) }

@@ -27,7 +27,7 @@ pub(crate) enum ItemSort {
 }
 
 impl ItemListing<'_> {
-    /// The names of a sort that are declared for a place. Returns `Memory` if a growth is refused.
+    /// Returns the names of a sort that are declared for a place. Returns `Memory` if an allocation was refused.
     pub(crate) fn candidates(
         &self,
         alloc: Global,
@@ -51,7 +51,7 @@ impl ItemListing<'_> {
         }
     }
 
-    /// The variables in scope at a place where so many are. Returns `Memory` if a growth is refused.
+    /// Returns the `count` variables in scope at a place. Returns `Memory` if an allocation was refused.
     fn variables_at(&self, alloc: Global, place: Place, count: usize) -> Result<Vec<Span>, Memory>
         ensures { IfOk result (λ names. names.items
             ≡ variables_at (program_model self.now) place count) }
@@ -64,8 +64,8 @@ impl ItemListing<'_> {
         Ok(names)
     }
 
-    /// The variables in scope at a place where so many are, and the classes. Returns `Memory` if a
-    /// growth is refused.
+    /// Returns the `count` variables in scope at a place, and the classes. Returns `Memory` if an allocation
+    /// was refused.
     fn fronts_at(&self, alloc: Global, place: Place, count: usize) -> Result<Vec<Span>, Memory>
         ensures { IfOk result (λ names. names.items
             ≡ variables_at (program_model self.now) place count
@@ -77,7 +77,7 @@ impl ItemListing<'_> {
         Ok(names)
     }
 
-    /// The names of the items of a sort. Returns `Memory` if a growth is refused.
+    /// Returns the names of the items of a sort. Returns `Memory` if an allocation was refused.
     fn item_names(&self, alloc: Global, sort: ItemSort) -> Result<Vec<Span>, Memory>
         ensures { IfOk result (λ names. names.items
             ≡ flat_map (λ i. name_of_sort sort i.definition) (program_model self.now).items) }
@@ -87,7 +87,7 @@ impl ItemListing<'_> {
         Ok(names)
     }
 
-    /// Adds the names of the items of a sort. Returns `Memory` if a growth is refused.
+    /// Appends the names of the items of a sort. Returns `Memory` if an allocation was refused.
     fn add_items(&self, names: &mut Vec<Span>, sort: ItemSort) -> Result<(), Memory>
         ensures { OnOk result (names.new.items ≡ names.old.items
             ++ flat_map (λ i. name_of_sort sort i.definition) (program_model self.now).items) }
@@ -101,7 +101,7 @@ impl ItemListing<'_> {
     }
 }
 
-/// The name that a definition declares, if it is of this sort.
+/// Returns the name that a definition declares, if it is of this sort.
 fn name_of_sort(definition: &Definition, sort: ItemSort) -> Option<Span>
     ensures { option_to_list result ≡ name_of_sort sort (definition_tree definition.now) }
 {
@@ -113,7 +113,7 @@ fn name_of_sort(definition: &Definition, sort: ItemSort) -> Option<Span>
     }
 }
 
-/// The names of the methods of a class, if there is one. Returns `Memory` if a growth is refused.
+/// Returns the names of the methods of a class, if there is one. Returns `Memory` if an allocation was refused.
 fn method_names(alloc: Global, class: Option<&Class>) -> Result<Vec<Span>, Memory>
     ensures { IfOk result (λ names. names.items
         ≡ option_map_or (λ c. map (λ m. m.name) c.methods)
@@ -129,7 +129,7 @@ fn method_names(alloc: Global, class: Option<&Class>) -> Result<Vec<Span>, Memor
     Ok(names)
 }
 
-/// The names of the fields of a struct, if there is one. Returns `Memory` if a growth is refused.
+/// Returns the names of the fields of a struct, if there is one. Returns `Memory` if an allocation was refused.
 fn field_names(alloc: Global, structure: Option<&Struct>) -> Result<Vec<Span>, Memory>
     ensures { IfOk result (λ names. names.items
         ≡ option_map_or (λ s. map (λ f. f.name) s.fields)
@@ -145,7 +145,7 @@ fn field_names(alloc: Global, structure: Option<&Struct>) -> Result<Vec<Span>, M
     Ok(names)
 }
 
-/// The names of the states of a contract, if there is one. Returns `Memory` if a growth is refused.
+/// Returns the names of the states of a contract, if there is one. Returns `Memory` if an allocation was refused.
 fn state_names(alloc: Global, contract: Option<&Contract>) -> Result<Vec<Span>, Memory>
     ensures { IfOk result (λ names. names.items
         ≡ option_map_or (λ c. names_of_states (states_of c))
@@ -160,7 +160,7 @@ fn state_names(alloc: Global, contract: Option<&Contract>) -> Result<Vec<Span>, 
     Ok(names)
 }
 
-/// Adds the names of the states among these members. Returns `Memory` if a growth is refused.
+/// Appends the names of the states among these members. Returns `Memory` if an allocation was refused.
 fn add_states(names: &mut Vec<Span>, members: &[Member]) -> Result<(), Memory>
     ensures { OnOk result (names.new.items ≡ names.old.items
         ++ names_of_states (flat_map state_among (map member_tree members.now))) }
@@ -173,7 +173,7 @@ fn add_states(names: &mut Vec<Span>, members: &[Member]) -> Result<(), Memory>
     Ok(())
 }
 
-/// The names of the messages of a contract, if there is one. Returns `Memory` if a growth is refused.
+/// Returns the names of the messages of a contract, if there is one. Returns `Memory` if an allocation was refused.
 fn message_names(alloc: Global, contract: Option<&Contract>) -> Result<Vec<Span>, Memory>
     ensures { IfOk result (λ names. names.items
         ≡ option_map_or (λ c. names_of_messages (messages_of c))
@@ -190,7 +190,7 @@ fn message_names(alloc: Global, contract: Option<&Contract>) -> Result<Vec<Span>
     Ok(names)
 }
 
-/// Adds the names of the messages among these members. Returns `Memory` if a growth is refused.
+/// Appends the names of the messages among these members. Returns `Memory` if an allocation was refused.
 fn add_messages(names: &mut Vec<Span>, members: &[Member]) -> Result<(), Memory>
     ensures { OnOk result (names.new.items ≡ names.old.items
         ++ names_of_messages (flat_map message_among (map member_tree members.now))) }

@@ -1,4 +1,4 @@
-//! What more is said of a fault of the text.
+//! Remarks on faults of the text.
 
 ghost use Rattle.std.specs.Prelude.{◌≡◌, IfOk, option_map};
 ghost use Rattle.remarks.specs.FaultRemarks.{fault_remark};
@@ -8,11 +8,11 @@ use crate::line::{Remark, plain};
 use source::{Memory, Place, TextFault};
 use std::alloc::Global;
 
-/// Where a text begins.
+/// The place of the first byte of a text.
 const START: Place = Place { line: 1, col: 1 };
 
-/// What more is said of a fault of the text: what is missing, or how much is allowed. Returns `None` for `TextFault::Memory`, which is no
-/// fault of the text. Returns `Memory` if an allocation is refused.
+/// Returns the remark on a fault of the text: what is missing, or how much is allowed. Returns `None` for
+/// `TextFault::Memory`, which is no fault of the text. Returns `Memory` if an allocation was refused.
 pub fn fault_remark(alloc: Global, fault: TextFault) -> Result<Option<Remark>, Memory>
     ensures { IfOk result (λ said. option_map remark_model said ≡ fault_remark fault) }
 {

@@ -1,4 +1,4 @@
-//! What more is said of a finding of the text or of its names.
+//! Remarks on findings about the text or its names.
 #![tactic(auto)]
 
 mod around;

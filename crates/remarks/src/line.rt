@@ -1,4 +1,4 @@
-//! A remark: one more line about a finding, and the pieces of its text.
+//! A remark, which is one more line about a finding, and the parts of its text.
 
 ghost use Rattle.std.specs.Prelude.{◌≡◌, ◌++◌, IfOk, OnOk, option_map, string_bytes};
 ghost use Rattle.std.specs.Fmt.{decimal};
@@ -8,21 +8,21 @@ use itoa::Buffer;
 use source::{Memory, Place};
 use std::alloc::Global;
 
-/// What more is said of a finding, in one line, and the place that the line is about.
+/// One more line about a finding, and the place that the line is about.
 #[derive(Drop)]
 pub struct Remark {
     pub place: Place,
     pub text: Vec<u8>,
 }
 
-/// A remark with this text. Returns `Memory` if an allocation is refused.
+/// Returns a remark with this text. Returns `Memory` if an allocation was refused.
 pub(crate) fn plain(alloc: Global, place: Place, text: &str) -> Result<Option<Remark>, Memory>
     ensures { IfOk result (λ said. option_map remark_model said ≡ at place text.now) }
 {
     Ok(remark_at(place, String::from_str(alloc, text)?))
 }
 
-/// A remark with this text, which it takes.
+/// Returns a remark that owns this text.
 pub(crate) fn remark_at(place: Place, text: String) -> Option<Remark>
     ensures { option_map remark_model result ≡ at place (string_bytes text) }
 {
@@ -32,7 +32,7 @@ pub(crate) fn remark_at(place: Place, text: String) -> Option<Remark>
     })
 }
 
-/// Adds words to a text. Returns `Memory` if a growth is refused.
+/// Appends words to a text. Returns `Memory` if an allocation was refused.
 pub(crate) fn add(text: &mut String, words: &str) -> Result<(), Memory>
     ensures { OnOk result (string_bytes text.new ≡ string_bytes text.old ++ words.now) }
 {
@@ -40,7 +40,7 @@ pub(crate) fn add(text: &mut String, words: &str) -> Result<(), Memory>
     Ok(())
 }
 
-/// Adds a number in decimal. Returns `Memory` if a growth is refused.
+/// Appends a number in decimal. Returns `Memory` if an allocation was refused.
 pub(crate) fn add_number(text: &mut String, number: usize) -> Result<(), Memory>
     ensures { OnOk result (string_bytes text.new ≡ string_bytes text.old ++ decimal number) }
 {

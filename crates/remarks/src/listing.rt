@@ -9,7 +9,7 @@ use source::{Memory, Span, texts};
 use std::alloc::Global;
 use tree::Item;
 
-/// The most bytes that are printed of the name of an item.
+/// The length in bytes to which a long name is cut.
 pub const MAX_NAME: usize = 60;
 
 /// A text, and the items of its tree in order.
@@ -20,7 +20,8 @@ pub(crate) struct ItemListing<'a> {
 }
 
 impl ItemListing<'_> {
-    /// Adds a name of the text. Bytes that are no UTF-8 are printed as U+FFFD. Returns `Memory` if a growth is refused.
+    /// Appends a name of the text, with U+FFFD for bytes that are not UTF-8. Returns `Memory` if an allocation was
+    /// refused.
     pub(crate) fn add_name(
         &self,
         alloc: Global,
@@ -32,7 +33,8 @@ impl ItemListing<'_> {
         texts::push_name(alloc, text, name.slice(self.text))
     }
 
-    /// Adds the name of the item with this index, cut if it is long, or nothing if there is none. Returns `Memory` if a growth is refused.
+    /// Appends the name of the item with this index, cut if it is long, or nothing if there is none. Returns
+    /// `Memory` if an allocation was refused.
     pub(crate) fn add_item(
         &self,
         alloc: Global,
@@ -48,7 +50,8 @@ impl ItemListing<'_> {
     }
 }
 
-/// Adds a name, or as much of it as is printed and two dots. Returns `Memory` if a growth is refused.
+/// Appends a name, or its first `MAX_NAME` bytes and two dots if it is longer. Returns `Memory` if an allocation
+/// was refused.
 pub(crate) fn add_cut(alloc: Global, text: &mut String, word: &[u8]) -> Result<(), Memory>
     ensures { OnOk result (string_bytes text.new ≡ string_bytes text.old ++ cut_name word.now) }
 {

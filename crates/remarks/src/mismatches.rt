@@ -1,4 +1,4 @@
-//! Why a type is wrong, added to a text.
+//! Texts for wrong types.
 
 ghost use Rattle.std.specs.Prelude.{◌≡◌, ◌++◌, OnOk, codes, drop, string_bytes};
 ghost use Rattle.std.specs.Str.Lossy.{utf8_lossy};
@@ -17,10 +17,10 @@ use program::Side;
 use source::{Memory, Span, texts};
 use std::alloc::Global;
 
-/// How many bytes `Send` has, after which the name of the message begins.
+/// The length of `Send`, after which the name of the message begins.
 const SEND_LEN: usize = 4;
 
-/// Adds why a type is wrong. Returns `Memory` if a growth is refused.
+/// Appends why a type is wrong. Returns `Memory` if an allocation was refused.
 pub(crate) fn add_mismatch(
     alloc: Global,
     text: &mut String,
@@ -45,7 +45,7 @@ pub(crate) fn add_mismatch(
     }
 }
 
-/// Adds what is asked, and the type that is given. Returns `Memory` if a growth is refused.
+/// Appends what is asked and the type that is given. Returns `Memory` if an allocation was refused.
 fn add_given(
     alloc: Global,
     text: &mut String,
@@ -63,7 +63,8 @@ fn add_given(
     add_type(alloc, text, listing, given)
 }
 
-/// Adds which end does not send which message: the one whose name is after `Send` in this word. Returns `Memory` if a growth is refused.
+/// Appends which end does not send which message: the one named after `Send` in this word. Returns `Memory` if an
+/// allocation was refused.
 fn add_not_sent(
     alloc: Global,
     text: &mut String,
@@ -79,14 +80,14 @@ fn add_not_sent(
     texts::push_name(alloc, text, after_send(word.slice(listing.text)))
 }
 
-/// What a word has after `Send`.
+/// Returns the part of a word after `Send`, or an empty slice if the word is shorter.
 pub(crate) fn after_send(word: &[u8]) -> &[u8]
     ensures { result.now ≡ drop 4 word.now }
 {
     word.get(SEND_LEN..).unwrap_or(&[])
 }
 
-/// Adds which end does not receive which message. Returns `Memory` if a growth is refused.
+/// Appends which end does not receive which message. Returns `Memory` if an allocation was refused.
 fn add_not_received(
     alloc: Global,
     text: &mut String,

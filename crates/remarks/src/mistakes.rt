@@ -1,4 +1,4 @@
-//! What more is said of a mistake in names or types.
+//! Remarks on mistakes in names or types.
 
 ghost use Rattle.std.specs.Prelude.{◌≡◌, ◌++◌, IfOk, codes, map, option_map, string_bytes};
 ghost use Rattle.std.specs.Fmt.{decimal};
@@ -18,9 +18,9 @@ use source::{Memory, Span};
 use std::alloc::Global;
 use tree::Item;
 
-/// What more is said of a mistake in names or types, in the text whose tree has these items: for example what is asked and what is given,
-/// or where a name is declared first. Returns `None` for a name that nothing declares where no name that could be meant is near.
-/// Returns `Memory` if an allocation is refused.
+/// Returns the remark on a mistake in names or types, in the text whose tree has these items: for example what is
+/// asked and what is given, or where a name is declared first. Returns `None` for a name that nothing declares if
+/// no name that could be meant is near. Returns `Memory` if an allocation was refused.
 pub fn remark(
     alloc: Global,
     text: &[u8],
@@ -59,7 +59,7 @@ pub fn remark(
     }
 }
 
-/// Why a type is wrong. Returns `Memory` if an allocation is refused.
+/// Returns why a type is wrong. Returns `Memory` if an allocation was refused.
 fn mismatch_text(alloc: Global, listing: &ItemListing<'_>, why: Mismatch) -> Result<String, Memory>
     ensures { IfOk result (λ text. string_bytes text ≡ mismatch_words (program_model listing.now) why) }
 {
@@ -68,7 +68,7 @@ fn mismatch_text(alloc: Global, listing: &ItemListing<'_>, why: Mismatch) -> Res
     Ok(text)
 }
 
-/// How many arguments are asked, and how many are given. Returns `Memory` if an allocation is refused.
+/// Returns how many arguments are asked and how many are given. Returns `Memory` if an allocation was refused.
 fn number_text(alloc: Global, asked: usize, given: usize) -> Result<String, Memory>
     ensures { IfOk result (λ text. string_bytes text
         ≡ codes "asked for " ++ (decimal asked ++ (codes ", given " ++ decimal given))) }
@@ -80,7 +80,7 @@ fn number_text(alloc: Global, asked: usize, given: usize) -> Result<String, Memo
     Ok(text)
 }
 
-/// What is limited, and to how many. Returns `Memory` if an allocation is refused.
+/// Returns what is limited, and to how many. Returns `Memory` if an allocation was refused.
 fn limit_text(alloc: Global, limit: Limit) -> Result<String, Memory>
     ensures { IfOk result (λ text. string_bytes text
         ≡ limit_front limit ++ (decimal (most_of limit) ++ limit_back limit)) }
@@ -91,7 +91,7 @@ fn limit_text(alloc: Global, limit: Limit) -> Result<String, Memory>
     Ok(text)
 }
 
-/// Which case an endpoint lacks. Returns `Memory` if an allocation is refused.
+/// Returns which case an endpoint lacks. Returns `Memory` if an allocation was refused.
 fn closed_text(alloc: Global, listing: &ItemListing<'_>, name: Span) -> Result<String, Memory>
     ensures { IfOk result (λ text. string_bytes text
         ≡ codes "asked for case " ++ (printed_name listing.now.text.now name ++ codes ".ChannelClosed()")) }

@@ -1,4 +1,4 @@
-//! Types, and what is asked of something, added to a text.
+//! Texts for types and demands.
 
 ghost use Rattle.std.specs.Prelude.{◌≡◌, ◌++◌, OnOk, string_bytes};
 ghost use Rattle.remarks.specs.TypeWords.{demand_words, type_words};
@@ -12,7 +12,7 @@ use program::Side;
 use source::Memory;
 use std::alloc::Global;
 
-/// Adds what is of this type. Returns `Memory` if a growth is refused.
+/// Appends a type in words. Returns `Memory` if an allocation was refused.
 pub(crate) fn add_type(
     alloc: Global,
     text: &mut String,
@@ -45,7 +45,7 @@ pub(crate) fn add_type(
     }
 }
 
-/// Adds what is asked. Returns `Memory` if a growth is refused.
+/// Appends a demand in words. Returns `Memory` if an allocation was refused.
 pub(crate) fn add_demand(
     alloc: Global,
     text: &mut String,

@@ -1,4 +1,4 @@
-//! What more is said of a name that nothing declares.
+//! Remarks on names that nothing declares.
 
 ghost use Rattle.std.specs.Prelude.{◌≡◌, ◌++◌, IfOk, codes, option_map, string_bytes};
 ghost use Rattle.remarks.specs.TypeWords.{cut_name};
@@ -16,8 +16,9 @@ use nearest::nearest;
 use source::{Memory, Span};
 use std::alloc::Global;
 
-/// What more is said of a name of a sort that nothing declares: the nearest that could be meant,
-/// where that is declared. Returns `Memory` if an allocation is refused.
+/// Returns the remark on a name of a sort that nothing declares: the nearest name that could be meant, at its
+/// declaration, or for `NameSort::Length` that an array has only its `Length`. Returns `Memory` if an allocation
+/// was refused.
 pub(crate) fn unknown_remark(
     alloc: Global,
     listing: &ItemListing<'_>,
@@ -33,8 +34,8 @@ pub(crate) fn unknown_remark(
     }
 }
 
-/// The nearest of the names that could be meant, if one is near. Returns `Memory` if an allocation
-/// is refused.
+/// Returns a remark with the nearest of the names that could be meant, if one is near. Returns `Memory` if an
+/// allocation was refused.
 fn near_remark(
     alloc: Global,
     listing: &ItemListing<'_>,
@@ -51,7 +52,7 @@ fn near_remark(
     }
 }
 
-/// The word that is compared with the names of a sort.
+/// Returns the word that is compared with the names of a sort: for a sent message the part after `Send`, else the name.
 fn word_sought<'a>(listing: &ItemListing<'a>, name: Span, sort: NameSort) -> &'a [u8]
     ensures { result.now ≡ word_sought (program_model listing.now) name sort }
 {
@@ -62,7 +63,7 @@ fn word_sought<'a>(listing: &ItemListing<'a>, name: Span, sort: NameSort) -> &'a
     }
 }
 
-/// Which name of a sort is the nearest. Returns `Memory` if an allocation is refused.
+/// Returns the text that names the nearest name of a sort. Returns `Memory` if an allocation was refused.
 fn near_text(
     alloc: Global,
     listing: &ItemListing<'_>,

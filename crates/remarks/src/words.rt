@@ -1,4 +1,4 @@
-//! Words that need no name of the text.
+//! Words that contain no name of the text.
 
 ghost use Rattle.std.specs.Prelude.{◌≡◌};
 ghost use Rattle.remarks.specs.TypeWords.{scalar_words};
@@ -7,7 +7,7 @@ ghost use Rattle.remarks.specs.Remarks.{front_words, limit_back, limit_front, si
 use declarations::{Limit, NameSort};
 use program::{Scalar, Side};
 
-/// A scalar type as it is written.
+/// Returns a scalar type as it is written.
 pub(crate) fn scalar_words(scalar: Scalar) -> &'static str
     ensures { result.now ≡ scalar_words scalar }
 {
@@ -18,7 +18,7 @@ pub(crate) fn scalar_words(scalar: Scalar) -> &'static str
     }
 }
 
-/// An end of a channel as a person reads it.
+/// Returns an end of a channel as a person reads it.
 pub(crate) fn side_words(side: Side) -> &'static str
     ensures { result.now ≡ side_words side }
 {
@@ -28,7 +28,7 @@ pub(crate) fn side_words(side: Side) -> &'static str
     }
 }
 
-/// What has a limit: the words before its number.
+/// Returns what has a limit: the words before its number.
 pub(crate) fn limit_front(limit: Limit) -> &'static str
     ensures { result.now ≡ limit_front limit }
 {
@@ -40,7 +40,7 @@ pub(crate) fn limit_front(limit: Limit) -> &'static str
     }
 }
 
-/// What is limited: the words after the number.
+/// Returns what is limited: the words after the number.
 pub(crate) fn limit_back(limit: Limit) -> &'static str
     ensures { result.now ≡ limit_back limit }
 {
@@ -54,7 +54,7 @@ pub(crate) fn limit_back(limit: Limit) -> &'static str
     }
 }
 
-/// What stands before a name of this sort where it is used.
+/// Returns what is written before a name of this sort when it is used.
 pub(crate) fn front_words(sort: NameSort) -> &'static str
     ensures { result.now ≡ front_words sort }
 {

@@ -10,7 +10,7 @@ use Rattle.replays.specs.Fronts.{BeginsWith, StopsAt, is_space}
 use Rattle.replays.specs.Schedules.{IsEventLine}
 use Rattle.replays.proofs.FrontLemmas.{begins_once, number_no_space, spaces_are, spaces_end}
 
--- what stands behind the first number of a line of an event
+-- what follows the first number in the line of an event
 abbrev pub behind_first : (line : List ℕ) (e : Event) → IsEventLine line e → List ℕ
 behind_first line e l = replicate l.spaces 32 ++ l.second
 
@@ -18,14 +18,14 @@ spaces_stop : (n : ℕ) (rest : List ℕ) → 0 < n → StopsAt is_ascii_digit (
 spaces_stop zero rest h = absurd (omega arith)
 spaces_stop (suc n) rest h = refl
 
--- a line of an event begins with the number of its process
+-- the line of an event begins with the number of its process
 pub line_begins : (line : List ℕ) (e : Event) (l : IsEventLine line e) → BeginsWith line e.process (behind_first line e l)
 line_begins line e l = record { digits = l.first; number = l.process; are = l.spelled; stops = spaces_stop l.spaces l.second l.some }
 
 second_stops : (line : List ℕ) (e : Event) (l : IsEventLine line e) → StopsAt is_space l.second
 second_stops line e l = subst (StopsAt is_space) (append-nil l.second) (number_no_space l.second [] e.choice l.choice)
 
--- and behind that stand its spaces, and the choice
+-- after that number come its spaces, and then the choice
 pub behind_spaces : (line : List ℕ) (e : Event) (l : IsEventLine line e) → prefix_len is_space (behind_first line e l) ≡ l.spaces
 behind_spaces line e l = spaces_end l.spaces l.second (second_stops line e l)
 
@@ -35,7 +35,7 @@ behind_begins line e l = subst (λ b. BeginsWith b e.choice []) (sym is) record 
     is : drop (prefix_len is_space (behind_first line e l)) (behind_first line e l) ≡ l.second
     is = ap (λ k. drop k (behind_first line e l)) (behind_spaces line e l ∙ sym (length-replicate l.spaces 32)) ∙ drop-append_seam (replicate l.spaces 32) l.second
 
--- what a line of an event has behind a number at its front
+-- what the line of an event has after the number at its front
 pub record EventBehind (n : ℕ) (rest : List ℕ) (e : Event) : Type 0 where
   pub process : n ≡ e.process
   pub some : 0 < prefix_len is_space rest
@@ -50,7 +50,7 @@ event_behind line e n rest l b =
       choice = subst (λ r. BeginsWith (drop (prefix_len is_space r) r) e.choice []) (sym once.1) (behind_begins line e l);
     }
 
--- a number, spaces and a number are a line of an event
+-- a number, spaces and a number are the line of an event
 pub an_event : (line rest : List ℕ) (process choice : ℕ) → BeginsWith line process rest → 0 < prefix_len is_space rest → BeginsWith (drop (prefix_len is_space rest) rest) choice [] → IsEventLine line (record { process = process; choice = choice })
 an_event line rest process choice a some b = record {
   first = a.digits;
@@ -62,7 +62,7 @@ an_event line rest process choice a some b = record {
   choice = b.number;
 }
 
--- a line tells one event
+-- a line has one event
 pub one_event : (line : List ℕ) (e f : Event) → IsEventLine line e → IsEventLine line f → e ≡ f
 one_event line e f l m =
     let b = event_behind line f e.process (behind_first line e l) m (line_begins line e l) in
@@ -72,12 +72,12 @@ one_event line e f l m =
     the_event : ℕ → ℕ → Event
     the_event p q = record { process = p; choice = q }
 
--- what holds at all holds where there is nothing
+-- an unconditional fact holds in particular if there is nothing
 pub at_none : {X P : Type 0} (r : Option X) → P → IfNone r P
 at_none None p = p
 at_none (Some x) p = tt
 
--- a list without length is empty, and one that has some is not
+-- a list of length 0 is empty, and one of any other length is not
 pub no_length : (xs : List ℕ) → (length xs == 0) ≡ true → xs ≡ []
 no_length [] e = refl
 no_length (x ∷ xs) e = absurd (omega (arith, eqb-true (length (x ∷ xs)) 0 e))

@@ -1,4 +1,4 @@
--- Lines and pieces in a row, one more at the end.
+-- Lines and pieces in order, one more at the end.
 use Rattle.std.proofs.Common.{◌≡◌, ◌<◌, ◌+◌, ℕ, Bool, cond, List, [], ◌∷◌, ◌++◌, length, map, take, get_or, refl, ap, sym, ◌∙◌, arith, append_assoc, append-nil, add-zero, lt-ltb}
 use Rattle.std.proofs.lemmas.Grind.{flat_map-append}
 use Rattle.std.proofs.lemmas.List.{length-map, length-take-le, map-append, take_more}
@@ -15,7 +15,7 @@ view_more view xs i d x lt is = ap (map view) (take_more xs i d lt) ∙ map-appe
 so_many : {A X : Type 0} (view : A → X) (xs : List A) (i : ℕ) → i < length xs → length (map view (take i xs)) ≡ i
 so_many view xs i lt = length-map (take i xs) view ∙ length-take-le i xs (omega arith)
 
--- a line more
+-- one more line
 pub line_more : {A X : Type 0} (view : A → X) (f : ℕ × X → List ℕ) (old answer new : List ℕ) (xs : List A) (i : ℕ) (d x : A) → i < length xs → x ≡ get_or xs i d
     → answer ≡ old ++ flat_map f (enumerate_from 0 (map view (take i xs))) → new ≡ answer ++ f (i, view x) → new ≡ old ++ flat_map f (enumerate_from 0 (map view (take (i + 1) xs)))
 line_more view f old answer new xs i d x lt is before e =
@@ -39,7 +39,7 @@ join_push c (x ∷ z ∷ xs) y = ap (λ l. x ++ (c ∷ l)) (join_push c (z ∷ x
     ∙ sym (append_assoc x (c ∷ join_with_byte c (z ∷ xs)) (separator (length (z ∷ xs)) c ++ y))
     ∙ ap (λ s. (x ++ (c ∷ join_with_byte c (z ∷ xs))) ++ (s ++ y)) (before_some (length (z ∷ xs)) c (omega arith) ∙ sym (before_some (length (x ∷ z ∷ xs)) c (omega arith)))
 
--- a piece more
+-- one more piece, after its separator
 pub piece_more : {A : Type 0} (view : A → List ℕ) (c : ℕ) (old answer between new : List ℕ) (xs : List A) (i : ℕ) (d x : A) → i < length xs → x ≡ get_or xs i d
     → answer ≡ old ++ join_with_byte c (map view (take i xs)) → between ≡ answer ++ separator i c → new ≡ between ++ view x → new ≡ old ++ join_with_byte c (map view (take (i + 1) xs))
 piece_more view c old answer between new xs i d x lt is before sep e =
@@ -49,12 +49,12 @@ piece_more view c old answer between new xs i d x lt is before sep e =
     e ∙ ap (λ l. l ++ view x) (sep ∙ ap (λ a. a ++ separator i c) before)
     ∙ append_assoc (old ++ pieces) (separator i c) (view x) ∙ append_assoc old pieces (separator i c ++ view x) ∙ ap (λ l. old ++ l) (sym joined)
 
--- a view of views
+-- two maps in sequence are one
 pub map_twice : {A B C : Type 0} (f : B → C) (g : A → B) (xs : List A) → map f (map g xs) ≡ map (λ x. f (g x)) xs
 map_twice f g [] = refl
 map_twice f g (x ∷ xs) = ap (λ l. f (g x) ∷ l) (map_twice f g xs)
 
--- four pieces in a row
+-- four pieces appended in turn
 pub four_added : (a b c d x y z w : List ℕ) → x ≡ [] → y ≡ x ++ a → z ≡ y ++ b → w ≡ z ++ c → (v : List ℕ) → v ≡ w ++ d → v ≡ a ++ (b ++ (c ++ d))
 four_added a b c d x y z w e f g h v k =
     k ∙ ap (λ l. l ++ d) (h ∙ ap (λ l. l ++ c) (g ∙ ap (λ l. l ++ b) (f ∙ ap (λ l. l ++ a) e)))

@@ -8,7 +8,7 @@ use Rattle.replays.specs.Schedules.{IsEventLine, IsFirstMalformed, IsMalformed, 
 use Rattle.replays.specs.declared.limits.TheConstants.{MOST_SCHEDULE}
 use Rattle.replays.proofs.EventLemmas.{one_event}
 
--- lines tell their events and no others
+-- lines have one list of events
 pub tell_once : (lines : List (List ℕ)) (a b : List Event) → Tell lines a → Tell lines b → a ≡ b
 tell_once [] [] [] h k = refl
 tell_once [] [] (f ∷ fs) h k = absurd k
@@ -18,13 +18,13 @@ tell_once ((c ∷ cs) ∷ lines) [] b h k = absurd h
 tell_once ((c ∷ cs) ∷ lines) (e ∷ es) [] h k = absurd k
 tell_once ((c ∷ cs) ∷ lines) (e ∷ es) (f ∷ fs) h k = ap₂ (λ x xs. x ∷ xs) (one_event (c ∷ cs) e f h.0 k.0) (tell_once lines es fs h.1 k.1)
 
--- the lines behind the first tell events too
+-- the lines after the first have events too
 tell_behind : (line : List ℕ) (lines : List (List ℕ)) (events : List Event) → Tell (line ∷ lines) events → (more : List Event) × Tell lines more
 tell_behind [] lines events h = (events, h)
 tell_behind (c ∷ cs) lines [] h = absurd h
 tell_behind (c ∷ cs) lines (e ∷ es) h = (es, h.1)
 
--- and the first is not malformed
+-- the first line is not malformed
 tell_first : (line : List ℕ) (lines : List (List ℕ)) (events : List Event) → Tell (line ∷ lines) events → IsMalformed line → ⊥
 tell_first [] lines events h m = m.some refl
 tell_first (c ∷ cs) lines [] h m = h
@@ -34,7 +34,7 @@ tell_at : (before : List (List ℕ)) (line : List ℕ) (behind : List (List ℕ)
 tell_at [] line behind events h m = tell_first line behind events h m
 tell_at (x ∷ before) line behind events h m = let rest = tell_behind x (before ++ line ∷ behind) events h in tell_at before line behind rest.0 rest.1 m
 
--- Of too many bytes it is the last line that is wrong.
+-- If there are too many bytes, the last line is wrong.
 abbrev IsWrong : (long : Type 0) → List ℕ → List (List ℕ) → Type 0
 IsWrong long line behind = IsMalformed line ⊎ (long × (behind ≡ []))
 
@@ -44,7 +44,7 @@ not_before long line x behind before more other events e h (inr p) =
     let k : behind ≡ before ++ other ∷ more = cc in
     omega (arith, ap (λ l. length l) (sym k ∙ p.1), length-append before (other ∷ more))
 
--- wrong lines with no wrong line before stand at one place
+-- two wrong lines, each with no wrong line before it, are at the same position
 wrong_once : (long : Type 0) (a b : List (List ℕ)) (line other : List ℕ) (behind more : List (List ℕ)) (es fs : List Event) → a ++ line ∷ behind ≡ b ++ other ∷ more → Tell a es → Tell b fs → IsWrong long line behind → IsWrong long other more → length a ≡ length b
 wrong_once long [] [] line other behind more es fs e h k u v = refl
 wrong_once long [] (y ∷ b) line other behind more es fs e h k u v = absurd (not_before long line y behind b more other fs e k u)
@@ -73,7 +73,7 @@ not_both bytes events n s m = by m.wrong
         tell_at m.before m.line m.behind events (subst (λ l. Tell l events) (ap lines_of (sym all) ∙ m.lines) s.told) wrong
     by (inr long) = omega (arith, long.0, s.short)
 
--- lines that tell no events have a first malformed one
+-- lines without a list of events have a first malformed one
 no_events : (lines : List (List ℕ)) → ((events : List Event) → Tell lines events → ⊥)
     → ((before : List (List ℕ)) (line : List ℕ) (behind : List (List ℕ)) (events : List Event) → lines ≡ before ++ line ∷ behind → Tell before events → IsMalformed line → ⊥) → ⊥
 no_events [] none all = none [] tt
@@ -91,7 +91,7 @@ length-ended (line ∷ next ∷ lines) = ap suc (length-ended (next ∷ lines))
 some_lines : (bytes : List ℕ) → 0 < length (lines_of bytes)
 some_lines bytes = omega (arith, length-ended (slice_split (λ b. b == 10) bytes), length-slice_split (λ b. b == 10) bytes)
 
--- the lines before the last one, and that one
+-- a non-empty list of lines, split before its last line
 last_of : (lines : List (List ℕ)) → 0 < length lines → (front : List (List ℕ)) × (line : List ℕ) × (lines ≡ front ++ line ∷ [])
 last_of [] h = absurd (omega arith)
 last_of (line ∷ []) h = ([], line, refl)
@@ -141,7 +141,7 @@ each_read bytes none all = by (leb (length bytes) MOST_SCHEDULE) refl
     by true e = short (leb-true (length bytes) MOST_SCHEDULE e)
     by false e = long (omega (arith, leb-false (length bytes) MOST_SCHEDULE e))
 
--- one byte past the most tells as much as all that follow
+-- `MOST_SCHEDULE + 1` bytes suffice: if they are a schedule, so are all bytes
 pub front_events : (bytes : List ℕ) (events : List Event) → IsSchedule (take (MOST_SCHEDULE + 1) bytes) events → IsSchedule bytes events
 front_events bytes events s =
     let size = length-take (MOST_SCHEDULE + 1) bytes in

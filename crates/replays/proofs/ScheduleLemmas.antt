@@ -1,4 +1,4 @@
--- Lines in a row, and the events that they tell.
+-- Lines in order, and their events.
 use Rattle.std.proofs.Common.{◌≡◌, ◌<◌, ◌≤◌, ◌+◌, ◌==◌, ◌⊎◌, inl, ℕ, min, List, [], ◌∷◌, ◌++◌, length, take, refl, ap, sym, ◌∙◌, subst, arith, append_assoc, length-append, take_all}
 use Rattle.std.proofs.lemmas.List.{take_min}
 use Rattle.std.proofs.lemmas.List.Splits.{length-slice_split}
@@ -16,7 +16,7 @@ ended_more : (line : List ℕ) (lines : List (List ℕ)) → 0 < length lines �
 ended_more line [] h = absurd (omega arith)
 ended_more line (next ∷ lines) h = refl
 
--- a line that has an end, and the lines behind it
+-- a line with its end, and the lines after it
 pub lines_more : (bytes line behind : List ℕ) → slice_split (λ b. b == 10) bytes ≡ line ∷ slice_split (λ b. b == 10) behind → lines_of bytes ≡ strip_carriage_return line ∷ lines_of behind
 lines_more bytes line behind e = ap line_texts e ∙ ended_more line (slice_split (λ b. b == 10) behind) (omega (arith, length-slice_split (λ b. b == 10) behind))
 
@@ -24,7 +24,7 @@ lines_more bytes line behind e = ap line_texts e ∙ ended_more line (slice_spli
 pub lines_last : (bytes : List ℕ) → slice_split (λ b. b == 10) bytes ≡ bytes ∷ [] → lines_of bytes ≡ bytes ∷ []
 lines_last bytes e = ap line_texts e
 
--- lines behind lines tell their events behind the others
+-- the events of lines after others come after the events of those
 pub tell_append : (a : List (List ℕ)) (es : List Event) (b : List (List ℕ)) (fs : List Event) → Tell a es → Tell b fs → Tell (a ++ b) (es ++ fs)
 tell_append [] [] b fs h k = k
 tell_append [] (e ∷ es) b fs h k = absurd h
@@ -32,7 +32,7 @@ tell_append ([] ∷ a) es b fs h k = tell_append a es b fs h k
 tell_append ((c ∷ cs) ∷ a) [] b fs h k = absurd h
 tell_append ((c ∷ cs) ∷ a) (e ∷ es) b fs h k = (h.0, tell_append a es b fs h.1 k)
 
--- so many lines of the bytes have told these events, and those of the rest follow
+-- the lines before this number have these events, and the rest of the bytes is still to be read
 pub record IsSoFar (bytes rest : List ℕ) (number : ℕ) (events : List Event) : Type 0 where
   pub before : List (List ℕ)
   pub lines : lines_of bytes ≡ before ++ lines_of rest
@@ -42,7 +42,7 @@ pub record IsSoFar (bytes rest : List ℕ) (number : ℕ) (events : List Event) 
 pub at_first : (bytes : List ℕ) (events : List Event) → events ≡ [] → IsSoFar bytes bytes 1 events
 at_first bytes events e = record { before = []; lines = refl; counted = refl; told = subst (Tell []) (sym e) tt }
 
--- one line more
+-- one more line
 pub goes_on : (bytes rest line behind : List ℕ) (number : ℕ) (old new : List Event) → IsSoFar bytes rest number old → slice_split (λ b. b == 10) rest ≡ line ∷ slice_split (λ b. b == 10) behind
     → AddsTold (strip_carriage_return line) old new → IsSoFar bytes behind (number + 1) new
 goes_on bytes rest line behind number old new s e a =
@@ -68,13 +68,13 @@ is_first bytes rest line behind number events s e wrong = record {
   wrong = wrong;
 }
 
--- the fault of a line is that of the schedule
+-- the fault of a line is the fault of the schedule
 pub refused : (bytes rest line : List ℕ) (behind : List (List ℕ)) (number : ℕ) (events : List Event) (e : ScheduleFault) → IsSoFar (take (min MOST_SCHEDULE (length bytes)) bytes) rest number events → lines_of rest ≡ line ∷ behind
     → IsFaultOf line number e → ReadsSchedule bytes (Err e)
 refused bytes rest line behind number events (Malformed n) s e f = subst (IsFirstMalformed bytes) (sym f.0) (is_first bytes rest line behind number events s e (inl f.1))
 refused bytes rest line behind number events Memory s e f = tt
 
--- all lines are told
+-- all lines are read
 pub is_schedule : (bytes rest : List ℕ) (number : ℕ) (old new : List Event) → length bytes ≤ MOST_SCHEDULE → IsSoFar (take (min MOST_SCHEDULE (length bytes)) bytes) rest number old
     → slice_split (λ b. b == 10) rest ≡ rest ∷ [] → AddsTold rest old new → IsSchedule bytes new
 is_schedule bytes rest number old new short s e a =

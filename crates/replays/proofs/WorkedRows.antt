@@ -1,4 +1,4 @@
--- Small programs that run, and the lines that are printed, computed by the definitions.
+-- Small programs, run by the definitions, and the lines that are printed.
 use Rattle.std.proofs.Common.{◌≡◌, ◌∙◌, ◌+◌, ◌<◌, ◌≤◌, ◌/◌, ◌%◌, ◌++◌, ap, arith, ℕ, true, false, List, [], ◌∷◌, Option, Some, None, refl, replicate}
 use Rattle.std.specs.Prelude.{codes, unwrap_or}
 use Rattle.std.specs.Fmt.{decimal}
@@ -70,7 +70,7 @@ importing = Endpoint record { 0 = 0 } Imp record { 0 = 0 }
 abbrev exporting : HeapType
 exporting = Endpoint record { 0 = 0 } Exp record { 0 = 0 }
 
--- a method without result at these places, whose variables are the two ends of a channel and a struct
+-- a method without result at these places; its variables are the two ends of a channel and a struct
 abbrev main : List StatementModel → Place → MethodModel
 main statements close = record {
   name = at 1 1;
@@ -92,14 +92,14 @@ opens line = acts (does.NewChannel record { place = at line 1; contract = record
 abbrev sends : (line col endpoint message : ℕ) → List Mention → StatementModel
 sends line col e m payloads = Send record { reads = []; place = at line col; endpoint = mention e line 1; message = record { 0 = m }; payloads = payloads }
 
--- a struct of what is given
+-- makes a struct with these arguments
 abbrev makes : (line col : ℕ) → List Mention → StatementModel
 makes line col arguments = New record { reads = []; target = mention 2 line col; arguments = arguments }
 
 abbrev deletes : ℕ → StatementModel
 deletes v = frees (mention v 1 1)
 
--- a case that does these, and then leaves its switch
+-- a case with these statements, which binds nothing
 abbrev comes : ℕ → Awaited → List StatementModel → CaseModel
 comes v what statements = Case (mention v 1 1) what [] (Braces (statement_sequence statements) None)
 
@@ -110,7 +110,7 @@ abbrev cases : List CaseModel → CasesModel
 cases [] = NoCase
 cases (c ∷ cs) = MoreCases c (cases cs)
 
--- more than any queue of these holds
+-- a bound that no queue here reaches
 abbrev bound : QueueBounds
 bound c s = 5
 
@@ -125,7 +125,7 @@ record Ran : Type 0 where
 abbrev stopped : ℕ → Halt → World → Ran
 stopped n why w = record { steps = n; why = Some why; world = w }
 
--- an event comes to this, and behind a step the run goes on
+-- the run after an event with this outcome; it goes on after a step
 abbrev behind : ProgramModel → World → Event → ℕ → Outcome → (World → Ran) → Ran
 behind p w e n (Moved v) more = more v
 behind p w e n (Faulty fault) more = stopped n (halts.Fault fault (unwrap_or (process_place p w e.process) (at 0 0))) w
@@ -137,14 +137,14 @@ abbrev ran : ProgramModel → List Event → ℕ → World → Ran
 ran p [] n w = record { steps = n; why = None; world = w }
 ran p (e ∷ events) n w = behind p w e n (event_outcome p bound w e) (ran p events (n + 1))
 
--- what is printed of these events from the beginning of the first method; the one struct is D
+-- what is printed for these events from the beginning of the first method; the one struct is D
 abbrev printed : ProgramModel → List Event → List ℕ
 printed p events = let r = ran p events 0 (start_of p 0) in replay_lines (record { program = p; structs = codes "D" ∷ [] }) events r.steps r.why r.world
 
 abbrev program : ContractModel → List (List HeapType) → List MethodModel → ProgramModel
 program c messages methods = record { contracts = c ∷ []; messages = messages; structs = []; methods = methods }
 
--- a block is read that was sent
+-- a block is read after it was sent
 abbrev put : ContractModel
 put = record {
   name = codes "Put";
@@ -222,7 +222,7 @@ pub end_sent : printed sends_an_end (replicate 4 (event 0))
     ≡ codes "steps 4\nstop: end of schedule\nprocess 0 ended\nblock 0 W.Imp S owner queue 0 queue [M(0)]\nblock 1 W.Exp freed\n"
 end_sent = simp (digit 0 (omega arith), digit 1 (omega arith), digit 4 (omega arith)) refl
 
--- A struct is made of an end, and then that end and the other one change places.
+-- A struct is made of an end; then that end and the other one change places.
 abbrev exchanges_ends : ProgramModel
 exchanges_ends = program itself ([] ∷ []) (main
     (opens 5 ∷ makes 6 10 (mention 0 6 20 ∷ [])

@@ -1,4 +1,4 @@
--- For proofs within the crate: the words that names come from, as the code has them.
+-- For proofs within the crate: where names come from, as the code has it.
 use Rattle.std.specs.Prelude.{map, string_bytes}
 use Rattle.rules.specs.Programs.{model_of}
 use Rattle.replays.specs.Names.{Words}

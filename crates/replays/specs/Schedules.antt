@@ -1,4 +1,4 @@
--- Schedules: which lines bytes are, and which event each line tells.
+-- Schedules: the lines in a file, and the event of each line.
 use Rattle.std.specs.Prelude.{◌≡◌, ◌≢◌, ◌<◌, ◌≤◌, ℕ, ◌+◌, ◌==◌, List, [], ◌∷◌, ◌++◌, length, take, replicate, ◌⊎◌, Result, Ok, Err}
 use Rattle.std.specs.Global.{Vec}
 use Rattle.std.specs.List.{slice_split}
@@ -9,13 +9,13 @@ use Rattle.replays.specs.declared.limits.TheConstants.{MOST_NUMBER, MOST_SCHEDUL
 use Rattle.replays.specs.declared.fault.ScheduleFault.{ScheduleFault}
 use Rattle.replays.specs.declared.fault.ScheduleFault.TheVariants.{Malformed, Memory}
 
--- a number of a line: decimal digits, one or more, of a value that is not too large
+-- a number in a line: one or more decimal digits, whose value is not too large
 pub record IsNumber (digits : List ℕ) (n : ℕ) : Type 0 where
   pub numeral : IsNumeral 10 digits
   pub value : n ≡ digits_value 10 digits
   pub small : n ≤ MOST_NUMBER
 
--- a line of an event: the number of a process, one or more spaces, and a choice
+-- the line of an event: the number of a process, one or more spaces, and the choice
 pub record IsEventLine (line : List ℕ) (e : Event) : Type 0 where
   pub first : List ℕ
   pub spaces : ℕ
@@ -25,7 +25,7 @@ pub record IsEventLine (line : List ℕ) (e : Event) : Type 0 where
   pub some : 0 < spaces
   pub choice : IsNumber second e.choice
 
--- the events that lines tell, in order; an empty line tells none
+-- these are the events of the lines, in order; an empty line has none
 abbrev pub Tell : List (List ℕ) → List Event → Type 0
 Tell [] [] = Unit {0}
 Tell [] (e ∷ events) = ⊥
@@ -33,17 +33,18 @@ Tell ([] ∷ lines) events = Tell lines events
 Tell ((b ∷ line) ∷ lines) [] = ⊥
 Tell ((b ∷ line) ∷ lines) (e ∷ events) = IsEventLine (b ∷ line) e × Tell lines events
 
--- a line that is not empty and tells no event
+-- the line is neither empty nor that of an event
 pub record IsMalformed (line : List ℕ) : Type 0 where
   pub some : line ≢ []
   pub none : (e : Event) → ¬ IsEventLine line e
 
--- what stands between the ends of lines; of a line that has an end, one CR before it is no part
+-- the lines between the line ends, each without the CR before its end
 abbrev pub line_texts : List (List ℕ) → List (List ℕ)
 line_texts [] = []
 line_texts (line ∷ []) = line ∷ []
 line_texts (line ∷ next ∷ lines) = strip_carriage_return line ∷ line_texts (next ∷ lines)
 
+-- the lines in these bytes
 abbrev pub lines_of : List ℕ → List (List ℕ)
 lines_of bytes = line_texts (slice_split (λ b. b == 10) bytes)
 
@@ -52,8 +53,8 @@ pub record IsSchedule (bytes : List ℕ) (events : List Event) : Type 0 where
   pub short : length bytes ≤ MOST_SCHEDULE
   pub told : Tell (lines_of bytes) events
 
--- The first malformed line, counted from 1. Of too many bytes the line is malformed that has the first byte past the most, which is
--- the last line of the bytes before.
+-- The number of the first malformed line, counted from 1. If there are too many bytes, the line
+-- with the first byte past the limit is malformed, which is the last line of the bytes before it.
 pub record IsFirstMalformed (bytes : List ℕ) (number : ℕ) : Type 0 where
   pub before : List (List ℕ)
   pub line : List ℕ
@@ -64,7 +65,7 @@ pub record IsFirstMalformed (bytes : List ℕ) (number : ℕ) : Type 0 where
   pub told : Tell before events
   pub wrong : IsMalformed line ⊎ ((MOST_SCHEDULE < length bytes) × (behind ≡ []))
 
--- what a reading answers: the events of a schedule, or its first malformed line; want of memory tells nothing
+-- what a reading returns: the events of a schedule, or its first malformed line; `Memory` implies nothing
 abbrev pub ReadsSchedule : List ℕ → Result (Vec Event) ScheduleFault → Type 0
 ReadsSchedule bytes (Ok events) = IsSchedule bytes events.items
 ReadsSchedule bytes (Err (Malformed number)) = IsFirstMalformed bytes number

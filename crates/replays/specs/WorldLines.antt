@@ -25,6 +25,7 @@ steps_line steps = codes "steps " ++ (decimal steps ++ codes "\n")
 abbrev pub place_text : Place → List ℕ
 place_text at = decimal at.line ++ (codes ":" ++ decimal at.col)
 
+-- the name of a fault
 abbrev pub fault_name : Fault → List ℕ
 fault_name faults.F1 = codes "F1"
 fault_name faults.F2 = codes "F2"
@@ -34,7 +35,7 @@ fault_name faults.F5 = codes "F5"
 fault_name faults.F6 = codes "F6"
 fault_name faults.F7 = codes "F7"
 
--- why an event was no step
+-- why an event was no step, as it is printed
 abbrev pub halt_text : Event → Halt → List ℕ
 halt_text e halts.NoSuchProcess = codes "no process " ++ decimal e.process
 halt_text e halts.NoSuchChoice = codes "no choice " ++ (decimal e.choice ++ (codes " of process " ++ decimal e.process))
@@ -43,16 +44,16 @@ halt_text e (halts.Fault fault at) =
 halt_text e halts.Waits = codes "process " ++ (decimal e.process ++ codes " waits")
 halt_text e halts.Memory = codes "out of memory"
 
--- why no further event was a step: there is none, or the one behind the steps is none
+-- why the replay stopped: there is no further event, or the next one is no step
 abbrev pub stop_text : Option Event → Option Halt → List ℕ
 stop_text (Some e) (Some why) = halt_text e why
 stop_text _ _ = codes "end of schedule"
 
--- `stop: ` and why
+-- `stop: ` and the reason
 abbrev pub stop_line : Option Event → Option Halt → List ℕ
 stop_line e why = codes "stop: " ++ (stop_text e why ++ codes "\n")
 
--- where a process stands, and how many frames it has; a process that has ended stands nowhere
+-- where a process is, and how many frames it has; or that it has ended
 abbrev pub position_text : ℕ → Option Place → List ℕ
 position_text frames None = codes " ended"
 position_text frames (Some at) = codes " at " ++ (place_text at ++ (codes ", frames " ++ decimal frames))
@@ -61,6 +62,7 @@ position_text frames (Some at) = codes " at " ++ (place_text at ++ (codes ", fra
 abbrev pub process_line : ProgramModel → ℕ → List Frame → List ℕ
 process_line p number stack = codes "process " ++ (decimal number ++ (position_text (length stack) (stack_place p stack) ++ codes "\n"))
 
+-- an owner, as it is printed
 abbrev pub owner_text : Owner → List ℕ
 owner_text (Process q) = codes "process " ++ decimal q
 owner_text (Queue a) = codes "queue " ++ decimal a
@@ -89,7 +91,7 @@ module _ (w : Words) where
       codes " queue [" ++ (join_with_byte 32 (map (message_text contract.0) queue) ++ codes "]")
   queue_text _ queue = []
 
-  -- what is told of a block: that it is freed, or who owns it and what its fields hold, and of an endpoint its state and its queue too
+  -- what is printed of a block: that it is freed, or who owns it and what its fields hold; of an endpoint its state and its queue too
   abbrev pub block_text : Block → Owner → List ℕ
   block_text b Freed = codes " freed"
   block_text b owner =
@@ -99,11 +101,11 @@ module _ (w : Words) where
   abbrev pub block_line : ℕ → Block → List ℕ
   block_line address b = codes "block " ++ (decimal address ++ (codes " " ++ (type_name w b.ty ++ (block_text b b.owner ++ codes "\n"))))
 
-  -- a line for each process, and one for each block, by their numbers
+  -- a line for each process and one for each block, in order
   abbrev pub world_lines : World → List ℕ
   world_lines v = flat_map (λ q. process_line w.program q.0 q.1) (enumerate_from 0 v.processes)
       ++ flat_map (λ b. block_line b.0 b.1) (enumerate_from 0 v.blocks)
 
-  -- what is printed of a replay of events: how many were steps, why it stopped, and the world behind them
+  -- what is printed of a replay: how many events were steps, why it stopped, and the world after them
   abbrev pub replay_lines : List Event → (steps : ℕ) → Option Halt → World → List ℕ
   replay_lines events steps why v = steps_line steps ++ (stop_line (slice_get events steps) why ++ world_lines v)

@@ -36,7 +36,7 @@ fn add_owner(answer: &mut Vec<u8>, owner: Owner) -> Result<(), Memory>
     }
 }
 
-/// Adds addresses, with a comma between each two.
+/// Adds addresses, separated by commas.
 fn add_addresses(answer: &mut Vec<u8>, addresses: &[usize]) -> Result<(), Memory>
     ensures { OnOk result (answer.new.items ≡ answer.old.items ++ join_with_byte 44 (map decimal addresses.now)) }
 {
@@ -59,7 +59,7 @@ fn add_fields(answer: &mut Vec<u8>, fields: &[usize]) -> Result<(), Memory>
     add(answer, b"]")
 }
 
-/// Adds a message of a contract with what it brings, as `M(2,3)`.
+/// Adds a message of a contract and the addresses that it brings, as `M(2,3)`.
 fn add_message(
     answer: &mut Vec<u8>,
     naming: &Naming<'_>,
@@ -74,7 +74,7 @@ fn add_message(
     add(answer, b")")
 }
 
-/// Adds messages of a contract, with a space between each two.
+/// Adds messages of a contract, separated by spaces.
 fn add_messages(
     answer: &mut Vec<u8>,
     naming: &Naming<'_>,
@@ -91,7 +91,7 @@ fn add_messages(
     Ok(())
 }
 
-/// Adds the state of an endpoint.
+/// Adds the state of an endpoint. Adds nothing for other types.
 fn add_state(
     answer: &mut Vec<u8>,
     naming: &Naming<'_>,
@@ -109,7 +109,7 @@ fn add_state(
     }
 }
 
-/// Adds the queue of an endpoint.
+/// Adds the queue of an endpoint. Adds nothing for other types.
 fn add_queue(answer: &mut Vec<u8>, naming: &Naming<'_>, block: &Block) -> Result<(), Memory>
     ensures { OnOk result (answer.new.items ≡ answer.old.items
         ++ queue_text (words_of naming.now) block.now.ty (map held_model block.now.queue.items)) }
@@ -133,7 +133,7 @@ fn add_held(answer: &mut Vec<u8>, naming: &Naming<'_>, block: &Block) -> Result<
     add_queue(answer, naming, block)
 }
 
-/// Adds what is told of a block: that it is freed, or who owns it.
+/// Adds what is printed of a block: `freed`, or its owner and what it holds, and of an endpoint its state too.
 fn add_told(answer: &mut Vec<u8>, naming: &Naming<'_>, block: &Block) -> Result<(), Memory>
     ensures { OnOk result (answer.new.items ≡ answer.old.items
         ++ block_text (words_of naming.now) (block_model block.now) block.now.owner) }

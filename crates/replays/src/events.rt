@@ -8,7 +8,7 @@ ghost use Rattle.replays.specs.Schedules.{IsEventLine};
 use crate::fronts::{number_at, spaces_at};
 use machine::Event;
 
-/// The event that a line tells: the number of a process, spaces, and a choice.
+/// Returns the event of a line: the number of a process, spaces, and a choice. `None` if the line is not of that form.
 pub(crate) fn event_of(line: &[u8]) -> Option<Event>
     ensures some { IfSome result (IsEventLine line.now) }
     ensures none { IfNone result ((e : Event) → ¬ IsEventLine line.now e) }

@@ -1,4 +1,4 @@
-//! Why there is no answer.
+//! Errors of reading a schedule.
 
 use std::alloc::{AllocError, AllocFailed};
 use thiserror::Error;
@@ -9,7 +9,7 @@ pub enum ScheduleFault {
     /// The line of this number, counted from 1, is the first malformed one.
     #[error("malformed line")]
     Malformed(u32),
-    /// A growth of memory was refused.
+    /// Out of memory.
     #[error("out of memory")]
     Memory,
 }

@@ -1,4 +1,4 @@
-//! What stands at the front of bytes.
+//! Digits, spaces and lines at the front of bytes.
 
 ghost use Rattle.std.specs.Prelude.{◌≡◌, ◌<◌, ◌∷◌, [], ℕ, ◌==◌, ◌-◌, ◌^◌, List, min, length, IfNone, IfSome};
 ghost use Rattle.std.specs.Char.{is_ascii_digit};
@@ -9,7 +9,7 @@ ghost use Rattle.replays.specs.Fronts.{BeginsWith, is_space};
 
 use crate::limits::MOST_NUMBER;
 
-/// How many digits stand at the front.
+/// Returns the number of digits at the front.
 fn digits_at(bytes: &[u8]) -> usize
     ensures { result ≡ prefix_len is_ascii_digit bytes.now }
 {
@@ -20,7 +20,7 @@ fn digits_at(bytes: &[u8]) -> usize
     n
 }
 
-/// How many spaces stand at the front.
+/// Returns the number of spaces at the front.
 pub(crate) fn spaces_at(bytes: &[u8]) -> usize
     ensures { result ≡ prefix_len is_space bytes.now }
 {
@@ -31,7 +31,7 @@ pub(crate) fn spaces_at(bytes: &[u8]) -> usize
     n
 }
 
-/// How many bytes stand before the first end of a line.
+/// Returns the number of bytes before the first line end.
 fn line_at(bytes: &[u8]) -> usize
     ensures { result ≡ position_or_len (λ b. b == 10) bytes.now }
 {
@@ -42,7 +42,7 @@ fn line_at(bytes: &[u8]) -> usize
     n
 }
 
-/// The number that digits write, or `u64::MAX` where it is above that.
+/// Returns the value of digits, at most `u64::MAX`.
 fn capped_value(digits: &[u8]) -> u64
     requires { AllDigits 10 digits.now }
     ensures { result ≡ min (digits_value 10 digits.now) (2 ^ 64 - 1) }
@@ -56,7 +56,8 @@ fn capped_value(digits: &[u8]) -> u64
     value
 }
 
-/// The number at the front, and what stands behind its digits.
+/// Returns the number at the front and the bytes after its digits. `None` if there is no digit or the number is above
+/// `MOST_NUMBER`.
 pub(crate) fn number_at(bytes: &[u8]) -> Option<(u64, &[u8])>
     ensures some { IfSome result (λ r. BeginsWith bytes.now r.0 r.1.now) }
     ensures none { IfNone result ((n : ℕ) (rest : List ℕ) → ¬ BeginsWith bytes.now n rest) }
@@ -69,7 +70,7 @@ pub(crate) fn number_at(bytes: &[u8]) -> Option<(u64, &[u8])>
     Some((value, rest))
 }
 
-/// The first line, without its end, and what stands behind that. None, where no line ends.
+/// Returns the first line, without its end, and the bytes after that end. `None` if no line ends.
 pub(crate) fn first_line(bytes: &[u8]) -> Option<(&[u8], &[u8])>
     ensures some { IfSome result (λ r. slice_split (λ b. b == 10) bytes.now ≡ r.0.now ∷ slice_split (λ b. b == 10) r.1.now) }
     ensures shorter { IfSome result (λ r. length r.1.now < length bytes.now) }
@@ -82,7 +83,7 @@ pub(crate) fn first_line(bytes: &[u8]) -> Option<(&[u8], &[u8])>
     }
 }
 
-/// A line without the CR at its end, if there is one.
+/// Returns a line without the CR at its end, if it has one.
 pub(crate) fn without_return(line: &[u8]) -> &[u8]
     ensures { result.now ≡ strip_carriage_return line.now }
 {

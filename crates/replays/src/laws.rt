@@ -5,25 +5,25 @@ ghost use Rattle.machine.specs.declared.halts.Event.{Event};
 ghost use Rattle.replays.specs.Schedules.{IsFirstMalformed, IsSchedule};
 ghost use Rattle.replays.specs.declared.limits.TheConstants.{MOST_NUMBER, MOST_SCHEDULE};
 
-/// Bytes are a schedule of one list of events, or one line of them is the first malformed one, and never both.
+/// Bytes are a schedule of at most one list of events and have at most one first malformed line, never both.
 pub fn one_reading()
     ensures events { (bytes : List ℕ) (a b : List Event) → IsSchedule bytes a → IsSchedule bytes b → a ≡ b }
     ensures line { (bytes : List ℕ) (m n : ℕ) → IsFirstMalformed bytes m → IsFirstMalformed bytes n → m ≡ n }
     ensures apart { (bytes : List ℕ) (events : List Event) (n : ℕ) → IsSchedule bytes events → ¬ IsFirstMalformed bytes n }
 {}
 
-/// All bytes are a schedule or have a first malformed line.
+/// Any bytes are a schedule or have a first malformed line, as a double negation.
 pub fn each_schedule_is_read()
     ensures { (bytes : List ℕ) → ((events : List Event) → ¬ IsSchedule bytes events) → ((n : ℕ) → ¬ IsFirstMalformed bytes n) → ⊥ }
 {}
 
-/// Who has read one byte past the most of a schedule knows as much as who has read all of it.
+/// Reading one byte past the greatest size is enough: what holds of the bytes up to there holds of all bytes.
 pub fn a_front_tells_all()
     ensures events { (bytes : List ℕ) (events : List Event) → IsSchedule (take (MOST_SCHEDULE + 1) bytes) events → IsSchedule bytes events }
     ensures line { (bytes : List ℕ) (n : ℕ) → IsFirstMalformed (take (MOST_SCHEDULE + 1) bytes) n → IsFirstMalformed bytes n }
 {}
 
-/// The limits in digits.
+/// The limits, in digits.
 pub fn limits()
     ensures bytes { MOST_SCHEDULE ≡ 1048576 }
     ensures number { MOST_NUMBER ≡ 4294967295 }

@@ -1,4 +1,4 @@
-//! How large a schedule may be.
+//! Limits of schedules.
 
 /// The most bytes of a schedule.
 pub const MOST_SCHEDULE: usize = 1_048_576;

@@ -1,4 +1,4 @@
-//! How what a world has is named.
+//! Names of what a world has.
 
 ghost use Rattle.std.specs.Prelude.{◌≡◌, ◌++◌, IfOk, OnOk, map, option_map, string_bytes};
 ghost use Rattle.rules.specs.Programs.{model_of};
@@ -15,7 +15,7 @@ use source::Memory;
 use std::alloc::{AllocError, Global};
 
 impl<'a> Naming<'a> {
-    /// The names of this program, and of structs, in order of the text.
+    /// Takes the names from a program and, for its structs, from a list in order of the text.
     pub(crate) fn new(
         alloc: Global,
         program: &'a Program,
@@ -32,14 +32,14 @@ impl<'a> Naming<'a> {
         })
     }
 
-    /// Its program.
+    /// Returns the program.
     pub(crate) fn program(&self) -> &'a Program
         ensures { model_of result.now ≡ (words_of self.now).program }
     {
         self.program
     }
 
-    /// The name of a struct.
+    /// Returns the name of a struct, empty if there is none.
     fn struct_name(&self, id: StructId) -> &[u8]
         ensures { result.now ≡ told.struct_name (words_of self.now) id.0 }
     {
@@ -49,7 +49,7 @@ impl<'a> Naming<'a> {
         }
     }
 
-    /// The name of a contract.
+    /// Returns the name of a contract, empty if there is none.
     fn contract_name(&self, id: ContractId) -> &[u8]
         ensures { result.now ≡ told.contract_name (words_of self.now) id.0 }
     {
@@ -59,14 +59,14 @@ impl<'a> Naming<'a> {
         }
     }
 
-    /// The index of a state of a contract among the states of that.
+    /// Returns the index of a state of this number among the states of its contract.
     fn index_of(&self, contract: ContractId, state: StateId) -> Option<usize>
         ensures { result ≡ index_in self.now.states.items contract.0 state.0 }
     {
         self.states.get(contract.0 as usize)?.get(&state.0).copied()
     }
 
-    /// How the state of this number in a contract is printed, if there is one.
+    /// Returns the printed name of the state of this number in a contract. `None` if there is none.
     fn find_state_name(&self, contract: ContractId, state: StateId) -> Option<&[u8]>
         ensures { option_map (λ bytes. bytes.now) result
             ≡ option_map (λ s. s.name) (state_of (words_of self.now).program.contracts contract.0 state.0) }
@@ -77,14 +77,14 @@ impl<'a> Naming<'a> {
         Some(within.state_name(there))
     }
 
-    /// How a state of a contract is printed.
+    /// Returns the printed name of a state of a contract, empty if there is none.
     pub(crate) fn state_name(&self, contract: ContractId, state: StateId) -> &[u8]
         ensures { result.now ≡ told.state_name (words_of self.now) contract.0 state.0 }
     {
         self.find_state_name(contract, state).unwrap_or(&[])
     }
 
-    /// The name of a message of a contract.
+    /// Returns the name of a message of a contract, empty if there is no such contract.
     pub(crate) fn message_name(&self, contract: ContractId, message: MessageId) -> &[u8]
         ensures { result.now ≡ told.message_name (words_of self.now) contract.0 message.0 }
     {

@@ -1,4 +1,4 @@
-//! What names come from.
+//! Where names come from.
 
 ghost use Rattle.std.specs.Prelude.{◌≡◌, ℕ, IfOk, map};
 ghost use Rattle.std.specs.BTreeMap.{get};
@@ -14,8 +14,8 @@ use rules::Program;
 use std::alloc::{AllocError, Global};
 use std::collections::BTreeMap;
 
-/// What names come from: a program, the names of its structs in order of the text, and for each contract the index of a state among
-/// its states.
+/// Where names come from: a program, the names of its structs in order of the text, and for each contract the index
+/// of each state, by its number.
 #[derive(Drop)]
 pub(crate) struct Naming<'a> {
     pub(crate) program: &'a Program,
@@ -24,7 +24,7 @@ pub(crate) struct Naming<'a> {
     ghost placed: { ArePlaced (model_of program.now).contracts states.items },
 }
 
-/// The index of each of these states, by its number.
+/// Returns the index of each of these states, by its number.
 fn indices_of(alloc: Global, states: &[State]) -> Result<BTreeMap<u32, usize>, AllocError>
     ensures { IfOk result (λ m. (k : ℕ) → get nat_cmp m k ≡ first_position nat_cmp (map (λ s. s.id.0) states.now) k) }
 {
@@ -32,7 +32,7 @@ fn indices_of(alloc: Global, states: &[State]) -> Result<BTreeMap<u32, usize>, A
     first_positions(alloc, &numbers)
 }
 
-/// The index of each state of each contract.
+/// Returns, for each contract, the index of each state, by its number.
 pub(crate) fn indices_in(
     alloc: Global,
     contracts: &[Contract],

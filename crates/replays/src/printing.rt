@@ -13,10 +13,12 @@ use rules::Program;
 use source::Memory;
 use std::alloc::Global;
 
-/// What a replay of events came to, line by line: how many were steps, why it stopped, where each process stands, and who owns each block.
+/// Returns the lines of a replay: the number of steps, why it stopped, where each process is, and who owns each block.
 ///
-/// The names of structs are given in order of the text; the program knows structs by their numbers alone. `Memory` is answered where
-/// a growth was refused.
+/// `structs` are the names of the structs in order of the text, since the program knows structs only by number.
+///
+/// # Errors
+/// `Memory` if out of memory.
 pub fn lines_of(
     alloc: Global,
     program: &Program,

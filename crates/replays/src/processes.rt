@@ -1,4 +1,4 @@
-//! The lines of processes, and of what events came to.
+//! The lines of processes, of the number of steps and of why a replay stopped.
 
 ghost use Rattle.std.specs.Prelude.{◌≡◌, ◌++◌, OnOk, map};
 ghost use Rattle.std.specs.List.{enumerate_from, flat_map};
@@ -66,7 +66,7 @@ fn add_halt(answer: &mut Vec<u8>, event: Event, halt: Halt) -> Result<(), Memory
     }
 }
 
-/// Adds `stop: ` and why the event was no step, if there is one.
+/// Adds `stop: ` and why the event was no step, or `end of schedule` if there is no event or no reason.
 pub(crate) fn add_stop(
     answer: &mut Vec<u8>,
     event: Option<Event>,

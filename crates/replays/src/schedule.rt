@@ -11,7 +11,7 @@ use crate::limits::MOST_SCHEDULE;
 use machine::Event;
 use std::alloc::Global;
 
-/// Adds the event of a line of this number, if it is not empty.
+/// Adds the event of a line, if the line is not empty. `number` is the number of the line.
 fn add_event(line: &[u8], number: u32, events: &mut Vec<Event>) -> Result<(), ScheduleFault>
     ensures told { OnOk result (AddsTold line.now events.old.items events.new.items) }
     ensures fault { IfErr result (IsFaultOf line.now number) }
@@ -28,11 +28,14 @@ fn add_event(line: &[u8], number: u32, events: &mut Vec<Event>) -> Result<(), Sc
     }
 }
 
-/// The events of a schedule, in order.
+/// Returns the events of a schedule, in order.
 ///
-/// Each line names a process and a choice, `PROCESS CHOICE`: decimal digits, one or more spaces, decimal digits. A line that is empty
-/// tells nothing. `Malformed` names the first line that is not so; where the schedule has more than `MOST_SCHEDULE` bytes, the line
-/// that has the first byte past them is malformed. `Memory` is answered where a growth was refused.
+/// Each line names a process and a choice, `PROCESS CHOICE`: decimal digits, one or more spaces, decimal digits.
+/// Empty lines are skipped.
+///
+/// # Errors
+/// `Malformed` with the number of the first line of another form. If the schedule has more than `MOST_SCHEDULE`
+/// bytes, the line with the first byte past them is malformed. `Memory` if out of memory.
 pub fn read_schedule(alloc: Global, bytes: &[u8]) -> Result<Vec<Event>, ScheduleFault>
     ensures { ReadsSchedule bytes.now result }
 {

@@ -33,7 +33,7 @@ pub(crate) fn add_place(answer: &mut Vec<u8>, place: Place) -> Result<(), Memory
     add_number(answer, u64::from(place.col))
 }
 
-/// Adds a byte between two pieces: not before the first.
+/// Adds a separator before a piece, unless it is the first one.
 pub(crate) fn separate(answer: &mut Vec<u8>, index: usize, between: u8) -> Result<(), Memory>
     ensures { OnOk result (answer.new.items ≡ answer.old.items ++ separator index between) }
 {

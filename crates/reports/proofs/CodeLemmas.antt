@@ -11,7 +11,7 @@ all_codes = A01 ∷ A02 ∷ A03 ∷ A04 ∷ A05 ∷ A06 ∷ A07 ∷ A08 ∷ A09 
 before_letter : ℕ → ℕ
 before_letter letter = cond (letter == 65) 0 (cond (letter == 67) 15 (cond (letter == 78) 19 28))
 
--- the code that is printed so
+-- the code with this name
 code_named : List ℕ → Code
 code_named name = get_or all_codes (before_letter (get_or name 0 0) + (get_or name 1 0 - 48) * 10 + (get_or name 2 0 - 48) - 1) A01
 

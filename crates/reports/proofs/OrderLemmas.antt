@@ -1,4 +1,4 @@
--- The order of a report is total, and tells any two findings apart.
+-- The order of a report is total and distinguishes any two findings.
 use Rattle.std.proofs.Common.{◌≡◌, ℕ, List}
 use Rattle.std.specs.Cmp.{IsTotalOrder}
 use Rattle.std.specs.declared.cmp.Ordering.TheVariants.{Equal}

@@ -1,4 +1,4 @@
--- A sorted list without doubles is a report's.
+-- A sorted list without duplicates is a report.
 use Rattle.std.proofs.Common.{◌≡◌, ℕ, ◌+◌, ◌<◌, Bool, true, false, cond, List, [], ◌∷◌, length, map, get_or, refl, sym, ap, ◌∙◌, subst, arith}
 use Rattle.std.specs.Prelude.{◌↔◌, Contains}
 use Rattle.std.specs.Cmp.{Equal-is, IsTotalOrder}
@@ -52,7 +52,7 @@ module _ {X : Type 0} (finding : X → FindingModel) where
       let earlier = parts_at (x ∷ xs) k d x (omega (arith, high)) in
       ap (λ f. is_lt (report_cmp f (get_or (map finding (x ∷ xs)) k d))) later ∙ ap (λ f. is_lt (report_cmp (finding (get_or (x ∷ xs) (k + 1) x)) f)) earlier ∙ up k x low (omega (arith, high, length-map (x ∷ xs) finding))
 
-  -- what is sorted and then kept once has the same findings
+  -- sorting and dropping duplicates keeps the findings
   pub once_same : (all sorted kept : List X) → IsPermutation all sorted → kept ≡ dedup (eq_by_cmp item_cmp) sorted
       → (f : FindingModel) → Contains (map finding kept) f ↔ Contains (map finding all) f
   unfolding same_item same_told
@@ -65,12 +65,12 @@ module _ {X : Type 0} (finding : X → FindingModel) where
             (Contains-dedup (eq_by_cmp_equiv report_total) (λ a b e. equal_is_same a b ((Equal-is (report_cmp a b)).0 e)) (map finding sorted) f (Contains-permutation _ _ f moves c)),
       )
 
-  -- and nothing else
+  -- sorting and dropping duplicates adds no item
   pub once_among : (all sorted kept : List X) → IsPermutation all sorted → kept ≡ dedup (eq_by_cmp item_cmp) sorted → (x : X) → Contains kept x → Contains all x
   once_among all sorted kept moved once x c =
       Contains-permutation _ _ x (IsPermutation-sym _ _ moved) (Contains-from_dedup (eq_by_cmp item_cmp) sorted x (subst (λ l. Contains l x) once c))
 
-  -- and in order
+  -- sorting and dropping duplicates puts the findings in order
   pub once_ordered : (sorted kept : List X) → IsSorted item_cmp sorted → kept ≡ dedup (eq_by_cmp item_cmp) sorted
       → IsStrictlySortedBy report_cmp (map finding kept)
   unfolding same_item same_told

@@ -4,7 +4,7 @@ use Rattle.std.specs.Ordering.{nat_cmp, on, then_cmp}
 use Rattle.std.specs.declared.cmp.Ordering.{Ordering}
 use Rattle.source.specs.Findings.{FindingModel, code_name}
 
--- the order of a report: by line, by column, by the name of the code, by the bytes of the text
+-- the order of a report: by line, by column, by the name of the code, and by the bytes of the text
 abbrev pub report_cmp : FindingModel → FindingModel → Ordering
 report_cmp =
     then_cmp (on (λ f. f.place.line) nat_cmp)

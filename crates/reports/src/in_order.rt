@@ -1,4 +1,4 @@
-//! The order in which a report has findings.
+//! The order of findings in a report.
 
 ghost use Rattle.std.specs.Prelude.{◌↔◌, Contains, IfOk, map};
 ghost use Rattle.std.specs.List.Sorted.{IsStrictlySortedBy};
@@ -7,9 +7,10 @@ ghost use Rattle.reports.specs.Orders.{report_cmp};
 
 use source::{Finding, Memory, compare};
 
-/// The same findings in the order of a report, by line, column, code and text, each once.
+/// Returns the same findings in report order, by line, column, code and text, each once.
 ///
-/// `Memory` is answered where a growth was refused.
+/// # Errors
+/// `Memory` if an allocation was refused.
 pub fn in_report_order(findings: Vec<Finding>) -> Result<Vec<Finding>, Memory>
     ensures same { IfOk result (λ listed. (f : FindingModel)
         → Contains (map finding_model listed.items) f ↔ Contains (map finding_model findings.items) f) }

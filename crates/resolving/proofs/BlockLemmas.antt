@@ -1,4 +1,4 @@
--- What blocks and branches come to.
+-- What blocks and branches resolve to.
 use Rattle.std.proofs.Common.{◌≡◌, ℕ, List, [], ◌∷◌, length, take, Option, Some, None, sym, refl, ap, ◌∙◌, subst}
 use Rattle.std.specs.Prelude.{Vec, option_map}
 use Rattle.std.specs.Global.{Global}
@@ -31,19 +31,19 @@ same_number : (n : Option ℕ) → number_model (option_map number_of n) ≡ n
 same_number None = refl
 same_number (Some n) = refl
 
--- the number in a known name
+-- the number in a variable id that is known
 pub number_is : (v : Option VarId) (n : Option ℕ) → v ≡ option_map number_of n → number_model v ≡ n
 number_is v n is = ap number_model is ∙ same_number n
 
--- a piece made into something else
+-- a piece that `make` turns into something else
 pub made_told : {X Y : Type 0} (text : List ℕ) (make : X → Y) (t : ResolvedPiece X) (what : X) (l : Locals) → IsResolvedPiece text t what l → IsResolvedPiece text (map_piece make t) (make what) l
 made_told text make t what l h = record { is = ap make h.is; frame = h.frame }
 
--- a statement in other words, before and behind
+-- equal statements resolve to equal models
 pub told_as : (p : ProgramText) (class : ℕ) (stays : Staying) (f : LocalFrame) {s s' : StatementTree} {what what' : StatementModel} {l : Locals} → s ≡ s' → what ≡ what' → IsResolvedPiece p.text (statement_told p class stays s' f) what' l → IsResolvedPiece p.text (statement_told p class stays s f) what l
 told_as p class stays f {s} {s'} {what} {what'} {l} is seen_is told = subst (λ t. IsResolvedPiece p.text (statement_told p class stays t f) what l) (sym is) (subst (λ w. IsResolvedPiece p.text (statement_told p class stays s' f) w l) (sym seen_is) told)
 
--- a condition, part by part
+-- a condition and its block, part by part
 pub test_ends : (p : ProgramText) (class : ℕ) (stays : Staying) (f : LocalFrame) (test : stated.Test.Test) (found : Vec Mention Global) (way : Ways) (body : found_block.Block) (l : Locals)
     → found.items ≡ reads p.text f.locals (expression_tree test.test) → way ≡ ways (expression_tree test.test) → IsResolvedPiece p.text (block_told p class stays (block_tree test.body) f) (block_model body) l
     → IsResolvedPiece p.text (test_told p class stays (test_tree test) f) (test_model (found_test.roll-Test (record { place = test.word.place; reads = found; ways = way; body = body }))) l
@@ -69,7 +69,7 @@ block_ends text place f t what l m outer last behind gone kept size here there f
           (subst (λ o. IsLocalFrame text (scoped (take outer t.frame.locals) o t.frame) m) first (leave t.frame told.frame));
     }
 
--- what stands behind the first block of an `if`: further conditions, and then the last block
+-- the rest of an `if` after its first block: further conditions, and then the last block
 abbrev others_end : List TestModel → Option BlockModel → LocalFrame → ResolvedPiece seen.OthersModel
 others_end tests last f = record { what = seen.other_sequence tests last; frame = f }
 

@@ -1,4 +1,4 @@
--- What messages bring, message by message.
+-- The payload types of messages, message by message.
 use Rattle.std.proofs.Common.{◌≡◌, ℕ, ◌+◌, ◌<◌, ◌≤◌, List, [], ◌∷◌, ◌++◌, length, map, take, get_or, sym, ap, ◌∙◌, append_assoc, append-nil, Option, None, Some}
 use Rattle.std.specs.Global.{Vec}
 use Rattle.std.specs.List.{flat_map}
@@ -14,7 +14,7 @@ use Rattle.program.specs.declared.types.HeapType.{HeapType}
 use Rattle.resolving.specs.Brought.{payload_types, held_listed}
 use Rattle.program.specs.Programs.{type_lists}
 
--- what these hold, one after another
+-- the types of the exchange heap that these hold, in order
 abbrev pub all_held : {X : Type 0} → (X → Option HeapType) → List X → List HeapType
 all_held holds xs = flat_map (λ x. held_listed (holds x)) xs
 
@@ -23,28 +23,28 @@ held_more : {X : Type 0} (holds : X → Option HeapType) (xs : List X) (i : ℕ)
 held_more holds xs i d lt =
     ap (all_held holds) (take_more xs i d lt) ∙ sym (flat_map_more (λ x. held_listed (holds x)) [] (take i xs) (get_or xs i d))
 
--- one more that is of the exchange heap
+-- one more that holds a type of the exchange heap
 pub held_some : {X : Type 0} (holds : X → Option HeapType) (xs : List X) (i : ℕ) (d : X) (held : HeapType) (done : List HeapType) → i < length xs
     → done ≡ all_held holds (take i xs) → Some held ≡ holds (get_or xs i d) → done ++ held ∷ [] ≡ all_held holds (take (i + 1) xs)
 held_some holds xs i d held done lt before is =
     ap (λ l. l ++ held ∷ []) before ∙ ap (λ o. all_held holds (take i xs) ++ held_listed o) is ∙ sym (held_more holds xs i d lt)
 
--- one more that is not
+-- one more that holds none
 pub held_none : {X : Type 0} (holds : X → Option HeapType) (xs : List X) (i : ℕ) (d : X) (done : List HeapType) → i < length xs
     → done ≡ all_held holds (take i xs) → None ≡ holds (get_or xs i d) → done ≡ all_held holds (take (i + 1) xs)
 held_none holds xs i d done lt before is =
     let front = all_held holds (take i xs) in
     before ∙ sym (append-nil front) ∙ ap (λ (o : Option HeapType). front ++ held_listed o) is ∙ sym (held_more holds xs i d lt)
 
--- one more sequence
+-- one more list of types
 pub lists_more : (done more : List (Vec HeapType)) (types : Vec HeapType) (bs : List HeapType) → more ≡ done ++ types ∷ [] → types.items ≡ bs → type_lists more ≡ type_lists done ++ bs ∷ []
 lists_more done more types bs new is = ap type_lists new ∙ map-append (λ (k : Vec HeapType). k.items) done (types ∷ []) ∙ ap (λ b. type_lists done ++ b ∷ []) is
 
--- what the messages among the first so many members bring
+-- the payload types of the messages among the first i members
 abbrev pub first_members : ProgramText → List Member → ℕ → List (List HeapType)
 first_members p xs i = map (payload_types p) (flat_map message_among (map member_tree (take i xs)))
 
--- one more member, which adds what it brings if it is a message
+-- one more member, which adds its payload types if it is a message
 pub members_more : (p : ProgramText) (xs : List Member) (i : ℕ) (x : Member) (old done more : List (List HeapType)) → i < length xs → x ≡ get_or xs i x
     → done ≡ old ++ first_members p xs i → more ≡ done ++ map (payload_types p) (message_among (member_tree x)) → more ≡ old ++ first_members p xs (i + 1)
 members_more p xs i x old done more lt is before new =
@@ -57,7 +57,7 @@ members_more p xs i x old done more lt is before new =
 pub members_all : (p : ProgramText) (xs : List Member) (i : ℕ) → length xs ≤ i → first_members p xs i ≡ map (payload_types p) (flat_map message_among (map member_tree xs))
 members_all p xs i le = ap (λ l. map (payload_types p) (flat_map message_among (map member_tree l))) (take_all i xs le)
 
--- what a contract brings: its messages before the first state, and those among its members
+-- the payload types of a contract: its messages before the first state, then those among its members
 pub contract_brings : (p : ProgramText) (c : ContractTree) (old mid new : List (List HeapType)) → mid ≡ old ++ map (payload_types p) c.messages → new ≡ mid ++ map (payload_types p) (flat_map message_among c.members)
     → new ≡ old ++ map (payload_types p) (flat_map messages_of (c ∷ []))
 contract_brings p c old mid new first second =
@@ -65,7 +65,7 @@ contract_brings p c old mid new first second =
     second ∙ ap (λ l. l ++ map (payload_types p) among) first ∙ append_assoc old (map (payload_types p) c.messages) (map (payload_types p) among)
     ∙ ap (λ l. old ++ l) (sym (map-append (payload_types p) c.messages among)) ∙ ap (λ (l : List MessageTree). old ++ map (payload_types p) l) (sym (append-nil (messages_of c)))
 
--- what the messages of the contracts among the first so many items bring
+-- the payload types of the contracts among the first i items
 abbrev pub first_brought : ProgramText → List Item → ℕ → List (List HeapType)
 first_brought p xs i = map (payload_types p) (flat_map messages_of (contracts_of (map item_tree (take i xs))))
 

@@ -1,4 +1,4 @@
--- The method that a name means, and what is given for its parameters.
+-- The method that a name means, and the arguments that are given for its parameters.
 use Rattle.std.proofs.Common.{◌≡◌, ℕ, ◌+◌, ◌<◌, List, [], ◌∷◌, ◌++◌, length, map, take, get_or, sym, refl, ap, ◌∙◌, append_assoc, append-nil, Bor, Iter, ◌⊎◌, inl, inr}
 use Rattle.std.specs.Prelude.{Option, None, Some, option_map, option_and_then, slice_get}
 use Rattle.std.specs.Iterator.Adapters.{zip_first, zip_second}
@@ -33,11 +33,11 @@ use Rattle.resolving.specs.Steps.{AddsReads}
 use Rattle.resolving.specs.Plain.{argument_reads, arguments, argument_of, lone}
 use Rattle.resolving.specs.declared.locals.Locals.{Locals}
 
--- a class that is looked up by its place
+-- the class of an item, with its index
 abbrev class_in : ℕ → Option ItemTree → Option (Numbered ClassTree)
 class_in class item = option_and_then (λ i. option_map (λ c. (class, c)) (as_class i.definition)) item
 
--- where the first method of a name stands in it, and that method
+-- the index in a class of the first method with this name, and that method
 abbrev index_in : List ℕ → Span → Option (Numbered ClassTree) → Option ℕ
 index_in text name c = option_and_then (λ c. first_among text (map (λ m. m.name) c.1.methods) name) c
 
@@ -50,7 +50,7 @@ in_definition text class name before index (Contract c) h = cc
 in_definition text class name before index (Struct s) h = cc
 in_definition text class name before index (Class c) h = ap (option_and_then (numbered_method before c.methods)) (sym h)
 
--- the method at the place that the name has in the class
+-- the method at the index that the name has in the class
 pub method_there : (p : ProgramText) (class : ℕ) (name : Span) (index : ℕ) (i : ItemTree) → Some index ≡ option_and_then (λ c. first_among p.text (map (λ m. m.name) c.1.methods) name) (item_at as_class p class) → slice_get p.items class ≡ Some i
     → method_at p class name ≡ numbered_method (methods_before p.items class) (methods_in i.definition) index
 method_there p class name index i h at =
@@ -58,7 +58,7 @@ method_there p class name index i h at =
     ap (λ o. found_in p.text name before (class_in class o)) at
     ∙ in_definition p.text class name before index i.definition (h ∙ ap (λ o. index_in p.text name (class_in class o)) at)
 
--- the callee that the code makes of what it looks up
+-- the callee that the code builds from its look-ups is the method that the name means
 pub callee_is : (p : ProgramText) (class : ℕ) (name : Span) (index v : ℕ) (items : List tree.Item.Item) (i : tree.Item.Item) (methods : List made.Method.Method) (m : made.Method.Method) → map item_tree items ≡ p.items
     → Some index ≡ option_and_then (λ c. first_among p.text (map (λ m. m.name) c.1.methods) name) (item_at as_class p class) → slice_get items class ≡ Some i
     → map method_tree methods ≡ methods_in (definition_tree i.definition) → slice_get methods index ≡ Some m → v ≡ methods_before (map item_tree items) class
@@ -71,11 +71,11 @@ callee_is p class name index v items i methods m same found at within is before 
     ∙ sym (ap (option_map (λ x. record { number = methods_before p.items class + index; method = x })) method)
     ∙ sym (method_there p class name index (item_tree i) found item)
 
--- what arguments read, as far as they were walked
+-- what the first n arguments read
 abbrev pub read_to : ProgramText → ℕ → List Expression → ℕ → LocalFrame → List Mention
 read_to p own es n f = argument_reads p own f (map expression_tree (take n es))
 
--- one argument more
+-- one more argument
 pub read_more : (p : ProgramText) (own : ℕ) (es : List Expression) (n : ℕ) (e : Expression) (locals : Locals) (old now new : List Mention) → n < length es → e ≡ get_or es n e
     → AddsReads p.text locals (read_to p own es n) old now → AddsReads p.text locals (λ f. reads p.text f.locals (expression_tree e)) now new → AddsReads p.text locals (read_to p own es (n + 1)) old new
 read_more p own es n e locals old now new lt is before adds = record {
@@ -88,7 +88,7 @@ read_more p own es n e locals old now new lt is before adds = record {
       adds.all f frame ∙ ap (λ l. l ++ here) (before.all f frame) ∙ append_assoc old so here ∙ ap (λ l. old ++ l) (sym more);
 }
 
--- what is given, and what the rest of both lists gives behind it
+-- the arguments so far, and then those that the rest of both lists gives
 abbrev pub given_to_end : ProgramText → ℕ → LocalFrame → List Argument → Zip (Iter Parameter) (Iter Expression) → List Argument
 given_to_end p own f list s = list ++ arguments p own f (iter_rest (zip_first s)) (map expression_tree (iter_rest (zip_second s)))
 
@@ -100,7 +100,7 @@ given_first p own f list s params es none first second =
     ∙ ap (λ xs. arguments p own f xs (map expression_tree (iter_rest (zip_second s)))) first
     ∙ ap (λ ys. arguments p own f params (map expression_tree ys)) second
 
--- one parameter more
+-- one more parameter
 pub given_more : (p : ProgramText) (own : ℕ) (f : LocalFrame) (list : List Argument) (s t : Zip (Iter Parameter) (Iter Expression)) (r : Option (Bor Parameter × Bor Expression)) (q : Bor Parameter × Bor Expression) → r ≡ Some q → zips fronts fronts s r t
     → given_to_end p own f list s ≡ given_to_end p own f (list ++ argument_of q.0.now (lone p own f (expression_tree q.1.now))) t
 given_more p own f list s t r q is step =
@@ -118,15 +118,15 @@ ended : (p : ProgramText) (own : ℕ) (f : LocalFrame) (list : List Argument) (p
 ended p own f list params es (inl none) = ap (λ xs. list ++ arguments p own f xs (map expression_tree es)) none ∙ append-nil list
 ended p own f list params es (inr none) = ap (λ xs. list ++ arguments p own f params (map expression_tree xs)) none ∙ ap (λ l. list ++ l) (none_given p own f params) ∙ append-nil list
 
--- behind the last of either list nothing is given
+-- once either list is at its end, no more arguments follow
 pub given_all : (p : ProgramText) (own : ℕ) (f : LocalFrame) (list : List Argument) (s t : Zip (Iter Parameter) (Iter Expression)) (r : Option (Bor Parameter × Bor Expression)) → r ≡ None → zips fronts fronts s r t → given_to_end p own f list s ≡ list
 given_all p own f list s t r is step = ended p own f list (iter_rest (zip_first s)) (iter_rest (zip_second s)) (either_empty_from_Zip s t r is step)
 
--- the parts of a call
+-- a call with these parts
 abbrev pub call_with : List Mention → Place → MethodId → List Argument → Option Mention → List Mention → CallModel
 call_with reads place method arguments target behind = record { reads = reads; place = place; method = method; arguments = arguments; target = target; behind = behind }
 
--- calls of the same parts
+-- calls with equal parts are equal
 pub same_call : (method : MethodId) (target : Option Mention) (behind : List Mention) (r s : List Mention) (x y : Place) (a b : List Argument) → r ≡ s → x ≡ y → a ≡ b → call_with r x method a target behind ≡ call_with s y method b target behind
 same_call method target behind r s x y a b reads index args =
     ap (λ l. call_with l x method a target behind) reads ∙ ap (λ l. call_with s l method a target behind) index ∙ ap (λ l. call_with s y method l target behind) args

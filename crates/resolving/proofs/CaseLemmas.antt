@@ -1,4 +1,4 @@
--- What the cases of a switch come to.
+-- What the cases of a switch resolve to.
 use denote.Param.Weighed.{at_most}
 use Rattle.std.proofs.Common.{◌≡◌, ℕ, suc, ◌+◌, ◌<◌, ◌≤◌, List, [], ◌∷◌, ◌++◌, length, map, drop, get_or, sym, refl, ap, ◌∙◌, subst, add-one, arith}
 use Rattle.std.specs.Prelude.{Vec}
@@ -27,7 +27,7 @@ use Rattle.resolving.specs.declared.locals.Locals.{Locals}
 use Rattle.resolving.proofs.SeenTwins.{case_made}
 use Rattle.tree.proofs.StatementTwins.{case_is, switch_is}
 
--- what a case binds, and the frame behind it
+-- what a case binds, and the frame after it
 abbrev pub bound_in : ProgramText → stated.Case.Case → LocalFrame → ResolvedPiece (List VarId)
 bound_in p case f = binds_told p (awaited_params (awaited_message p f case.endpoint case.message)) case.binds.items f
 
@@ -46,7 +46,7 @@ case_ends p class stays behind f case endpoint awaited bound body l at waits bin
       frame = told.frame;
     })
 
--- cases in front of others
+-- these cases, and then the rest
 abbrev pub cases_before : List CaseModel → CasesModel → CasesModel
 cases_before [] rest = rest
 cases_before (c ∷ cs) rest = seen.MoreCases c (cases_before cs rest)
@@ -59,7 +59,7 @@ before_none : (done : List CaseModel) → cases_before done seen.NoCase ≡ seen
 before_none [] = refl
 before_none (d ∷ done) = ap (seen.MoreCases d) (before_none done)
 
--- so many cases are told; this one is next, and then the rest
+-- the cases `done` are resolved; `next` comes now, and then `rest`
 pub record CasesGo (p : ProgramText) (class : ℕ) (stays : Staying) (close : Place) (f : LocalFrame) (all : CaseTrees) (done : List CaseModel) (next : CaseTree) (rest : CaseTrees) (l : Locals) : Type 0 where
   pub here : LocalFrame
   pub stands : IsLocalFrame p.text here l
@@ -82,11 +82,11 @@ case_then p class stays close f all done next after rest l m x go tell =
 token_behind : (case : stated.Case.Case) (rest : CaseTrees) (close : Place) → behind_case (trees.MoreCases (case_tree case) rest) close ≡ case.word.place
 token_behind case rest close = ap (λ c. behind_case (trees.MoreCases c rest) close) (case_is case)
 
--- no case is told yet
+-- no case is resolved yet
 pub cases_start : (p : ProgramText) (class : ℕ) (stays : Staying) (close : Place) (f : LocalFrame) (first : CaseTree) (rest : CaseTrees) (l : Locals) → IsLocalFrame p.text f l → CasesGo p class stays close f (trees.MoreCases first rest) [] first rest l
 cases_start p class stays close f first rest l h = record { here = f; stands = h; whole = refl }
 
--- one more case is told, behind which the next one stands
+-- one more case is resolved, and the next one follows
 pub cases_more : (p : ProgramText) (class : ℕ) (stays : Staying) (close : Place) (f : LocalFrame) (all : CaseTrees) (done : List found_case.Case) (next : CaseTree) (others : List stated.Case.Case) (i : ℕ) (after : stated.Case.Case) (l m : Locals) (x : found_case.Case)
     → i < length others → after ≡ get_or others i after → CasesGo p class stays close f all (map case_model done) next (case_sequence (map case_tree (drop i others))) l
     → ((g : LocalFrame) → IsLocalFrame p.text g l → IsResolvedPiece p.text (case_told p class stays after.word.place next g) (case_model x) m)
@@ -100,7 +100,7 @@ cases_more p class stays close f all done next others i after l m x lt is go tel
     (case_then p class stays close f all seen_so next (case_tree after) rest l m (case_model x) (subst (λ cs. CasesGo p class stays close f all seen_so next cs l) sequence go)
     (λ g here. subst (λ k. IsResolvedPiece p.text (case_told p class stays k next g) (case_model x) m) (sym (token_behind after rest close)) (tell g here)))
 
--- the last case is told, behind which the switch ends
+-- the last case is resolved, and the switch ends
 pub cases_end : (p : ProgramText) (class : ℕ) (stays : Staying) (close : Place) (f : LocalFrame) (all : CaseTrees) (done : List found_case.Case) (next : CaseTree) (others : List stated.Case.Case) (i : ℕ) (l m : Locals) (x : found_case.Case)
     → length others ≤ i → CasesGo p class stays close f all (map case_model done) next (case_sequence (map case_tree (drop i others))) l
     → ((g : LocalFrame) → IsLocalFrame p.text g l → IsResolvedPiece p.text (case_told p class stays close next g) (case_model x) m)
@@ -116,13 +116,13 @@ cases_end p class stays close f all done next others i l m x le go tell =
       frame = told.frame;
     })
 
--- the cases of a switch in memory, and in a row
+-- the cases of a switch in the tree are those in memory
 pub switch_cases : (p : ProgramText) (class : ℕ) (stays : Staying) (f : LocalFrame) (s : stated.Switch.Switch)
     → (let parts = stated.Switch.out-Switch s in cases_told p class stays (trees.MoreCases (switch_tree s).first (case_sequence (switch_tree s).others)) (switch_tree s).close.place f
     ≡ cases_told p class stays (trees.MoreCases (case_tree parts.first) (case_sequence (map case_tree parts.others.items))) parts.close.place f)
 switch_cases p class stays f s = ap (λ (t : SwitchTree). cases_told p class stays (trees.MoreCases t.first (case_sequence t.others)) t.close.place f) (switch_is s)
 
--- the first case of a switch is less deep than the switch
+-- the first case of a switch is smaller than the switch
 pub first_inside : (s : stated.Switch.Switch) → stated.Case.size-Case (stated.Switch.out-Switch s).first < stated.Switch.size-Switch s
 first_inside s = let deep = stated.Switch.size_is-Switch s in omega (arith, deep)
 

@@ -1,4 +1,4 @@
--- What stands before an item.
+-- Counts of what the items before an item declare.
 use Rattle.std.proofs.Common.{◌≡◌, ℕ, ◌+◌, ◌<◌, ◌≤◌, List, [], ◌∷◌, ◌++◌, length, map, take, drop, get_or, sym, ap, ◌∙◌, arith}
 use Rattle.std.specs.List.{flat_map, range_with_len}
 use Rattle.std.proofs.lemmas.Grind.{flat_map-append}
@@ -13,11 +13,11 @@ use Rattle.resolving.specs.Callees.{all_methods, methods_before}
 use Rattle.resolving.specs.Counts.{before, contracts_before, counts, struct_among, structs_before}
 use Rattle.resolving.specs.declared.counts.ItemsBefore.{ItemsBefore}
 
--- how many of some kind stand before an item
+-- how many of some kind the first n items declare
 abbrev standing : {X : Type 0} → (DefinitionTree → List X) → List ItemTree → ℕ → ℕ
 standing f items n = length (flat_map (λ i. f i.definition) (take n items))
 
--- behind an item stand also those that it declares
+-- one more item adds what it declares
 more_standing : {X : Type 0} (f : DefinitionTree → List X) (items : List Item) (n : ℕ) (i : Item) → n < length items → i ≡ get_or items n i
     → standing f (map item_tree items) (n + 1) ≡ standing f (map item_tree items) n + length (f (definition_tree i.definition))
 more_standing f items n i lt is =
@@ -30,7 +30,7 @@ more_standing f items n i lt is =
     ∙ ap length (sym (flat_map_more front [] (take n trees) tree))
     ∙ length-append (flat_map front (take n trees)) (front tree)
 
--- no more stand before an item than there are
+-- the first items declare no more than all items
 fewer_standing : {X : Type 0} (f : DefinitionTree → List X) (items : List ItemTree) (n : ℕ) → standing f items n ≤ length (flat_map (λ i. f i.definition) items)
 fewer_standing f items n =
     let front : ItemTree → List _ = λ t. f t.definition in
@@ -39,7 +39,7 @@ fewer_standing f items n =
     let parts = length-append (flat_map front (take n items)) (flat_map front (drop n items)) in
     omega (arith, all, split, parts)
 
--- where an item declares one at most, there are no more than items
+-- if each item declares at most one, there are no more than items
 singles_few : {X : Type 0} (f : DefinitionTree → List X) → ((d : DefinitionTree) → length (f d) ≤ 1) → (items : List ItemTree) → length (flat_map (λ i. f i.definition) items) ≤ length items
 singles_few f one [] = omega arith
 singles_few f one (i ∷ items) =
@@ -58,15 +58,15 @@ one_struct (Contract c) = omega arith
 one_struct (Struct s) = omega arith
 one_struct (Class c) = omega arith
 
--- what stands before each of the first items
+-- the counts before each of the first n items
 abbrev pub counted : List Item → ℕ → List ItemsBefore
 counted items n = map (before (map item_tree items)) (range_with_len 0 n)
 
--- one item more is counted
+-- one more item is counted
 pub counted_more : (items : List Item) (n : ℕ) → counted items (n + 1) ≡ counted items n ++ before (map item_tree items) n ∷ []
 counted_more items n = map-range_with_len_more (before (map item_tree items)) 0 n n (omega arith)
 
--- what stands behind an item: what it declares too, and no more than there is
+-- the counts after item n: those before it and what it declares, and no more than there is
 pub record Behind (items : List Item) (n : ℕ) (i : Item) : Type 0 where
   pub methods : (before (map item_tree items) (n + 1)).methods ≡ (before (map item_tree items) n).methods + length (methods_in (definition_tree i.definition))
   pub contracts : (before (map item_tree items) (n + 1)).contracts ≡ (before (map item_tree items) n).contracts + length (contract_of (definition_tree i.definition))
@@ -75,7 +75,7 @@ pub record Behind (items : List Item) (n : ℕ) (i : Item) : Type 0 where
   pub few_contracts : (before (map item_tree items) (n + 1)).contracts ≤ length items
   pub few_structs : (before (map item_tree items) (n + 1)).structs ≤ length items
 
--- so it stands behind each of them
+-- this holds of each item
 pub behind_item : (items : List Item) (n : ℕ) (i : Item) → n < length items → i ≡ get_or items n i → Behind items n i
 behind_item items n i lt is =
     let trees = map item_tree items in
@@ -95,7 +95,7 @@ numbers methods contracts structs = record { methods = methods; contracts = cont
 same_numbers : (m n k x y z : ℕ) → m ≡ x → n ≡ y → k ≡ z → numbers m n k ≡ numbers x y z
 same_numbers m n k x y z methods contracts structs = ap (λ a. numbers a n k) methods ∙ ap (λ a. numbers x a k) contracts ∙ ap (numbers x y) structs
 
--- what is counted behind an item
+-- adding what an item declares gives the counts after it
 pub count_more : (items : List Item) (n : ℕ) (i : Item) (so_far : ItemsBefore) (methods contracts structs : ℕ) → Behind items n i → so_far ≡ before (map item_tree items) n
     → methods ≡ length (methods_in (definition_tree i.definition)) → contracts ≡ length (contract_of (definition_tree i.definition)) → structs ≡ length (struct_among (definition_tree i.definition))
     → record { methods = so_far.methods + methods; contracts = so_far.contracts + contracts; structs = so_far.structs + structs } ≡ before (map item_tree items) (n + 1)
@@ -110,13 +110,13 @@ count_more items n i so_far methods contracts structs behind here many_methods m
 pub counts_long : (items : List ItemTree) → length (counts items) ≡ length items
 counts_long items = length-map-range_with_len (before items) 0 (length items)
 
--- what is counted at an item
+-- the counts read at index n are those before item n
 pub count_read : (items : List ItemTree) (all : List ItemsBefore) (n : ℕ) (b : ItemsBefore) → all ≡ counts items → n < length all → b ≡ get_or all n b → b ≡ before items n
 count_read items all n b counted lt is =
     let long = ap length counted ∙ counts_long items in
     is ∙ ap (λ l. get_or l n b) counted ∙ get_or-map-range_with_len (before items) 0 (length items) n n b (omega (arith, long, lt)) (omega arith)
 
--- the number of a method is less than the most there can be
+-- the number of a method is below the limit
 pub number_few : (items : List Item) (all : List ItemsBefore) (n k : ℕ) (b : ItemsBefore) (i : Item) (methods : List made.Method.Method) → length (all_methods (map item_tree items)) ≤ MOST_METHODS → all ≡ counts (map item_tree items)
     → n < length all → b ≡ get_or all n b → n < length items → i ≡ get_or items n i → map method_tree methods ≡ methods_in (definition_tree i.definition) → k < length methods → b.methods + k < MOST_METHODS
 number_few items all n k b i methods few counted lt is within at same below =

@@ -16,11 +16,11 @@ use Rattle.resolving.specs.Reads.{reads, step_reads}
 use Rattle.resolving.specs.Steps.{AddsReads}
 use Rattle.resolving.specs.declared.locals.Locals.{Locals}
 
--- what the unaries behind the first one read
+-- what these factors read, in order
 abbrev pub factor_reads : List ℕ → List Local → List FactorTree → List Mention
 factor_reads text ls fs = flat_map (λ (f : FactorTree). reads text ls f.1) fs
 
--- Whichever operator stands behind it, a unary before a sum is read before what the sum reads.
+-- Whatever the operator, a unary before a sum is read before the sum.
 before_reads : (text : List ℕ) (ls : List Local) (u : LevelTree Single) (o : FactorOperator) (s : LevelTree (Joined Add)) → reads text ls (before_sum u o s) ≡ reads text ls u ++ reads text ls s
 before_reads text ls u operators.Times (Chain _ (Chain _ first others) steps) = append_assoc (reads text ls u) (reads text ls first ++ step_reads text ls others) (step_reads text ls steps)
 before_reads text ls u (operators.Sum o) (Chain _ first others) = ap (λ m. m ++ (reads text ls first ++ step_reads text ls others)) (append-nil (reads text ls u))
@@ -29,7 +29,7 @@ gathered_reads : (text : List ℕ) (ls : List Local) (u : LevelTree Single) (fs 
 gathered_reads text ls u [] = append-nil (reads text ls u ++ [])
 gathered_reads text ls u (f ∷ fs) = before_reads text ls u f.0 (sum_of_factors f.1 fs) ∙ ap (λ m. reads text ls u ++ m) (gathered_reads text ls f.1 fs)
 
--- what a sequence reads as far as it was walked
+-- what the first two parts and the next i factors of a sequence read
 abbrev pub sequence_reads : List ℕ → LevelTree Single → FactorTree → List Factor → ℕ → LocalFrame → List Mention
 sequence_reads text first second xs i g = reads text g.locals first ++ factor_reads text g.locals (second ∷ map factor_tree (take i xs))
 
@@ -43,7 +43,7 @@ factors_more text ls f xs i x lt is =
     ∙ flat_map-append (λ (g : FactorTree). reads text ls g.1) done (factor_tree x ∷ [])
     ∙ ap (λ m. factor_reads text ls done ++ m) (append-nil (reads text ls (factor_tree x).1))
 
--- before the loop a sequence has read its first two parts
+-- before the loop, a sequence has read its first two parts
 pub sequence_first : (text : List ℕ) (first second : LevelTree Single) (f : FactorTree) (xs : List Factor) {locals : Locals} {old mid new : List Mention}
     → f.1 ≡ second → AddsReads text locals (λ g. reads text g.locals first) old mid → AddsReads text locals (λ g. reads text g.locals second) mid new → AddsReads text locals (sequence_reads text first f xs 0) old new
 sequence_first text first second f xs {old = old} seen before more = record {

@@ -1,4 +1,4 @@
--- Targets and resolved statements in memory and without it, a form at a time.
+-- The tree of each form of a target, and the model of each form of a resolved statement.
 use Rattle.std.proofs.Common.{◌≡◌, sym, ap, ◌∙◌, Box}
 use Rattle.std.specs.Global.{Global}
 use Rattle.source.specs.declared.token.Span.{Span}

@@ -15,7 +15,7 @@ use Rattle.program.specs.Methods.{MethodModel}
 use Rattle.resolving.specs.Callees.{all_methods}
 use Rattle.resolving.specs.Methods.{item_told, method_told}
 
--- the methods of the first so many items
+-- the methods of the first i items
 abbrev pub first_told : ProgramText → List Item → ℕ → List MethodModel
 first_told p xs i = flat_map (item_told p) (enumerate_from 0 (map item_tree (take i xs)))
 
@@ -34,7 +34,7 @@ items_more p xs i x lt is =
 pub items_all : (p : ProgramText) (xs : List Item) (i : ℕ) → length xs ≤ i → first_told p xs i ≡ flat_map (item_told p) (enumerate_from 0 (map item_tree xs))
 items_all p xs i le = ap (λ l. flat_map (item_told p) (enumerate_from 0 (map item_tree l))) (take_all i xs le)
 
--- one more that is resolved
+-- one more resolved element
 pub seen_more : {S T X : Type 0} (seen : T → X) (go : S → X) (ss : List S) (i : ℕ) (s : S) (old done more : List T) (t : T) → i < length ss → s ≡ get_or ss i s
     → map seen done ≡ map seen old ++ map go (take i ss) → more ≡ done ++ t ∷ [] → seen t ≡ go s → map seen more ≡ map seen old ++ map go (take (i + 1) ss)
 seen_more seen go ss i s old done more t lt is before new one =
@@ -43,7 +43,7 @@ seen_more seen go ss i s old done more t lt is before new one =
     ap (map seen) new ∙ map-append seen done (t ∷ []) ∙ ap (λ l. l ++ seen t ∷ []) before ∙ ap (λ x. (map seen old ++ front) ++ x ∷ []) one
     ∙ append_assoc (map seen old) front (go s ∷ []) ∙ ap (λ l. map seen old ++ l) (sym taken)
 
--- There are as many as the items have.
+-- There are as many resolved methods as the items have methods.
 pub told_many : (p : ProgramText) (n : ℕ) (items : List ItemTree) → length (flat_map (item_told p) (enumerate_from n items)) ≡ length (all_methods items)
 told_many p n [] = refl
 told_many p n (i ∷ items) =
@@ -52,7 +52,7 @@ told_many p n (i ∷ items) =
     ∙ ap (λ k. k + length (flat_map (item_told p) (enumerate_from (n + 1) items))) (length-map methods (method_told p n))
     ∙ ap (λ k. length methods + k) (told_many p (n + 1) items) ∙ sym (length-append methods (all_methods items))
 
--- Where nothing is wrong with the names of items, there are no more than the limit.
+-- If nothing is wrong with the names of items, there are no more methods than the limit.
 pub few_methods : (p : ProgramText) → items_mistakes p ≡ [] → length (all_methods p.items) ≤ MOST_METHODS
 few_methods p clean =
     let few = not_past limit.Methods (method_names p) (nil_right (twice_among p.text (item_names p)) _ clean) in

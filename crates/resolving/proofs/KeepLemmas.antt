@@ -1,4 +1,4 @@
--- What stood in scope before a statement stands in front behind it.
+-- A statement keeps the variables in scope and only appends to them.
 use Rattle.std.proofs.Common.{◌≡◌, ℕ, Bool, true, false, List, [], ◌∷◌, ◌++◌, length, take, if◌then◌else◌, Option, Some, None, sym, refl, ap, ◌∙◌, append_assoc, append-nil}
 use Rattle.std.specs.Prelude.{is_some}
 use Rattle.std.proofs.lemmas.List.{take_at}
@@ -16,7 +16,7 @@ use Rattle.resolving.specs.Told.{statement_told, statements_told, block_told, te
 use Rattle.resolving.specs.Staying.{Staying, stays_here, in_switch}
 use Rattle.resolving.specs.declared.locals.Declaration.{Declaration}
 
--- the second has what is in scope in the first, and more behind it
+-- the variables in scope in g are those in scope in f, and then maybe more
 pub record Extends (f g : LocalFrame) : Type 0 where
   pub more : List Local
   pub is : g.locals ≡ f.locals ++ more
@@ -27,7 +27,7 @@ same_extends f g same = record { more = []; is = same ∙ sym (append-nil f.loca
 extends_then : (f g h : LocalFrame) → Extends f g → Extends g h → Extends f h
 extends_then f g h first second = record { more = first.more ++ second.more; is = second.is ∙ ap (λ l. l ++ second.more) first.is ∙ append_assoc f.locals first.more second.more }
 
--- the first so many are those of the first
+-- the first variables of g, as many as f has, are those of f
 pub kept : (f g : LocalFrame) → Extends f g → take (length f.locals) g.locals ≡ f.locals
 kept f g extends = ap (take (length f.locals)) extends.is ∙ take_at f.locals extends.more _ refl
 
@@ -77,7 +77,7 @@ statement_extends p class stays (trees.If first others) f = same_extends f _ (ot
 statement_extends p class stays (trees.While test) f = same_extends f _ (test_same p class (stays_here f) test f)
 statement_extends p class stays (trees.Switch word first cases close) f = same_extends f _ (cases_same p class (in_switch stays f) (trees.MoreCases first cases) close.place f)
 
--- so it is behind statements in a row
+-- statements one after another extend the frame
 pub statements_extend : (p : ProgramText) (class : ℕ) (stays : Staying) (xs : StatementTrees) (f : LocalFrame) → Extends f (statements_told p class stays xs f).frame
 statements_extend p class stays trees.NoStatement f = same_extends f f refl
 statements_extend p class stays (trees.MoreStatements x xs) f = extends_then f _ _ (statement_extends p class stays x f) (statements_extend p class stays xs (statement_told p class stays x f).frame)
@@ -87,6 +87,6 @@ binds_extend p params [] f = same_extends f f refl
 binds_extend p [] (b ∷ binds) f = extends_then f _ _ (declared_extends p.text (bound_as p None b.name b.ty) f) (binds_extend p [] binds (bind_told p None b f).frame)
 binds_extend p (x ∷ params) (b ∷ binds) f = extends_then f _ _ (declared_extends p.text (bound_as p (Some x) b.name b.ty) f) (binds_extend p params binds (bind_told p (Some x) b f).frame)
 
--- and behind what a case binds, with the statements behind it
+-- what a case binds and its statements extend the frame
 pub case_extends : (p : ProgramText) (class : ℕ) (stays : Staying) (params : List tree.MessageParameter.MessageParameter) (binds : List made.Bind.Bind) (xs : StatementTrees) (f : LocalFrame) → Extends f (statements_told p class stays xs (binds_told p params binds f).frame).frame
 case_extends p class stays params binds xs f = extends_then f _ _ (binds_extend p params binds f) (statements_extend p class stays xs (binds_told p params binds f).frame)

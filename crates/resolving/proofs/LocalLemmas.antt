@@ -25,7 +25,7 @@ local_at : (text : List ℕ) (f : LocalFrame) (l : Locals) → IsLocalFrame text
 local_at text f l h None = refl
 local_at text f l h (Some k) = sym (slice_get-map local_model l.list.items k) ∙ ap (λ x. slice_get x k) h.list
 
--- the variable that a table of names leads to
+-- the variable found in the table of names is the one with this name
 pub local_found : (text : List ℕ) (f : LocalFrame) (l : Locals) (name : Span) (index : Option ℕ) → IsLocalFrame text f l → index ≡ first_of (words_in text f.locals) (word_at text name)
     → option_map local_model (option_and_then (slice_get l.list.items) index) ≡ local_named text f.locals name
 local_found text f l name index h is = local_at text f l h index ∙ ap (option_and_then (slice_get f.locals)) is
@@ -41,21 +41,21 @@ some_there text locals name (Some k) is =
     let lt : k < length locals = omega (arith, at.0, many) in
     ap is_some (slice_get-get_or locals k (record { name = name; ty = Missing; number = None }) lt)
 
--- a variable of a name is in scope where the name is among theirs
+-- a variable with this name is in scope exactly if the name is among the words in scope
 is_named : (text : List ℕ) (locals : List model.Local) (name : Span) → is_some (local_named text locals name) ≡ is_some (first_of (words_in text locals) (word_at text name))
 is_named text locals name = some_there text locals name (first_of (words_in text locals) (word_at text name)) refl
 
 abbrev entered_if : Bool → Declaration → Option ℕ → LocalFrame → LocalFrame
 entered_if taken d number f = scoped (if taken then f.locals else f.locals ++ here d number ∷ []) f.last f
 
--- a name that is taken already
+-- a name that is already taken adds no variable
 pub entered_taken : (text : List ℕ) (f : LocalFrame) (l : Locals) (d : Declaration) (number : Option ℕ) (word : List ℕ) (found : Option ℕ) → IsLocalFrame text f l → word ≡ word_at text d.name
     → ((words : List (List ℕ)) → IsTable words l.names → found ≡ first_of words word) → is_some found ≡ true → IsLocalFrame text (scoped (with_local text d number f.locals) f.last f) l
 entered_taken text f l d number word found h at is taken =
     let there = is_named text f.locals d.name ∙ ap (λ w. is_some (first_of (words_in text f.locals) w)) (sym at) ∙ sym (ap is_some (is (words_in text f.locals) h.names)) ∙ taken in
     subst (λ b. IsLocalFrame text (entered_if b d number f) l) (sym there) h
 
--- a new name
+-- a new name adds its variable
 pub entered_new : (text : List ℕ) (f : LocalFrame) (l m : Locals) (d : Declaration) (number : Option VarId) (word : List ℕ) (found : Option ℕ) → IsLocalFrame text f l → word ≡ word_at text d.name
     → ((words : List (List ℕ)) → IsTable words l.names → found ≡ first_of words word) → is_some found ≡ false
     → ((words : List (List ℕ)) → IsTable words l.names → first_of words word ≡ None → IsTable (words ++ word ∷ []) m.names)
@@ -75,7 +75,7 @@ entered_new text f l m d number word found h at is taken table list last variabl
       variables = ap (map _) variables ∙ h.variables;
     })
 
--- one of the exchange heap that is in scope and counted is the last of them
+-- a variable of the exchange heap that was declared is the last one in scope
 pub heap_declared : (text : List ℕ) (f : LocalFrame) (l m : Locals) (d : Declaration) (held : HeapType) (n : ℕ) → IsLocalFrame text f l → n ≡ length l.variables.items
     → IsLocalFrame text (record { locals = with_local text d (Some n) f.locals; last = f.last; variables = with_variable text d held f.last f.variables }) m
     → IsLocalFrame text (declared_heap text d held f) (record { names = m.names; list = m.list; last = Some (number_of n); variables = m.variables })

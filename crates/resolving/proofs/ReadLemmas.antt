@@ -18,7 +18,7 @@ steps_more text ls l (q ∷ ps) p =
     ap (λ xs. reads text ls q.1 ++ xs) (steps_more text ls l ps p)
     ∙ sym (append_assoc (reads text ls q.1) (step_reads text ls (step_sequence l ps)) (reads text ls p.1))
 
--- what a chain reads as far as it was walked
+-- what the first part and the first i steps of a chain read
 abbrev pub chain_reads : List ℕ → (l : Operators) → {X : Type 0} → (X → StepOf l) → LevelTree (below l) → List X → ℕ → LocalFrame → List Mention
 chain_reads text l f first xs i g = reads text g.locals first ++ step_reads text g.locals (step_sequence l (map f (take i xs)))
 

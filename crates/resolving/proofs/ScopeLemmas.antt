@@ -13,13 +13,13 @@ use Rattle.resolving.specs.Locals.{LocalFrame}
 use Rattle.resolving.specs.declared.locals.Local.{Local}
 use Rattle.resolving.specs.declared.locals.Locals.{Locals}
 
--- the words of the variables and one more
+-- the words of the variables and of one more
 pub words_push : (text : List ℕ) (locals : List model.Local) (l : model.Local) → words_in text (locals ++ l ∷ []) ≡ words_in text locals ++ word_at text l.name ∷ []
 words_push text locals l =
     ap (words_at text) (map-append (λ (x : model.Local). x.name) locals (l ∷ []))
     ∙ map-append (word_at text) (map (λ (x : model.Local). x.name) locals) (l.name ∷ [])
 
--- a frame with these variables in scope, and this one the last of the exchange heap
+-- f with these variables in scope, and this one as the last of the exchange heap
 abbrev pub scoped : List model.Local → Option ℕ → LocalFrame → LocalFrame
 scoped locals last f = record { locals = locals; last = last; variables = f.variables }
 
@@ -49,7 +49,7 @@ frame_popped text f l m items x word h is list last variables at table =
     (popped_to text f l m (map local_model items) (local_model x) h split (ap (map local_model) list) last variables
     (subst (λ q. (words : List (List ℕ)) → IsTable (words ++ q ∷ []) l.names → first_of words q ≡ None → IsTable words m.names) at table))
 
--- of the variables in scope when a scope is left, so many are still there
+-- while a scope is left: l has the first variables of f, and the outer ones are still among them
 pub record Leaving (text : List ℕ) (outer : ℕ) (f : LocalFrame) (l : Locals) : Type 0 where
   pub frame : IsLocalFrame text (scoped (take (length l.list.items) f.locals) f.last f) l
   pub stays : take outer (take (length l.list.items) f.locals) ≡ take outer f.locals

@@ -1,4 +1,4 @@
--- What is sent with a message.
+-- The payloads of a message that is sent.
 use Rattle.std.proofs.Common.{◌≡◌, ℕ, ◌+◌, ◌<◌, List, [], ◌∷◌, ◌++◌, length, map, take, get_or, sym, ap, ◌∙◌, append-nil}
 use Rattle.std.proofs.lemmas.Grind.{flat_map-append}
 use Rattle.std.proofs.lemmas.List.{take_more, map-append}
@@ -14,7 +14,7 @@ use Rattle.resolving.specs.Locals.{LocalFrame}
 use Rattle.resolving.specs.Reads.{mention_list}
 use Rattle.resolving.specs.Plain.{lone, payloads}
 
--- one argument more
+-- one more argument
 pub payloads_more : (p : ProgramText) (own : ℕ) (f : LocalFrame) (es : List Expression) (n : ℕ) (e : Expression) → n < length es → e ≡ get_or es n e
     → payloads p own f (map expression_tree (take (n + 1) es)) ≡ payloads p own f (map expression_tree (take n es)) ++ mention_list (lone p own f (expression_tree e))
 payloads_more p own f es n e lt is =
@@ -25,10 +25,10 @@ payloads_more p own f es n e lt is =
     ∙ flat_map-append sends (map expression_tree (take n es)) (expression_tree e ∷ [])
     ∙ ap (λ l. so ++ l) (append-nil (sends (expression_tree e)))
 
--- the parts of a send
+-- a send with these parts
 abbrev pub send_with : List Mention → Place → Mention → MessageId → List Mention → SendModel
 send_with reads place endpoint message payloads = record { reads = reads; place = place; endpoint = endpoint; message = message; payloads = payloads }
 
--- sends of the same parts
+-- sends with equal parts are equal
 pub same_send : (place : Place) (endpoint : Mention) (message : MessageId) (r s a b : List Mention) → r ≡ s → a ≡ b → send_with r place endpoint message a ≡ send_with s place endpoint message b
 same_send place endpoint message r s a b reads given = ap (λ l. send_with l place endpoint message a) reads ∙ ap (send_with s place endpoint message) given

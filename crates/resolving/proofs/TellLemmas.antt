@@ -1,4 +1,4 @@
--- What declarations and methods come to.
+-- What declarations and methods resolve to.
 use Rattle.std.proofs.Common.{◌≡◌, ℕ, List, map, sym, ap, ◌∙◌}
 use Rattle.std.specs.Prelude.{Bool, Option, is_some, option_map}
 use Rattle.source.specs.declared.place.Place.{Place}
@@ -28,7 +28,7 @@ method_of name takes gives result variables statements scope close = record { na
 with_body : made.Method.Method → BlockTree → MethodTree
 with_body m b = record { access = m.access; result = m.result; name = m.name; open_paren = m.«open»; params = m.params.items; body = b }
 
--- a method is what its parts come to
+-- a method resolves to what its parts resolve to
 pub method_is : (p : ProgramText) (class : ℕ) (m : made.Method.Method) (r : Method) (l : Locals) → r.name ≡ m.name.place → r.takes ≡ takes_some m.params.items → r.gives ≡ is_some m.result → r.result ≡ result_held p m.result → r.close ≡ m.body.close.place
     → IsResolvedPiece p.text (statements_told p class (stays_here (parameters_frame p m.params.items no_variables)) (statement_sequence (map statement_tree m.body.statements.items)) (parameters_frame p m.params.items no_variables)) (seen.statement_sequence (map statement_model r.statements.items)) l
     → ((t : List ℕ) (f : LocalFrame) → IsLocalFrame t f l → map variable_model r.variables.items ≡ f.variables) → ((t : List ℕ) (f : LocalFrame) → IsLocalFrame t f l → r.scope ≡ option_map number_of f.last)

@@ -1,4 +1,4 @@
--- What stands round a statement, as the code has it.
+-- The surroundings of a statement, as the code has them.
 use Rattle.std.specs.Prelude.{◌≡◌, ◌≤◌, ℕ, List, [], ◌∷◌, map, length, Option, None, Some}
 use Rattle.std.specs.List.{enumerate_from, flat_map}
 use Rattle.tree.specs.Trees.{ItemTree, Contract, Struct, Class, contracts_of, item_tree, message_tree, method_tree}
@@ -24,16 +24,16 @@ use Rattle.resolving.specs.declared.messages.Meant.{Meant}
 abbrev pub program_in : List ℕ → List ItemTree → ProgramText
 program_in text items = record { text = text; items = items }
 
--- the index of a field that holds this
+-- the index of a field, if it holds something of the exchange heap
 abbrev pub index_listed : ℕ → Option HeapType → List ℕ
 index_listed k None = []
 index_listed k (Some held) = k ∷ []
 
--- the indices of the fields that own among these, in order
+-- the indices of the owning fields among these, in order
 abbrev pub indices_held : ProgramText → List Field → List ℕ
 indices_held p fields = flat_map (λ x. index_listed x.0 (type_held p x.1.ty)) (enumerate_from 0 fields)
 
--- those of a definition, if it is a struct
+-- those of a definition; none if it is no struct
 abbrev pub indices_in : ProgramText → DefinitionTree → List ℕ
 indices_in p (Contract c) = []
 indices_in p (Struct s) = indices_held p s.fields
@@ -42,14 +42,13 @@ indices_in p (Class c) = []
 abbrev pub owning_indices : ProgramText → ItemTree → List ℕ
 owning_indices p i = indices_in p i.definition
 
--- these are the names of a program, its contracts with their names resolved, and what stands before each item
+-- the names of a program, its resolved contracts, and what is before each item
 pub record IsDirectory (p : ProgramText) (t : Directory) : Type 0 where
   pub scope : IsScope p t.scope.now
   pub contracts : map contract_model t.resolved.now.contracts.items ≡ resolved_contracts p.text (contracts_of p.items)
   pub before : t.before.now ≡ counts p.items
 
--- these are the items of a program, what its types are looked up in, the indices of the fields that own in each item, and the index
--- of a class
+-- the items of a program, the directory of its types, the indices of the owning fields of each item, and the index of a class
 pub record IsAround (p : ProgramText) (class : ℕ) (a : Around) : Type 0 where
   pub directory : IsDirectory p a.directory
   pub items : map item_tree a.items.now ≡ p.items
@@ -57,10 +56,10 @@ pub record IsAround (p : ProgramText) (class : ℕ) (a : Around) : Type 0 where
   pub class_is : a.class ≡ class
   pub few : length (all_methods p.items) ≤ MOST_METHODS
 
--- a method and its number, without where it lies in memory
+-- a method and its number, without memory
 abbrev pub callee_model : NumberedMethod → model.NumberedMethod
 callee_model c = record { number = c.id.0; method = method_tree c.method.now }
 
--- a message and its number, likewise
+-- a message and its number, without memory
 abbrev pub meant_model : Meant → messages.Meant
 meant_model m = record { id = m.id; message = message_tree m.message.now }

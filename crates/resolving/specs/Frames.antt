@@ -24,7 +24,8 @@ local_model l = record { name = l.name; ty = l.ty; number = number_model l.numbe
 abbrev pub words_in : List ℕ → List model.Local → List (List ℕ)
 words_in text locals = words_at text (map (λ l. l.name) locals)
 
--- These are the variables in scope, each findable by its name, no two of one name, the last one of the exchange heap, and all of those.
+-- These are the variables in scope, with their table, and no two have the same name; the last of the exchange heap;
+-- and all of the exchange heap.
 pub record IsLocalFrame (text : List ℕ) (f : LocalFrame) (l : Locals) : Type 0 where
   pub list : map local_model l.list.items ≡ f.locals
   pub names : IsTable (words_in text f.locals) l.names
@@ -32,6 +33,6 @@ pub record IsLocalFrame (text : List ℕ) (f : LocalFrame) (l : Locals) : Type 0
   pub last : number_model l.last ≡ f.last
   pub variables : map variable_model l.variables.items ≡ f.variables
 
--- what stays in scope where a loop or a switch is left
+-- what stays in scope when a loop or a switch is left
 abbrev pub staying_model : Staying → told.Staying
 staying_model s = record { at_break = number_model s.at_break; at_continue = number_model s.at_continue }

@@ -1,4 +1,4 @@
--- What a statement that holds no others comes to: what it reads, and what it does then.
+-- What a statement that contains no other yields: what it reads, and its effect.
 use Rattle.std.specs.Prelude.{ℕ, List, [], ◌∷◌, ◌++◌, Option, Some, None, option_and_then, option_map}
 use Rattle.std.specs.List.{flat_map}
 use Rattle.std.specs.Option.{option_map_or}
@@ -38,35 +38,35 @@ use Rattle.resolving.specs.declared.locals.Declaration.{Declaration}
 abbrev pub effect_of : Option Action → Effect
 effect_of action = option_map_or Act action Nothing
 
--- an action on what a name means, if it means a variable of the exchange heap
+-- the effect of an action on a variable, if it is of the exchange heap
 abbrev pub effect_on : (Mention → Action) → Option Mention → Effect
 effect_on act mention = effect_of (option_map act mention)
 
--- what is given for a parameter: a variable of the exchange heap, if that is what stands there alone
+-- the argument for a parameter, if it is a variable of the exchange heap alone
 abbrev pub argument_of : declared_class.Parameter.Parameter → Option Mention → List Argument
 argument_of x None = []
 argument_of x (Some m) = record { mention = m; claimed = x.claims } ∷ []
 
--- a declaration; its variable is in scope behind it
+-- what a declaration declares; the variable is in scope after it
 abbrev pub declaration_of : ProgramText → DeclareTree → Declaration
 declaration_of p d = record { name = d.name; ty = type_meant p d.ty; held = type_held p d.ty; role = Local }
 
--- the message that a call by two names sends, where the first one means an endpoint
+-- the message that a call by two names sends, if the first means an endpoint
 abbrev pub meant_by : ProgramText → LocalFrame → CallTree → Span → Option Meant
 meant_by p f c word = option_and_then (λ n. message_sent p n word) (end_contract p f.locals c.name)
 
 module _ (p : ProgramText) (class : ℕ) (f : LocalFrame) where
-  -- the name that an expression is alone, where it means a variable of the exchange heap
+  -- the variable of the exchange heap that is the whole expression, if it is just one
   abbrev pub lone : ExpressionTree → Option Mention
   lone e = option_and_then (mention p.text f.locals) (lone_name e)
 
-  -- what is given for each parameter of the exchange heap, in order
+  -- the arguments for the parameters of the exchange heap, in order
   abbrev pub arguments : List declared_class.Parameter.Parameter → List ExpressionTree → List Argument
   arguments [] es = []
   arguments (x ∷ params) [] = []
   arguments (x ∷ params) (e ∷ es) = argument_of x (lone e) ++ arguments params es
 
-  -- what arguments read; those of the exchange heap are names alone, which read nothing
+  -- what arguments read; those of the exchange heap are just names, which read nothing
   abbrev pub argument_reads : List ExpressionTree → List Mention
   argument_reads es = flat_map (reads p.text f.locals) es
 
@@ -81,17 +81,19 @@ module _ (p : ProgramText) (class : ℕ) (f : LocalFrame) where
     behind = behind;
   }
 
-  -- a call, what takes what it gives, and what is used behind it
+  -- a call, with what takes its result and what is used after it
   abbrev pub call_told : CallTree → Option Mention → List Mention → Option CallModel
   call_told c target behind = option_map (call_of c target behind) (callee p class f.locals c)
 
+  -- a call as a statement
   abbrev pub call_statement : CallTree → Option Mention → List Mention → StatementModel
   call_statement c target behind = option_map_or seen.Call (call_told c target behind) (seen.Simple [] Nothing)
 
+  -- a `start` as a statement
   abbrev pub start_statement : CallTree → StatementModel
   start_statement c = option_map_or seen.Start (call_told c None []) (seen.Simple [] Nothing)
 
-  -- what is given for the parameters of a message that are of the exchange heap, in order
+  -- the arguments of the exchange heap, in order
   abbrev pub payloads : List ExpressionTree → List Mention
   payloads es = flat_map (λ e. mention_list (lone e)) es
 
@@ -105,38 +107,41 @@ module _ (p : ProgramText) (class : ℕ) (f : LocalFrame) where
     payloads = payloads c.arguments;
   }
 
-  -- a call by two names that sends this message
+  -- a call by two names, as a send of this message
   abbrev pub send_for : CallTree → Span → Meant → Option SendModel
   send_for c word m = option_map (λ e. send_of word c e m) (mention p.text f.locals c.name)
 
+  -- a call by two names, if it is a send
   abbrev pub sent_by : CallTree → Span → Option SendModel
   sent_by c word = option_and_then (send_for c word) (meant_by p f c word)
 
-  -- a call that stands alone, where it is a send
+  -- a call that is a statement of its own, if it is a send
   abbrev pub send_told : CallTree → Option SendModel
   send_told c = option_and_then (sent_by c) c.member
 
-  -- a call that stands alone
+  -- a call that is a statement of its own
   abbrev pub stated_call : CallTree → StatementModel
   stated_call c = option_map_or seen.Send (send_told c) (call_statement c None [])
 
-  -- two variables take the ends of a new channel of the contract of this number
+  -- two variables take the ends of a new channel of this contract
   abbrev pub ends_of : Place → ContractId → Mention → Mention → Action
   ends_of place contract v w = NewChannel (record { place = place; contract = contract; first = v; second = w })
 
+  -- a new channel of this contract, if both names mean variables
   abbrev pub channel_action : statement.NewChannel.NewChannel → ContractId → Option Action
   channel_action n contract = option_and_then (λ v. option_map (ends_of n.word.place contract v) (mention p.text f.locals n.second))
       (mention p.text f.locals n.first)
 
+  -- a new channel, if its contract and both names mean something
   abbrev pub channel_found : statement.NewChannel.NewChannel → Option Action
   channel_found n = option_and_then (channel_action n) (contract_named p n.contract)
 
-  -- the length of a new array is read; what is given for fields is a name alone, which reads nothing
+  -- what `new` reads: the length of an array; the arguments of a struct are just names, which read nothing
   abbrev pub made_reads : MadeTree → List Mention
   made_reads (values.Struct name left given) = []
   made_reads (values.Array element length) = reads p.text f.locals length
 
-  -- what is given for the fields that own of what is made
+  -- the variables given for the owning fields of what is made
   abbrev pub made_arguments : MadeTree → List Mention
   made_arguments (values.Struct name left given) = payloads given
   made_arguments (values.Array element length) = []
@@ -145,14 +150,16 @@ module _ (p : ProgramText) (class : ℕ) (f : LocalFrame) where
   abbrev pub new_of : Mention → MadeTree → NewModel
   new_of target m = record { reads = made_reads m; target = target; arguments = made_arguments m }
 
-  -- a variable and the field of this number change places
+  -- a variable and the owning field of this number change places
   abbrev pub exchange_of : statement.Exchange.Exchange → ℕ → Mention → Mention → Action
   exchange_of e field holder given = Exchange (record { place = e.word.place; holder = holder; field = field; given = given })
 
+  -- an exchange with this field, if both names mean variables
   abbrev pub exchange_by : statement.Exchange.Exchange → ℕ → Option Action
   exchange_by e field = option_and_then (λ holder. option_map (exchange_of e field holder) (mention p.text f.locals e.given))
       (mention p.text f.locals e.holder)
 
+  -- an exchange, if its field and both names mean something
   abbrev pub exchange_found : statement.Exchange.Exchange → Option Action
   exchange_found e = option_and_then (exchange_by e)
       (option_and_then (λ v. field_number p v.ty e.field) (local_named p.text f.locals e.holder))
@@ -174,29 +181,30 @@ module _ (p : ProgramText) (class : ℕ) (f : LocalFrame) where
   assign_statement None value = scalar_taken value
   assign_statement (Some target) value = take_statement target value
 
-  -- A part of what a variable has takes a value. The index of an element is read before the value, and what is written into is
-  -- used behind both; behind a call, both stand behind it.
+  -- A field or an element takes a value. The index is read before the value, and the block is used
+  -- after both; if the value is a call, both come after it.
   abbrev pub part_taken : List Mention → Option Mention → ValueTree → StatementModel
   part_taken index whole (values.Expression e) = seen.Simple (index ++ reads p.text f.locals e) (effect_on Use whole)
   part_taken index whole (values.Call c) = call_statement c None (index ++ mention_list whole)
   part_taken index whole (values.New n) = seen.Simple (index ++ made_reads n.made) (effect_on Use whole)
 
+  -- a target takes a value
   abbrev pub write_statement : TargetTree → ValueTree → StatementModel
   write_statement (trees.Variable name) value = assign_statement (mention p.text f.locals name) value
   write_statement (trees.Field name field) value = part_taken [] (mention p.text f.locals name) value
   write_statement (trees.Element name index) value = part_taken (reads p.text f.locals index) (mention p.text f.locals name) value
 
-  -- a declaration with a value assigns it; the variable has the next number
+  -- the value of a declaration, if there is one, is assigned to its variable, which has the next number
   abbrev pub first_value : Span → Option ℕ → Option ValueTree → StatementModel
   first_value name number None = seen.Simple [] Nothing
   first_value name number (Some value) = assign_statement (option_map (mention_of name) number) value
 
-  -- what a method gives: a scalar is read, and a variable of the exchange heap stands alone
+  -- a `return`: a scalar is read, and a variable of the exchange heap is alone
   abbrev pub return_statement : Place → Option ExpressionTree → StatementModel
   return_statement place None = seen.Simple [] (Return place None (option_map number_of f.last))
   return_statement place (Some e) = seen.Simple (reads p.text f.locals e) (Return place (lone e) (option_map number_of f.last))
 
-  -- a statement that holds no others
+  -- a statement that contains no other
   abbrev pub plain_told : Staying → PlainTree → StatementModel
   plain_told stays (stated.Declare d) = first_value d.name (next_number (type_held p d.ty) f) d.value
   plain_told stays (stated.Assign a) = write_statement a.target a.value
@@ -209,7 +217,7 @@ module _ (p : ProgramText) (class : ℕ) (f : LocalFrame) where
   plain_told stays (stated.Continue word) = seen.Simple [] (Continue (forget word.place stays.at_continue f.last))
   plain_told stays (stated.Return word value) = return_statement word.place value
 
-  -- the frame behind it
+  -- the frame after it
   abbrev pub frame_behind : PlainTree → LocalFrame
   frame_behind (stated.Declare d) = with_declaration p.text (declaration_of p d) f
   frame_behind _ = f

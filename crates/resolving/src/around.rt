@@ -1,4 +1,4 @@
-//! What stands round a statement.
+//! The surroundings of a statement.
 
 ghost use Rattle.std.specs.Prelude.{◌≡◌, ◌≤◌, ◌<◌, ◌^◌, length, map};
 ghost use Rattle.tree.specs.Trees.{item_tree};
@@ -12,8 +12,8 @@ use program::Resolved;
 use std::alloc::Global;
 use tree::Item;
 
-/// What a type is looked up in: the names of the program, its contracts with their names resolved, and what stands before each
-/// item in the text. There are so few contracts that their numbers fit.
+/// What types are looked up in: the names of the program, its resolved contracts, and how many methods, contracts and
+/// structs are before each item in the text. Contracts are few enough that their numbers fit into 32 bits.
 #[derive(Clone, Copy)]
 pub(crate) struct Directory<'s, 'a> {
     pub(crate) scope: &'s Scope<'a>,
@@ -22,8 +22,8 @@ pub(crate) struct Directory<'s, 'a> {
     ghost room: { length resolved.now.contracts.items < 2 ^ 32 },
 }
 
-/// The items of the program, what its types are looked up in, for each item the places of its fields that own, and the place of
-/// the class that the statement stands in. There are so few methods that their numbers fit. Lists are made with the allocator.
+/// The items of the program, the directory of its types, the indices of the owning fields of each item, and the index
+/// of the class around the statement. Methods are few enough that their numbers fit. Lists are allocated with `alloc`.
 #[derive(Clone, Copy)]
 pub(crate) struct Around<'s, 'a> {
     pub(crate) alloc: Global,

@@ -15,7 +15,7 @@ use program::HeapType;
 use std::alloc::{AllocError, Global};
 use tree::{Definition, Member, Message, MessageParameter};
 
-/// What stands for the parameters of the exchange heap among these, in order.
+/// Returns what the parameters of the exchange heap among these hold, in order.
 fn params_held(
     alloc: Global,
     directory: &Directory<'_, '_>,

@@ -1,4 +1,4 @@
-//! What calls come to.
+//! What calls yield.
 
 ghost use Rattle.std.specs.Prelude.{◌≡◌, ◌++◌, ℕ, List, None, IfOk, OnOk, map, option_map};
 ghost use Rattle.tree.specs.ExpressionTrees.{expression_tree};
@@ -33,7 +33,7 @@ pub(crate) struct NumberedMethod<'a> {
     pub(crate) method: &'a Method,
 }
 
-/// The first method of this name in the class that is the item at this place.
+/// Returns the first method of this name in the class that is item `class`.
 fn method_at<'a>(
     text: &[u8],
     around: &Around<'_, 'a>,
@@ -53,7 +53,7 @@ fn method_at<'a>(
     })
 }
 
-/// The first method of the second name in the class of the first.
+/// Returns the first method of the second name in the class of the first.
 fn method_of<'a>(
     text: &[u8],
     around: &Around<'_, 'a>,
@@ -67,7 +67,7 @@ fn method_of<'a>(
     method_at(text, around, class, name)
 }
 
-/// The method that a call by two names means, unless a variable in scope has the first one.
+/// Returns the method that a call by two names means; `None` if a variable in scope has the first name.
 fn member_callee<'a>(
     text: &[u8],
     around: &Around<'_, 'a>,
@@ -85,7 +85,7 @@ fn member_callee<'a>(
     method_of(text, around, class, name)
 }
 
-/// The method that a call means.
+/// Returns the method that a call means.
 fn callee_of<'a>(
     text: &[u8],
     around: &Around<'_, 'a>,
@@ -102,7 +102,7 @@ fn callee_of<'a>(
     }
 }
 
-/// Where the name of the method stands.
+/// Returns the name of the method that is called.
 fn called_name(call: &tree::Call) -> Span
     ensures { result ≡ called_name call.now.name call.now.member }
 {
@@ -128,7 +128,7 @@ pub(crate) fn add_argument_reads(
     Ok(())
 }
 
-/// Adds what is given for a parameter, if a variable of the exchange heap stands there alone.
+/// Adds the argument for a parameter, if it is just a variable of the exchange heap.
 fn add_given(
     parameter: Parameter,
     mention: Option<Mention>,
@@ -143,7 +143,7 @@ fn add_given(
     Ok(())
 }
 
-/// What is given for each parameter of the exchange heap, in order.
+/// Returns the arguments for the parameters of the exchange heap, in order.
 fn arguments_of(
     alloc: Global,
     text: &[u8],
@@ -162,14 +162,14 @@ fn arguments_of(
     Ok(given)
 }
 
-/// What is done with what a call gives: the variable that takes it, and what is used then.
+/// The use of the result of a call: the variable that takes it, and the variables that are used after it.
 #[derive(Drop)]
 pub(crate) struct ResultUse {
     pub(crate) target: Option<Mention>,
     pub(crate) behind: Vec<Mention>,
 }
 
-/// What a call of this method comes to.
+/// Returns what a call of this method yields.
 fn call_of(
     alloc: Global,
     text: &[u8],
@@ -195,7 +195,7 @@ fn call_of(
     })
 }
 
-/// What a call comes to, if it is one of a method.
+/// Returns what a call yields, if it is a call of a method.
 fn tell_called(
     text: &[u8],
     around: &Around<'_, '_>,
@@ -216,7 +216,7 @@ fn tell_called(
     }
 }
 
-/// What a call comes to as a statement.
+/// Returns the statement that a call yields.
 pub(crate) fn tell_call(
     text: &[u8],
     around: &Around<'_, '_>,
@@ -234,7 +234,7 @@ pub(crate) fn tell_call(
     }
 }
 
-/// What a start comes to.
+/// Returns the statement that a start yields.
 pub(crate) fn tell_start(
     text: &[u8],
     around: &Around<'_, '_>,

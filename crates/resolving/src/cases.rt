@@ -1,4 +1,4 @@
-//! The heads of cases: what they wait for, and what they bind.
+//! The heads of cases: what they await, and what they bind.
 
 ghost use Rattle.std.specs.Prelude.{◌≡◌, ◌++◌, ℕ, List, OnOk, option_map, slice_get};
 ghost use Rattle.tree.specs.Trees.{ItemTree};
@@ -20,7 +20,7 @@ use source::Span;
 use std::alloc::{AllocError, Global};
 use tree::{Bind, MessageParameter};
 
-/// The endpoint of a case.
+/// Returns the endpoint of a case.
 pub(crate) fn case_endpoint(text: &[u8], locals: &Locals<'_>, name: Span) -> Mention
     ensures { (items : List ItemTree) (f : LocalFrame) → IsLocalFrame text.now f locals.now
         → result ≡ told.case_endpoint (program_in text.now items) f name }
@@ -34,7 +34,7 @@ pub(crate) fn case_endpoint(text: &[u8], locals: &Locals<'_>, name: Span) -> Men
     }
 }
 
-/// The message that a case waits for.
+/// Returns the message that a case awaits.
 pub(crate) fn awaited_message<'a>(
     text: &[u8],
     around: &Around<'_, 'a>,
@@ -53,7 +53,7 @@ pub(crate) fn awaited_message<'a>(
     message_named(&around.directory, contract, word)
 }
 
-/// What a case waits for, with the number of its message.
+/// Returns what a case awaits, with the number of its message.
 pub(crate) fn awaited_as(awaited: tree::Awaited, meant: Option<Meant<'_>>) -> Awaited
     ensures { result ≡ told.awaited_as awaited (option_map meant_model meant.entry) }
 {
@@ -63,7 +63,7 @@ pub(crate) fn awaited_as(awaited: tree::Awaited, meant: Option<Meant<'_>>) -> Aw
     }
 }
 
-/// The number of a message, and 0 where there is none.
+/// Returns the number of a message; 0 if there is none.
 fn number_of(meant: Option<Meant<'_>>) -> MessageId
     ensures { result ≡ told.meant_number (option_map meant_model meant.entry) }
 {
@@ -73,7 +73,7 @@ fn number_of(meant: Option<Meant<'_>>) -> MessageId
     }
 }
 
-/// The parameters whose values a case binds.
+/// Returns the parameters whose values a case binds.
 pub(crate) fn awaited_params<'a>(meant: Option<Meant<'a>>) -> &'a [MessageParameter]
     ensures { result.now ≡ told.awaited_params (option_map meant_model meant.entry) }
 {
@@ -83,7 +83,7 @@ pub(crate) fn awaited_params<'a>(meant: Option<Meant<'a>>) -> &'a [MessageParame
     }
 }
 
-/// The type of a name that a case binds without one, for this parameter, if there is one.
+/// Returns the type of a name that a case binds without one, for this parameter, if there is one.
 fn brought_type(
     around: &Around<'_, '_>,
     param: Option<&MessageParameter>,
@@ -96,7 +96,7 @@ fn brought_type(
     }
 }
 
-/// What a case declares by a name that it binds for this parameter, if there is one.
+/// Returns the declaration of a name that a case binds for this parameter, if there is one.
 fn bind_declaration(
     around: &Around<'_, '_>,
     param: Option<&MessageParameter>,
@@ -137,8 +137,7 @@ fn add_number(number: Option<VarId>, targets: &mut Vec<VarId>) -> Result<(), All
     Ok(())
 }
 
-/// Brings what a case binds for this parameter, if there is one, into scope. Its number is added, where it is of the exchange
-/// heap.
+/// Declares the name that a case binds for this parameter, if there is one. Adds its number if it is of the exchange heap.
 fn declare_bind<'a>(
     text: &'a [u8],
     around: &Around<'_, '_>,
@@ -157,15 +156,15 @@ fn declare_bind<'a>(
     locals.declare(around.alloc, text, declaration)
 }
 
-/// The parameter at this index, if there is one.
+/// Returns the parameter at this index, if there is one.
 fn param_at(params: &[MessageParameter], index: usize) -> Option<&MessageParameter>
     ensures { option_map (λ x. x.now) result ≡ slice_get params.now index }
 {
     params.get(index)
 }
 
-/// Brings what a case binds into scope, for these parameters as far as they reach. The answer is the numbers of those of the
-/// exchange heap.
+/// Declares the names that a case binds, for these parameters as far as there are any. Returns the numbers of those of
+/// the exchange heap.
 pub(crate) fn declare_binds<'a>(
     text: &'a [u8],
     around: &Around<'_, '_>,

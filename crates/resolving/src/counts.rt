@@ -1,4 +1,4 @@
-//! What stands before the items of a text.
+//! How many methods, contracts and structs are before the items of a text.
 
 ghost use Rattle.std.specs.Prelude.{◌≡◌, ◌≤◌, IfOk, length, map};
 ghost use Rattle.tree.specs.Trees.{contract_of, definition_tree, item_tree};
@@ -10,7 +10,7 @@ use crate::methods::methods_of;
 use std::alloc::{AllocError, Global};
 use tree::{Definition, Item};
 
-/// How many methods, contracts and structs stand before an item in the text.
+/// The numbers of methods, contracts and structs before an item in the text.
 #[derive(Clone, Copy)]
 pub(crate) struct ItemsBefore {
     pub(crate) methods: usize,
@@ -18,7 +18,7 @@ pub(crate) struct ItemsBefore {
     pub(crate) structs: usize,
 }
 
-/// What stands before each of these items.
+/// Returns these numbers for each of these items.
 pub(crate) fn count_items(alloc: Global, items: &[Item]) -> Result<Vec<ItemsBefore>, AllocError>
     requires few { length (all_methods (map item_tree items.now)) ≤ MOST_METHODS }
     ensures { IfOk result (λ before. before.items ≡ counts (map item_tree items.now)) }
@@ -38,7 +38,7 @@ pub(crate) fn count_items(alloc: Global, items: &[Item]) -> Result<Vec<ItemsBefo
     Ok(before)
 }
 
-/// One, if it is a contract.
+/// Returns 1 if it is a contract, else 0.
 fn contracts_in(definition: &Definition) -> usize
     ensures { result ≡ length (contract_of (definition_tree definition.now)) }
 {
@@ -49,7 +49,7 @@ fn contracts_in(definition: &Definition) -> usize
     }
 }
 
-/// One, if it is a struct.
+/// Returns 1 if it is a struct, else 0.
 fn structs_in(definition: &Definition) -> usize
     ensures { result ≡ length (struct_among (definition_tree definition.now)) }
 {

@@ -1,4 +1,4 @@
-//! What exchanges come to.
+//! What exchanges yield.
 
 ghost use Rattle.std.specs.Prelude.{◌≡◌, ℕ, List, option_and_then};
 ghost use Rattle.tree.specs.Trees.{ItemTree};
@@ -14,7 +14,7 @@ use crate::locals::Locals;
 use program::Action;
 use tree::Exchange;
 
-/// The number of the field that is exchanged, among those that own.
+/// Returns the number of the exchanged field among the owning fields.
 fn exchanged_field(
     text: &[u8],
     around: &Around<'_, '_>,
@@ -30,7 +30,7 @@ fn exchanged_field(
     field_number(around, ty, exchange.field)
 }
 
-/// What an exchange comes to, if its field and its two variables are found.
+/// Returns the action that an exchange yields, if its field and its two variables are found.
 pub(crate) fn exchange_of(
     text: &[u8],
     around: &Around<'_, '_>,

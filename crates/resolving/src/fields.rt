@@ -1,4 +1,4 @@
-//! What structs have in fields that own.
+//! The owning fields of structs.
 
 ghost use Rattle.std.specs.Prelude.{◌≡◌, ℕ, IfOk, List, length, ltb, map};
 ghost use Rattle.std.specs.List.{filter};
@@ -16,14 +16,14 @@ use source::Span;
 use std::alloc::{AllocError, Global};
 use tree::{Definition, Field, Item};
 
-/// The fields of a struct that own, in order: what each holds, and how many fields stand before it.
+/// The owning fields of a struct, in order: what each holds, and its index among all fields.
 #[derive(Drop)]
 struct Owning {
     types: Vec<HeapType>,
     indices: Vec<usize>,
 }
 
-/// The fields that own among these.
+/// Returns the owning fields among these.
 fn owning_among(
     alloc: Global,
     directory: &Directory<'_, '_>,
@@ -43,14 +43,14 @@ fn owning_among(
     Ok(Owning { types, indices })
 }
 
-/// The fields that own of a program: what each struct has in them, in order of the text, and their places in each item.
+/// The owning fields of a program: what those of each struct hold, in order of the text, and their indices in each item.
 #[derive(Drop)]
 pub(crate) struct OwningFields {
     pub(crate) structs: Vec<Vec<HeapType>>,
     pub(crate) indices: Vec<Vec<usize>>,
 }
 
-/// What the structs among these items have in fields that own, and where.
+/// Returns the owning fields of the structs among these items: what they hold, and their indices.
 pub(crate) fn fields_of(
     alloc: Global,
     directory: &Directory<'_, '_>,
@@ -75,14 +75,14 @@ pub(crate) fn fields_of(
     Ok(OwningFields { structs, indices })
 }
 
-/// How many of these are less than this one.
+/// Returns how many of these are less than this one.
 fn count_before(indices: &[usize], index: usize) -> usize
     ensures { result ≡ length (filter (λ x. ltb x index) indices.now) }
 {
     indices.iter().filter(|before| **before < index).count()
 }
 
-/// The number of a field of what a variable of this type holds, among the fields that own.
+/// Returns the number of a field of what a variable of this type holds, among the owning fields.
 pub(crate) fn field_number(
     around: &Around<'_, '_>,
     ty: declarations::ValueType,

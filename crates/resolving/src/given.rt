@@ -1,4 +1,4 @@
-//! What is given: names alone of variables of the exchange heap.
+//! What is given: expressions that are just the name of a variable of the exchange heap.
 
 ghost use Rattle.std.specs.Prelude.{◌≡◌, ◌++◌, ℕ, List, IfOk, OnOk, map};
 ghost use Rattle.tree.specs.ExpressionTrees.{expression_tree};
@@ -14,7 +14,7 @@ use program::Mention;
 use std::alloc::{AllocError, Global};
 use tree::{Expression, name_alone};
 
-/// The name that an expression is alone, where it means a variable of the exchange heap.
+/// Returns the variable that an expression names, if it is just the name of one of the exchange heap.
 pub(crate) fn alone(text: &[u8], locals: &Locals<'_>, expression: &Expression) -> Option<Mention>
     ensures { (items : List ItemTree) (own : ℕ) (f : LocalFrame) → IsLocalFrame text.now f locals.now
         → result ≡ lone (program_in text.now items) own f (expression_tree expression.now) }
@@ -36,7 +36,7 @@ pub(crate) fn add_listed(
     Ok(())
 }
 
-/// The variables of the exchange heap that these arguments are alone, in order.
+/// Returns the variables of the exchange heap among these arguments, in order. Each is an argument of its own.
 pub(crate) fn payloads_of(
     alloc: Global,
     text: &[u8],

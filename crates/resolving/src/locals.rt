@@ -15,8 +15,7 @@ use source::Span;
 use std::alloc::{AllocError, Global};
 use tables::Table;
 
-/// A variable that is declared: its name, its type, what it holds where it is one of the exchange heap, and how its
-/// method comes to it.
+/// A variable that is declared: its name, its type, what it holds if it is of the exchange heap, and its role in its method.
 #[derive(Clone, Copy)]
 pub(crate) struct Declaration {
     pub(crate) name: Span,
@@ -25,7 +24,7 @@ pub(crate) struct Declaration {
     pub(crate) role: Role,
 }
 
-/// A variable in scope: the name that declares it, its type, and its number where it is one of the exchange heap.
+/// A variable in scope: the name that declares it, its type, and its number if it is of the exchange heap.
 #[derive(Clone, Copy)]
 pub(crate) struct Local {
     name: Span,
@@ -33,8 +32,8 @@ pub(crate) struct Local {
     number: Option<VarId>,
 }
 
-/// The variables in scope, in order of declaration, the last one of the exchange heap among them, and those of the exchange
-/// heap that the method has declared so far. No two in scope have one name.
+/// The variables in scope, in order of declaration, the last one of the exchange heap among them, and all variables of
+/// the exchange heap that the method has declared so far. No two variables in scope have the same name.
 #[derive(Drop)]
 pub(crate) struct Locals<'a> {
     names: Table<'a>,
@@ -44,7 +43,7 @@ pub(crate) struct Locals<'a> {
 }
 
 impl<'a> Locals<'a> {
-    /// None.
+    /// Returns an empty scope.
     pub(crate) fn new(alloc: Global) -> Locals<'a>
         ensures { (text : List ℕ) → IsLocalFrame text no_variables result }
     {
@@ -56,28 +55,28 @@ impl<'a> Locals<'a> {
         }
     }
 
-    /// How many are in scope.
+    /// Returns the number of variables in scope.
     pub(crate) fn len(&self) -> usize
         ensures { (text : List ℕ) (f : LocalFrame) → IsLocalFrame text f self.now → result ≡ length f.locals }
     {
         self.list.len()
     }
 
-    /// The last one of the exchange heap in scope.
+    /// Returns the last variable of the exchange heap in scope.
     pub(crate) fn last(&self) -> Option<VarId>
         ensures { (text : List ℕ) (f : LocalFrame) → IsLocalFrame text f self.now → result ≡ option_map number_of f.last }
     {
         self.last
     }
 
-    /// Those of the exchange heap, in order of declaration.
+    /// Returns the variables of the exchange heap, in order of declaration.
     pub(crate) fn into_variables(self) -> Vec<Variable>
         ensures { (text : List ℕ) (f : LocalFrame) → IsLocalFrame text f self.entry → map variable_model result.items ≡ f.variables }
     {
         self.variables
     }
 
-    /// The variable of this name.
+    /// Returns the variable of this name.
     fn find(&self, text: &[u8], name: Span) -> Option<Local>
         ensures { (f : LocalFrame) → IsLocalFrame text.now f self.now
             → option_map local_model result ≡ local_named text.now f.locals name }
@@ -87,7 +86,7 @@ impl<'a> Locals<'a> {
         Some(*local)
     }
 
-    /// Whether a variable in scope has this name.
+    /// Returns whether a variable in scope has this name.
     pub(crate) fn is_in_scope(&self, text: &[u8], name: Span) -> bool
         ensures { (f : LocalFrame) → IsLocalFrame text.now f self.now
             → result ≡ is_some (local_named text.now f.locals name) }
@@ -95,7 +94,7 @@ impl<'a> Locals<'a> {
         self.find(text, name).is_some()
     }
 
-    /// A name, where it means a variable of the exchange heap.
+    /// Returns a mention of the variable of this name, if it is of the exchange heap.
     pub(crate) fn mention(&self, text: &[u8], name: Span) -> Option<Mention>
         ensures { (f : LocalFrame) → IsLocalFrame text.now f self.now → result ≡ mention text.now f.locals name }
     {
@@ -106,7 +105,7 @@ impl<'a> Locals<'a> {
         })
     }
 
-    /// The type of the variable that a name means.
+    /// Returns the type of the variable of this name.
     pub(crate) fn ty(&self, text: &[u8], name: Span) -> Option<declarations::ValueType>
         ensures { (f : LocalFrame) → IsLocalFrame text.now f self.now
             → result ≡ option_map (λ v. v.ty) (local_named text.now f.locals name) }
@@ -115,7 +114,7 @@ impl<'a> Locals<'a> {
         Some(local.ty)
     }
 
-    /// The place of the contract of the endpoint that a name means.
+    /// Returns the index, among the items, of the contract of the endpoint of this name.
     pub(crate) fn contract(&self, text: &[u8], name: Span) -> Option<usize>
         ensures { (items : List ItemTree) (f : LocalFrame) → IsLocalFrame text.now f self.now
             → result ≡ end_contract (program_in text.now items) f.locals name }
@@ -123,7 +122,7 @@ impl<'a> Locals<'a> {
         contract_of(self.find(text, name)?.ty)
     }
 
-    /// The number of a variable that is declared next, where it is one of the exchange heap and holds this.
+    /// Returns the number of the variable that is declared next, if it is of the exchange heap. `held` is what it holds.
     pub(crate) fn next_number(&self, held: Option<HeapType>) -> Option<VarId>
         ensures { (text : List ℕ) (f : LocalFrame) → IsLocalFrame text f self.now → number_model result ≡ next_number held f }
     {
@@ -133,7 +132,7 @@ impl<'a> Locals<'a> {
         }
     }
 
-    /// Declares a variable. It comes into scope unless one there has its name; one of the exchange heap is counted.
+    /// Declares a variable. It enters the scope unless one there has its name. One of the exchange heap is counted either way.
     pub(crate) fn declare(
         &mut self,
         alloc: Global,
@@ -194,7 +193,7 @@ impl<'a> Locals<'a> {
         Ok(())
     }
 
-    /// Counts one more of the exchange heap.
+    /// Counts one more variable of the exchange heap.
     fn count(
         &mut self,
         alloc: Global,
@@ -220,7 +219,7 @@ impl<'a> Locals<'a> {
         Ok(())
     }
 
-    /// Leaves a scope: the first so many stay, and the last of the exchange heap among them is this.
+    /// Leaves a scope: the first `outer` variables stay, and `last` is the last one of the exchange heap among them.
     pub(crate) fn leave(&mut self, text: &[u8], outer: usize, last: Option<VarId>)
         ensures { (f : LocalFrame) → IsLocalFrame text.now f self.old → IsLocalFrame text.now
             (record { locals = take outer f.locals; last = number_model last; variables = f.variables }) self.new }
@@ -244,7 +243,7 @@ impl<'a> Locals<'a> {
     }
 }
 
-/// The place of the contract of a type that is an endpoint's.
+/// Returns the index, among the items, of the contract of an endpoint type.
 fn contract_of(ty: declarations::ValueType) -> Option<usize>
     ensures { result ≡ contract_of ty }
 {

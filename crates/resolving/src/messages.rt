@@ -18,7 +18,7 @@ pub(crate) struct Meant<'a> {
     pub(crate) message: &'a Message,
 }
 
-/// The number of the message at this index in the contract that is the item at the first one.
+/// Returns the number of the message at `index` in the contract that is item `contract`.
 fn message_number(directory: &Directory<'_, '_>, contract: usize, index: usize) -> Option<MessageId>
     ensures { (p : ProgramText) → IsDirectory p directory.now → result ≡ model.message_number p contract index }
 {
@@ -26,7 +26,7 @@ fn message_number(directory: &Directory<'_, '_>, contract: usize, index: usize) 
     Some(numbered.id)
 }
 
-/// The message there.
+/// Returns the message at `index` in the contract that is item `contract`, with its number.
 fn message_there<'a>(
     directory: &Directory<'_, 'a>,
     contract: usize,
@@ -39,7 +39,7 @@ fn message_there<'a>(
     Some(Meant { id, message })
 }
 
-/// The message of this name in the contract that is the item at this place.
+/// Returns the message of this name in the contract that is item `contract`.
 pub(crate) fn message_named<'a>(
     directory: &Directory<'_, 'a>,
     contract: usize,
@@ -51,7 +51,7 @@ pub(crate) fn message_named<'a>(
     message_there(directory, contract, place)
 }
 
-/// The message that a word like `SendM` sends, likewise.
+/// Returns the message that a word like `SendM` sends, in the contract that is item `contract`.
 pub(crate) fn message_sent<'a>(
     directory: &Directory<'_, 'a>,
     contract: usize,

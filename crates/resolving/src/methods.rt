@@ -33,7 +33,7 @@ use source::Memory;
 use std::alloc::{AllocError, Global};
 use tree::{Definition, Item, Parameter, Tree};
 
-/// How a method comes to a parameter.
+/// Returns the role of a parameter in its method.
 fn role_of(parameter: Parameter) -> Role
     ensures { result ≡ role_of parameter }
 {
@@ -44,7 +44,7 @@ fn role_of(parameter: Parameter) -> Role
     }
 }
 
-/// What a parameter declares.
+/// Returns what a parameter declares.
 fn parameter_declaration(around: &Around<'_, '_>, parameter: Parameter) -> Declaration
     ensures { (p : model.ProgramText) (own : ℕ) → IsAround p own around.now → result ≡ parameter_declaration p parameter }
 {
@@ -56,7 +56,7 @@ fn parameter_declaration(around: &Around<'_, '_>, parameter: Parameter) -> Decla
     }
 }
 
-/// Whether a method with these parameters takes something.
+/// Returns whether a method with these parameters takes something.
 fn takes_some(params: &[Parameter]) -> bool
     ensures { result ≡ takes_some params.now }
 {
@@ -87,7 +87,7 @@ fn declare_parameters<'a>(
     Ok(())
 }
 
-/// A method with a number for each variable of the exchange heap.
+/// Returns a method with a number for each variable of the exchange heap.
 fn resolve_method(
     text: &[u8],
     around: &Around<'_, '_>,
@@ -114,7 +114,7 @@ fn resolve_method(
     })
 }
 
-/// The methods of a class, if it is one.
+/// Returns the methods of a class; none for any other definition.
 pub(crate) fn methods_of(definition: &Definition) -> &[tree::Method]
     ensures { map method_tree result.now ≡ methods_in (definition_tree definition.now) }
 {
@@ -124,7 +124,7 @@ pub(crate) fn methods_of(definition: &Definition) -> &[tree::Method]
     }
 }
 
-/// Adds these methods, resolved.
+/// Resolves these methods and adds them.
 fn add_methods(
     text: &[u8],
     around: &Around<'_, '_>,
@@ -141,8 +141,8 @@ fn add_methods(
     Ok(())
 }
 
-/// The messages, structs and methods of a program in order of the text: what a message brings for each of its parameters of the
-/// exchange heap, what a struct has in its fields that own, and the method with its names resolved.
+/// The messages, structs and methods of a program, in order of the text: what a message brings for each of its
+/// parameters of the exchange heap, what a struct holds in its owning fields, and each method with its names resolved.
 #[derive(Drop)]
 pub struct ResolvedProgram {
     pub messages: Vec<Vec<HeapType>>,
@@ -150,7 +150,7 @@ pub struct ResolvedProgram {
     pub methods: Vec<Method>,
 }
 
-/// The messages, the structs and the methods of these items, in order of the text.
+/// Returns the messages, structs and methods of these items, in order of the text.
 fn resolve_items<'a>(
     alloc: Global,
     text: &[u8],
@@ -198,11 +198,13 @@ fn resolve_items<'a>(
     })
 }
 
-/// The messages, structs and methods of a program in order of the text, in which each variable of the exchange heap is a number and
-/// each scalar is forgotten. A use means the variable in scope of its name. Nothing is wrong with the names of the items, and these
-/// are the contracts of the program, with their names resolved.
+/// Returns the messages, structs and methods of a program, in order of the text. Each variable of the exchange heap
+/// becomes a number, and scalars are dropped. A use means the variable of its name in scope.
 ///
-/// `Memory` is answered where a growth was refused.
+/// The names of the items must be without mistakes, and `contracts` are the resolved contracts of the program.
+///
+/// # Errors
+/// `Memory` if an allocation fails.
 pub fn resolve_methods(
     alloc: Global,
     tree: &Tree,

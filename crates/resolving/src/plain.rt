@@ -1,4 +1,4 @@
-//! What statements that hold no others come to.
+//! What statements that hold no others yield.
 
 ghost use Rattle.std.specs.Prelude.{◌≡◌, ℕ, List, IfOk, OnOk, option_map};
 ghost use Rattle.tree.specs.ExpressionTrees.{expression_tree, target_tree};
@@ -29,7 +29,7 @@ use source::Place;
 use std::alloc::{AllocError, Global};
 use tree::{Declare, Expression, Plain, Target, Value};
 
-/// What a variable has is freed.
+/// Returns the effect that frees what a variable has.
 fn delete_effect(mention: Option<Mention>) -> Effect
     ensures { result ≡ effect_on Action.Delete mention }
 {
@@ -39,7 +39,7 @@ fn delete_effect(mention: Option<Mention>) -> Effect
     }
 }
 
-/// What an assignment comes to.
+/// Returns the statement that an assignment yields.
 fn tell_assign(
     text: &[u8],
     around: &Around<'_, '_>,
@@ -70,7 +70,7 @@ fn tell_assign(
     }
 }
 
-/// The variable that a declaration brings, where it is one of the exchange heap.
+/// Returns the variable that a declaration declares, if it is of the exchange heap.
 fn declared_mention(
     text: &[u8],
     around: &Around<'_, '_>,
@@ -88,7 +88,7 @@ fn declared_mention(
     })
 }
 
-/// What a declaration comes to: where it has a value, the variable takes it.
+/// Returns the statement that a declaration yields: the variable takes the value, if there is one.
 fn tell_declare(
     text: &[u8],
     around: &Around<'_, '_>,
@@ -108,7 +108,7 @@ fn tell_declare(
     }
 }
 
-/// What a `return` comes to.
+/// Returns the statement that a `return` yields.
 fn tell_return(
     alloc: Global,
     text: &[u8],
@@ -144,7 +144,7 @@ fn tell_return(
     }
 }
 
-/// What a statement that holds no others comes to.
+/// Returns what a statement that holds no others yields.
 pub(crate) fn tell_plain(
     text: &[u8],
     around: &Around<'_, '_>,
@@ -175,7 +175,7 @@ pub(crate) fn tell_plain(
     }
 }
 
-/// What a declaration declares.
+/// Returns what a declaration declares.
 fn declaration_of(around: &Around<'_, '_>, declare: &Declare) -> Declaration
     ensures { (p : ProgramText) (own : ℕ) → IsAround p own around.now → result ≡ declaration_of p (declare_tree declare.now) }
 {

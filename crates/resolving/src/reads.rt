@@ -33,7 +33,7 @@ pub(crate) fn add_reads(
     }
 }
 
-/// The same of a disjunction.
+/// Adds what a disjunction reads.
 #[cycle(expressions)]
 fn add_disjunction(
     text: &[u8],
@@ -51,7 +51,7 @@ fn add_disjunction(
     Ok(())
 }
 
-/// The same of a conjunction.
+/// Adds what a conjunction reads.
 #[cycle(expressions)]
 fn add_conjunction(
     text: &[u8],
@@ -69,7 +69,7 @@ fn add_conjunction(
     Ok(())
 }
 
-/// The same of an equality.
+/// Adds what an equality reads.
 #[cycle(expressions)]
 fn add_equality(
     text: &[u8],
@@ -87,7 +87,7 @@ fn add_equality(
     Ok(())
 }
 
-/// The same of a relation.
+/// Adds what a relation reads.
 #[cycle(expressions)]
 fn add_relation(
     text: &[u8],
@@ -105,7 +105,7 @@ fn add_relation(
     Ok(())
 }
 
-/// The same of a sum.
+/// Adds what a sum reads.
 #[cycle(expressions)]
 fn add_sum(
     text: &[u8],
@@ -122,7 +122,7 @@ fn add_sum(
     }
 }
 
-/// The same of a sequence of factors.
+/// Adds what a sequence of factors reads.
 #[cycle(expressions)]
 fn add_factors(
     text: &[u8],
@@ -141,7 +141,7 @@ fn add_factors(
     Ok(())
 }
 
-/// The same of an atom with what stands before it.
+/// Adds what an atom with its prefixes reads.
 #[cycle(expressions)]
 fn add_unary(
     text: &[u8],
@@ -158,7 +158,7 @@ fn add_unary(
     }
 }
 
-/// The same where something stands before the atom.
+/// Adds what an atom with prefixes reads.
 #[cycle(expressions)]
 fn add_prefixed(
     text: &[u8],
@@ -172,7 +172,7 @@ fn add_prefixed(
     add_atom(text, locals, &prefixed.atom, found)
 }
 
-/// The same of an atom.
+/// Adds what an atom reads.
 #[cycle(expressions)]
 fn add_atom(
     text: &[u8],
@@ -192,7 +192,7 @@ fn add_atom(
     }
 }
 
-/// The same of a target within an expression.
+/// Adds what a target within an expression reads.
 #[cycle(expressions)]
 fn add_target(
     text: &[u8],
@@ -213,7 +213,7 @@ fn add_target(
     }
 }
 
-/// Adds what a name means, where it means a variable of the exchange heap.
+/// Adds the variable of this name, if it is of the exchange heap.
 fn add_mention(
     text: &[u8],
     locals: &Locals<'_>,

@@ -1,4 +1,4 @@
-//! What sends and new channels come to.
+//! What sends and new channels yield.
 
 ghost use Rattle.std.specs.Prelude.{◌≡◌, ℕ, List, IfOk, map, option_map};
 ghost use Rattle.tree.specs.ExpressionTrees.{expression_tree};
@@ -30,7 +30,7 @@ struct SendMeaning<'a> {
     meant: Meant<'a>,
 }
 
-/// What a send comes to.
+/// Returns the send that a call with this meaning yields.
 fn send_of(
     alloc: Global,
     text: &[u8],
@@ -53,7 +53,7 @@ fn send_of(
     })
 }
 
-/// The message that a call by two names sends, if the first one means an endpoint.
+/// Returns the message that a call by two names sends, if the first one means an endpoint.
 fn sent_by<'a>(
     text: &[u8],
     around: &Around<'_, 'a>,
@@ -69,7 +69,7 @@ fn sent_by<'a>(
     message_sent(&around.directory, contract, word)
 }
 
-/// What a call that stands alone comes to, if it is a send.
+/// Returns the send that a call statement yields, if it is one.
 fn tell_send(
     text: &[u8],
     around: &Around<'_, '_>,
@@ -98,7 +98,7 @@ fn tell_send(
     Ok(Some(send))
 }
 
-/// What a call that stands alone comes to.
+/// Returns what a call statement yields.
 pub(crate) fn tell_stated(
     text: &[u8],
     around: &Around<'_, '_>,
@@ -120,7 +120,7 @@ pub(crate) fn tell_stated(
     }
 }
 
-/// What a new channel comes to, if its contract and its two targets are found.
+/// Returns the action that a new channel yields, if its contract and its two targets are found.
 pub(crate) fn channel_of(
     text: &[u8],
     around: &Around<'_, '_>,

@@ -1,4 +1,4 @@
-//! What statements come to.
+//! What statements yield.
 
 ghost use Rattle.std.specs.Prelude.{◌≡◌, map, IfOk, option_map};
 ghost use Rattle.program.specs.Statements as seen;
@@ -23,7 +23,7 @@ use source::Place;
 use std::alloc::{AllocError, Global};
 use tree::{Plain, Switch};
 
-/// What a statement that holds no others comes to, and what it declares.
+/// Returns what a statement that holds no others yields, and declares its variable.
 fn tell_alone<'a>(
     text: &'a [u8],
     around: &Around<'_, '_>,
@@ -42,7 +42,7 @@ fn tell_alone<'a>(
     Ok(told)
 }
 
-/// What a statement comes to.
+/// Returns what a statement yields.
 #[cycle(statements)]
 fn tell_statement<'a>(
     text: &'a [u8],
@@ -77,21 +77,21 @@ fn tell_statement<'a>(
     }
 }
 
-/// An `if` as a statement.
+/// Returns an `if` as a statement.
 fn if_of(alloc: Global, branches: If) -> Result<Statement, AllocError>
     ensures { IfOk result (λ s. statement_model s ≡ seen.If (if_model branches).first (if_model branches).others) }
 {
     Ok(Statement::If(Box::new(alloc, branches)?))
 }
 
-/// A `while` as a statement.
+/// Returns a `while` as a statement.
 fn while_of(alloc: Global, test: Test) -> Result<Statement, AllocError>
     ensures { IfOk result (λ s. statement_model s ≡ seen.While (test_model test)) }
 {
     Ok(Statement::While(Box::new(alloc, test)?))
 }
 
-/// What these statements come to, one after another. A variable is in scope behind its declaration.
+/// Returns what these statements yield, in order. A variable is in scope after its declaration.
 #[cycle(statements)]
 pub(crate) fn tell_statements<'a>(
     text: &'a [u8],
@@ -112,7 +112,7 @@ pub(crate) fn tell_statements<'a>(
     Ok(told)
 }
 
-/// What a block comes to. What it declares is in scope there alone.
+/// Returns what a block yields. What it declares is in scope only there.
 #[cycle(statements)]
 fn tell_block<'a>(
     text: &'a [u8],
@@ -132,7 +132,7 @@ fn tell_block<'a>(
     Ok(Block { statements, forget })
 }
 
-/// What a condition comes to, with its block.
+/// Returns what a condition with its block yields.
 #[cycle(statements)]
 fn tell_test<'a>(
     text: &'a [u8],
@@ -155,7 +155,7 @@ fn tell_test<'a>(
     })
 }
 
-/// What conditions in a row come to, each with its block.
+/// Returns what these conditions yield, each with its block.
 #[cycle(statements)]
 fn tell_tests<'a>(
     text: &'a [u8],
@@ -176,7 +176,7 @@ fn tell_tests<'a>(
     Ok(told)
 }
 
-/// What a last block comes to, if there is one.
+/// Returns what a last block yields, if there is one.
 #[cycle(statements)]
 fn tell_otherwise<'a>(
     text: &'a [u8],
@@ -199,7 +199,7 @@ fn tell_otherwise<'a>(
     }
 }
 
-/// What an `if` comes to.
+/// Returns what an `if` yields.
 #[cycle(statements)]
 fn tell_if<'a>(
     text: &'a [u8],
@@ -224,7 +224,7 @@ fn tell_if<'a>(
     })
 }
 
-/// What the cases of a switch come to.
+/// Returns what the cases of a switch yield.
 #[cycle(statements)]
 fn tell_cases<'a>(
     text: &'a [u8],
@@ -250,7 +250,7 @@ fn tell_cases<'a>(
     Ok(told)
 }
 
-/// What a case comes to, behind which a token stands there. What it binds and declares is in scope there alone.
+/// Returns what a case yields. `behind` is the place of the token after it. What it binds and declares is in scope only there.
 #[cycle(statements)]
 fn tell_case<'a>(
     text: &'a [u8],

@@ -1,4 +1,4 @@
-//! What stays in scope where a block, a loop or a switch is left, and what does not.
+//! What stays in scope when a block, a loop or a switch is left, and what does not.
 
 ghost use Rattle.std.specs.Prelude.{◌≡◌, ℕ, List, []};
 ghost use Rattle.program.specs.Statements as seen;
@@ -14,8 +14,8 @@ use program::{Effect, Forget, Statement, VarId};
 use source::Place;
 use std::alloc::Global;
 
-/// The last variable of the exchange heap in scope that stays at a `break`, and at a `continue`: what is declared behind it goes
-/// out of scope.
+/// The last variable of the exchange heap that stays in scope at a `break`, and at a `continue`. Variables declared
+/// after it go out of scope.
 #[derive(Clone, Copy)]
 pub(crate) struct Staying {
     pub(crate) at_break: Option<VarId>,
@@ -23,7 +23,8 @@ pub(crate) struct Staying {
 }
 
 impl Staying {
-    /// In a loop before which this variable is the last in scope, or in a method of which it is the last parameter.
+    /// Returns what stays in a loop or a method. `last` is the last variable in scope before the loop, or the last
+    /// parameter of the method.
     pub(crate) fn here(last: Option<VarId>) -> Staying
         ensures { (f : LocalFrame) → number_model last ≡ f.last → staying_model result ≡ stays_here f }
     {
@@ -33,7 +34,7 @@ impl Staying {
         }
     }
 
-    /// In a switch before which this variable is the last in scope.
+    /// Returns what stays in a switch. `last` is the last variable in scope before it.
     pub(crate) fn in_switch(self, last: Option<VarId>) -> Staying
         ensures { (f : LocalFrame) → number_model last ≡ f.last → staying_model result ≡ in_switch (staying_model self) f }
     {
@@ -44,7 +45,7 @@ impl Staying {
     }
 }
 
-/// What goes out of scope where the first of these is the last variable that stays, and the second the last that is there.
+/// Returns what goes out of scope. `outer` is the last variable that stays, and `last` the last one in scope.
 pub(crate) fn forget_past(place: Place, outer: Option<VarId>, last: Option<VarId>) -> Option<Forget>
     ensures { result ≡ forget place (number_model outer) (number_model last) }
 {
@@ -55,14 +56,14 @@ pub(crate) fn forget_past(place: Place, outer: Option<VarId>, last: Option<VarId
     Some(Forget { place, last, outer })
 }
 
-/// What goes out of scope at a `break` or a `continue`, where this variable is the last that stays.
+/// Returns what goes out of scope at a `break` or a `continue`. `stays` is the last variable that stays.
 fn forget_at_exit(locals: &Locals<'_>, place: Place, stays: Option<VarId>) -> Option<Forget>
     ensures { (text : List ℕ) (f : LocalFrame) → IsLocalFrame text f locals.now → result ≡ forget place (number_model stays) f.last }
 {
     forget_past(place, stays, locals.last())
 }
 
-/// What a `break` comes to.
+/// Returns the statement that a `break` yields.
 pub(crate) fn tell_break(
     alloc: Global,
     locals: &Locals<'_>,
@@ -78,7 +79,7 @@ pub(crate) fn tell_break(
     )
 }
 
-/// What a `continue` comes to.
+/// Returns the statement that a `continue` yields.
 pub(crate) fn tell_continue(
     alloc: Global,
     locals: &Locals<'_>,

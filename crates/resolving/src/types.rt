@@ -12,7 +12,7 @@ use program::{Contract, ContractId, HeapType, Side, StateId, StructId};
 use source::Span;
 use tree::{Heap, Type};
 
-/// The contract that is the item at this index.
+/// Returns the contract that is the item at this index.
 pub(crate) fn contract_at<'s>(directory: &Directory<'s, '_>, index: usize) -> Option<&'s Contract>
     ensures { (p : ProgramText) → IsDirectory p directory.now
         → option_map (λ c. contract_model c.now) result ≡ model.contract_at p index }
@@ -21,7 +21,7 @@ pub(crate) fn contract_at<'s>(directory: &Directory<'s, '_>, index: usize) -> Op
     directory.resolved.contracts.get(before.contracts)
 }
 
-/// The number of the contract that is the item at this index, if it is one.
+/// Returns the number of the contract that is the item at this index, if it is one.
 fn contract_number(directory: &Directory<'_, '_>, index: usize) -> Option<ContractId>
     ensures { (p : ProgramText) → IsDirectory p directory.now → result ≡ model.number_at p index }
 {
@@ -30,7 +30,7 @@ fn contract_number(directory: &Directory<'_, '_>, index: usize) -> Option<Contra
     Some(ContractId(before.contracts as u32))
 }
 
-/// The number of the contract of this name.
+/// Returns the number of the contract of this name.
 pub(crate) fn contract_named(directory: &Directory<'_, '_>, name: Span) -> Option<ContractId>
     ensures { (p : ProgramText) → IsDirectory p directory.now → result ≡ model.contract_named p name }
 {
@@ -38,7 +38,7 @@ pub(crate) fn contract_named(directory: &Directory<'_, '_>, name: Span) -> Optio
     contract_number(directory, place)
 }
 
-/// The number of the state of this name.
+/// Returns the number of the state of this name.
 fn named_state(
     directory: &Directory<'_, '_>,
     index: usize,
@@ -52,7 +52,7 @@ fn named_state(
     Some(state.id)
 }
 
-/// The state that is written, or else the first one of the contract.
+/// Returns the written state; without one, the first state of the contract.
 fn state_of(
     directory: &Directory<'_, '_>,
     index: usize,
@@ -70,7 +70,7 @@ fn state_of(
     }
 }
 
-/// What an end of a channel holds.
+/// Returns what an end of a channel holds.
 fn endpoint_held(
     directory: &Directory<'_, '_>,
     index: usize,
@@ -88,7 +88,7 @@ fn endpoint_held(
     })
 }
 
-/// A struct that is the item at this index.
+/// Returns the type of the struct that is the item at this index.
 fn struct_held(directory: &Directory<'_, '_>, index: usize) -> Option<HeapType>
     ensures { (p : ProgramText) → IsDirectory p directory.now → result ≡ model.heap_type p (Pointer index) None }
 {
@@ -96,7 +96,8 @@ fn struct_held(directory: &Directory<'_, '_>, index: usize) -> Option<HeapType>
     Some(HeapType::Struct(StructId(before.structs)))
 }
 
-/// What a variable of this type holds, where it is of the exchange heap. A written type that names a state names this one.
+/// Returns what a variable of this type holds, if it is of the exchange heap. `state` is the state in its written
+/// type, if there is one.
 pub(crate) fn heap_type(
     directory: &Directory<'_, '_>,
     ty: declarations::ValueType,
@@ -116,7 +117,7 @@ pub(crate) fn heap_type(
     }
 }
 
-/// The state that a type names.
+/// Returns the state in a written type, if there is one.
 fn state_in(written: Type) -> Option<Span>
     ensures { result ≡ model.state_in written }
 {
@@ -126,7 +127,7 @@ fn state_in(written: Type) -> Option<Span>
     }
 }
 
-/// What a variable of this type holds, where it is of the exchange heap.
+/// Returns what a variable of this type holds, if it is of the exchange heap.
 pub(crate) fn type_held(directory: &Directory<'_, '_>, written: Type) -> Option<HeapType>
     ensures { (p : ProgramText) → IsDirectory p directory.now → result ≡ model.type_held p written }
 {
@@ -137,7 +138,7 @@ pub(crate) fn type_held(directory: &Directory<'_, '_>, written: Type) -> Option<
     )
 }
 
-/// What a method gives, where it is of the exchange heap.
+/// Returns what a method gives, if it is of the exchange heap.
 pub(crate) fn result_held(directory: &Directory<'_, '_>, written: Option<Type>) -> Option<HeapType>
     ensures { (p : ProgramText) → IsDirectory p directory.now → result ≡ model.result_held p written }
 {

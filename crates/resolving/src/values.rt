@@ -24,21 +24,21 @@ use program::{Action, Effect, Mention, New, Simple, Statement};
 use std::alloc::{AllocError, Global};
 use tree::{Expression, Made, Value};
 
-/// The statement that reads these, and then does this.
+/// Returns the statement that reads these, and then has this effect.
 fn simple_statement(reads: Vec<Mention>, effect: Effect) -> Statement
     ensures { statement_model result ≡ seen.Simple reads.items effect }
 {
     Statement::Simple(Simple { reads, effect })
 }
 
-/// A statement that reads nothing.
+/// Returns a statement that reads nothing and has this effect.
 pub(crate) fn unread(alloc: Global, effect: Effect) -> Statement
     ensures { statement_model result ≡ seen.Simple [] effect }
 {
     simple_statement(Vec::new(alloc), effect)
 }
 
-/// An action, if there is one.
+/// Returns the effect of an action, if there is one.
 fn effect_of(action: Option<Action>) -> Effect
     ensures { result ≡ effect_of action }
 {
@@ -48,14 +48,14 @@ fn effect_of(action: Option<Action>) -> Effect
     }
 }
 
-/// A statement that reads nothing and does this, if there is an action.
+/// Returns a statement that reads nothing and does this action, if there is one.
 pub(crate) fn statement_of(alloc: Global, action: Option<Action>) -> Statement
     ensures { statement_model result ≡ seen.Simple [] (effect_of action) }
 {
     unread(alloc, effect_of(action))
 }
 
-/// The target takes what the source has, if there is a source.
+/// Returns the effect by which the target takes what the source has, if there is a source.
 fn move_effect(target: Mention, source: Option<Mention>) -> Effect
     ensures { result ≡ effect_on (Action.Move target) source }
 {
@@ -65,7 +65,7 @@ fn move_effect(target: Mention, source: Option<Mention>) -> Effect
     }
 }
 
-/// A part of what the variable has is written.
+/// Returns the effect of writing a part of what the variable has.
 fn use_effect(whole: Option<Mention>) -> Effect
     ensures { result ≡ effect_on Action.Use whole }
 {
@@ -75,7 +75,7 @@ fn use_effect(whole: Option<Mention>) -> Effect
     }
 }
 
-/// Adds what is read for what `new` makes: the length of an array.
+/// Adds what `new` reads: the length of an array.
 fn add_made_reads(
     text: &[u8],
     locals: &Locals<'_>,
@@ -91,7 +91,7 @@ fn add_made_reads(
     }
 }
 
-/// What is given for the fields that own of what `new` makes.
+/// Returns the variables given for the owning fields of what `new` makes.
 fn made_arguments(
     alloc: Global,
     text: &[u8],
@@ -107,7 +107,7 @@ fn made_arguments(
     }
 }
 
-/// Something is made, and this is done with it, behind what was read before.
+/// Returns the statement that reads what is in `before` and what `new` reads, and then has this effect.
 fn tell_made(
     text: &[u8],
     locals: &Locals<'_>,
@@ -122,7 +122,7 @@ fn tell_made(
     Ok(simple_statement(before, effect))
 }
 
-/// The target takes a new block, for whose fields that own these are given.
+/// Returns the statement by which the target takes a new block, with the variables given for its owning fields.
 fn tell_new(
     alloc: Global,
     text: &[u8],
@@ -142,7 +142,7 @@ fn tell_new(
     }))
 }
 
-/// An expression is read, and this is done then, behind what was read before.
+/// Returns the statement that reads what is in `before` and an expression, and then has this effect.
 pub(crate) fn tell_read(
     text: &[u8],
     locals: &Locals<'_>,
@@ -157,7 +157,7 @@ pub(crate) fn tell_read(
     Ok(simple_statement(before, effect))
 }
 
-/// A variable of the exchange heap takes a value.
+/// Returns the statement by which a variable of the exchange heap takes a value.
 fn tell_taken(
     text: &[u8],
     around: &Around<'_, '_>,
@@ -185,7 +185,7 @@ fn tell_taken(
     }
 }
 
-/// A scalar takes a value.
+/// Returns the statement by which a scalar takes a value.
 fn tell_scalar(
     text: &[u8],
     around: &Around<'_, '_>,
@@ -211,7 +211,7 @@ fn tell_scalar(
     }
 }
 
-/// A variable takes a value: one of the exchange heap, or a scalar.
+/// Returns the statement by which a variable takes a value: one of the exchange heap, or a scalar.
 pub(crate) fn tell_assigned(
     text: &[u8],
     around: &Around<'_, '_>,
@@ -228,7 +228,8 @@ pub(crate) fn tell_assigned(
     }
 }
 
-/// A call gives a scalar that a part of what the variable has takes, behind what its index reads.
+/// Returns the statement by which a part of what the variable has takes the result of a call. The reads of its index
+/// and the use of the variable come after the call.
 fn tell_part_called(
     text: &[u8],
     around: &Around<'_, '_>,
@@ -249,7 +250,8 @@ fn tell_part_called(
     tell_call(text, around, locals, call, after)
 }
 
-/// A part of what the variable has takes a value, behind what its index reads.
+/// Returns the statement by which a part of what the variable has takes a value. The index is read before the value,
+/// or after it if that is a call.
 pub(crate) fn tell_part(
     text: &[u8],
     around: &Around<'_, '_>,

@@ -7,7 +7,7 @@ ghost use Rattle.resolving.specs.Reads.{atom_ways, ways};
 use program::Ways;
 use tree::{Atom, Expression, atom_alone};
 
-/// Which ways a condition can go: one, if it is just `true` or just `false`.
+/// Returns which ways a condition can go: only one if it is just `true` or just `false`.
 pub(crate) fn ways_of(condition: &Expression) -> Ways
     ensures { result ≡ ways (expression_tree condition.now) }
 {
@@ -17,7 +17,7 @@ pub(crate) fn ways_of(condition: &Expression) -> Ways
     }
 }
 
-/// Which ways a condition that is this atom and nothing more can go.
+/// Returns which ways a condition that is just this atom can go.
 fn ways_of_atom(atom: &Atom) -> Ways
     ensures { result ≡ atom_ways (Some (atom_tree atom.now)) }
 {

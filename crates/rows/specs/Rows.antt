@@ -1,4 +1,4 @@
--- Rows: what each variable of a method has.
+-- Rows: what each variable of a method has at a point.
 use Rattle.std.specs.Prelude.{◌≡◌, ℕ, Bool, List, length, Option, Some, None, slice_get}
 use Rattle.program.specs.Methods.{MethodModel}
 use Rattle.rows.specs.Leaves.{is_something}
@@ -9,7 +9,7 @@ use Rattle.rows.specs.declared.row.Row.{Row}
 abbrev pub row_model : Row → List Leaf
 row_model r = r.leaves.items
 
--- a leaf, where there is one
+-- a leaf; nothing if there is none
 abbrev pub leaf_or_nothing : Option Leaf → Leaf
 leaf_or_nothing (Some leaf) = leaf
 leaf_or_nothing None = Nothing
@@ -18,10 +18,10 @@ leaf_or_nothing None = Nothing
 abbrev pub leaf_at : List Leaf → ℕ → Leaf
 leaf_at row variable = leaf_or_nothing (slice_get row variable)
 
--- whether that is something
+-- whether a variable has something
 abbrev pub is_owned : List Leaf → ℕ → Bool
 is_owned row variable = is_something (leaf_at row variable)
 
--- there is a leaf for each variable of a method
+-- the row has a leaf for each variable of the method
 abbrev pub IsRowOf : MethodModel → List Leaf → Type 0
 IsRowOf m row = length row ≡ length m.variables

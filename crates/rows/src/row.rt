@@ -22,7 +22,7 @@ pub enum Leaf {
 }
 
 impl Leaf {
-    /// Whether that is something.
+    /// Returns whether the variable has something.
     pub fn is_something(self) -> bool
         ensures { result ≡ is_something self }
     {
@@ -32,7 +32,7 @@ impl Leaf {
         }
     }
 
-    /// Whether the number of a state is one that a state may have.
+    /// Returns whether the number of a state is one that a state may have.
     fn is_numbered(self) -> bool
         ensures { IsTrue result ↔ IsNumbered self }
     {
@@ -43,7 +43,7 @@ impl Leaf {
     }
 }
 
-/// A leaf for each variable of a method, in order of declaration. They are at most `MOST_VARIABLES`, and the number of a state is
+/// A leaf for each variable of a method, in order of declaration. There are at most `MOST_VARIABLES`, and the number of a state is
 /// less than `MOST_STATES`.
 #[derive(Debug, PartialEq, Eq, Hash, Drop)]
 pub struct Row {
@@ -55,8 +55,8 @@ pub struct Row {
 impl Row {
     ghost use Rattle.rows.specs.Rows.{is_owned, leaf_at, row_model};
 
-    /// The row of these leaves. There is none where they are more than `MOST_VARIABLES`, or where the number of a state is
-    /// `MOST_STATES` or more.
+    /// Returns the row of these leaves. `None` if there are more than `MOST_VARIABLES`, or if the number of a state is `MOST_STATES` or
+    /// more.
     pub fn of(leaves: Vec<Leaf>) -> Option<Row>
         ensures some { IsSome result ↔ AreLeaves leaves.items }
         ensures row { IfSome result (λ row. row_model row ≡ leaves.items) }
@@ -68,7 +68,7 @@ impl Row {
         None
     }
 
-    /// The row of these leaves, which are no more and no others than a row may have.
+    /// Returns the row of these leaves, which are within the limits of a row.
     pub fn from_leaves(leaves: Vec<Leaf>) -> Row
         requires few { length leaves.items ≤ MOST_VARIABLES }
         requires numbered { All IsNumbered leaves.items }
@@ -77,7 +77,7 @@ impl Row {
         Row { leaves }
     }
 
-    /// The row of no leaves. It takes no memory.
+    /// Returns a row without leaves. Allocates nothing.
     pub fn empty(alloc: Global) -> Row
         ensures { row_model result ≡ [] }
     {
@@ -86,16 +86,17 @@ impl Row {
         }
     }
 
-    /// Takes all leaves away, and keeps their memory.
+    /// Removes all leaves and keeps their memory.
     pub fn clear(&mut self)
         ensures { row_model self.new ≡ [] }
     {
         self.leaves.clear();
     }
 
-    /// Puts a leaf behind the others.
+    /// Appends a leaf.
     ///
-    /// `Memory` is answered where a growth was refused. The row is as it was then.
+    /// # Errors
+    /// `Memory` if out of memory; the row is unchanged.
     pub fn push(&mut self, leaf: Leaf) -> Result<(), Memory>
         requires room { length (row_model self.old) < MOST_VARIABLES }
         requires numbered { IsNumbered leaf }
@@ -106,9 +107,10 @@ impl Row {
         Ok(())
     }
 
-    /// Becomes a row of the same leaves as the other.
+    /// Replaces its leaves by those of another row.
     ///
-    /// `Memory` is answered where a growth was refused. The row may have any leaves then.
+    /// # Errors
+    /// `Memory` if out of memory; the row may then have any leaves.
     pub fn copy_from(&mut self, other: &Row) -> Result<(), Memory>
         ensures { OnOk result (row_model self.new ≡ row_model other.now) }
     {
@@ -117,7 +119,7 @@ impl Row {
         Ok(())
     }
 
-    /// Its leaves.
+    /// Returns its leaves.
     pub fn leaves(&self) -> &[Leaf]
         ensures leaves { result.now ≡ row_model self.now }
         ensures within { AreLeaves result.now }
@@ -125,7 +127,7 @@ impl Row {
         &self.leaves
     }
 
-    /// What a variable has: nothing, where there is no such variable.
+    /// Returns what a variable has: `Nothing` if there is no such variable.
     pub fn leaf(&self, variable: VarId) -> Leaf
         ensures leaf { result ≡ leaf_at (row_model self.now) variable.0 }
         ensures numbered { IsNumbered result }
@@ -136,14 +138,14 @@ impl Row {
         }
     }
 
-    /// Whether a variable has something.
+    /// Returns whether a variable has something.
     pub fn owns(&self, variable: VarId) -> bool
         ensures { result ≡ is_owned (row_model self.now) variable.0 }
     {
         self.leaf(variable).is_something()
     }
 
-    /// Gives a variable this in place of what it has. Where there is no such variable, nothing changes.
+    /// Replaces what a variable has. Nothing changes if there is no such variable.
     pub fn set(&mut self, variable: VarId, leaf: Leaf)
         requires numbered { IsNumbered leaf }
         ensures { row_model self.new ≡ set (row_model self.old) variable.0 leaf }
@@ -153,9 +155,10 @@ impl Row {
         }
     }
 
-    /// A row of the same leaves.
+    /// Returns a row of the same leaves.
     ///
-    /// `Memory` is answered where a growth was refused.
+    /// # Errors
+    /// `Memory` if out of memory.
     pub fn copy(&self, alloc: Global) -> Result<Row, Memory>
         ensures { IfOk result (λ row. row_model row ≡ row_model self.now) }
     {

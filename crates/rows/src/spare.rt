@@ -1,4 +1,4 @@
-//! What a switch makes its rows of.
+//! Rows and a list of pairs kept for later switches.
 
 ghost use Rattle.std.specs.Prelude.{◌≡◌, [], IfOk};
 ghost use Rattle.rows.specs.Rows.{row_model};
@@ -8,11 +8,11 @@ use source::Memory;
 use std::alloc::Global;
 use std::mem;
 
-/// How many leaves the rows have in all that are kept for later switches. A switch with more than these behind it takes memory each time:
-/// a thousand ways of a thousand variables would take eight megabytes for good.
+/// The greatest number of leaves in all rows that are kept for later switches. A switch with more of them allocates each time: a thousand
+/// ways of a thousand variables would take eight megabytes for good.
 const MOST_LEAVES: usize = 65_536;
 
-/// Rows, and a list of pairs, that are not in use: what a switch makes of them takes no memory. What they hold is of no account.
+/// Rows and a list of pairs that are not in use, so that a switch can use them again without allocating. Their contents do not matter.
 #[derive(Drop)]
 pub struct Spare {
     alloc: Global,
@@ -21,7 +21,7 @@ pub struct Spare {
 }
 
 impl Spare {
-    /// Nothing to spare. It takes no memory.
+    /// Makes a `Spare` with nothing in it. Allocates nothing.
     pub fn new(alloc: Global) -> Spare {
         Spare {
             alloc,
@@ -30,7 +30,7 @@ impl Spare {
         }
     }
 
-    /// A list of no pairs.
+    /// Returns a list without pairs.
     pub fn no_pairs(&mut self) -> Vec<(usize, Row)>
         ensures { result.items ≡ [] }
     {
@@ -39,9 +39,10 @@ impl Spare {
         pairs
     }
 
-    /// A row of the same leaves as this one.
+    /// Returns a row of the same leaves as this one.
     ///
-    /// `Memory` is answered where a growth was refused.
+    /// # Errors
+    /// `Memory` if out of memory.
     pub fn copy_of(&mut self, row: &Row) -> Result<Row, Memory>
         ensures { IfOk result (λ copy. row_model copy ≡ row_model row.now) }
     {
@@ -54,7 +55,7 @@ impl Spare {
         }
     }
 
-    /// Takes pairs that nobody needs any more, for a later switch. What it has no memory for is dropped.
+    /// Keeps pairs that are no longer needed for a later switch. What it has no room or memory for is dropped.
     pub fn take_back(&mut self, mut pairs: Vec<(usize, Row)>) {
         'pairs: while let Some((_, row)) = pairs.pop() {
             if self.has_room(&row) && self.rows.push(row).is_err() {
@@ -64,7 +65,7 @@ impl Spare {
         self.pairs = pairs;
     }
 
-    /// Whether a row is kept beside the others.
+    /// Returns whether a row may be kept beside the others.
     fn has_room(&self, row: &Row) -> bool {
         self.rows.len().saturating_mul(row.leaves().len()) < MOST_LEAVES
     }

@@ -1,4 +1,4 @@
--- Checks of arguments: what was found stands for them, argument by argument.
+-- Checks of arguments, one by one: the result stands for all of them.
 use Rattle.std.proofs.Common.{◌≡◌, ℕ, ◌+◌, ◌<◌, ◌≤◌, Bool, true, false, not, ◌||◌, ◌==◌, List, [], ◌∷◌, ◌++◌, length, drop, slice_index_or, Option, None, Some, Ok, Err, if◌then◌else◌, refl, sym, ap, ◌∙◌, append_assoc, arith, zip, ◌⊎◌, inl, inr, min, ⊎_elim}
 use Rattle.std.specs.BTreeSet.{BTreeSet, contains, IsEmpty, Updates}
 use Rattle.std.specs.BTreeMap.{is_at}
@@ -23,7 +23,7 @@ use Rattle.std.specs.Prelude.{Result, IsErrAnd}
 use Rattle.rules.proofs.CallLemmas.{passed_on}
 use Rattle.flow.proofs.EndpointLemmas.{same_test, at_same, was_not, was_there}
 
--- so many arguments were looked at, the variables of these are in the set, and none of them was given before
+-- the first `done` arguments were looked at: the set has their variables, and none was given before
 pub record Looked (set : BTreeSet ℕ) (arguments : List Argument) (done : ℕ) : Type 0 where
   pub same : (earlier : List ℕ) × AreIn earlier set × (first_again [] arguments ≡ first_again earlier (drop done arguments))
 
@@ -62,7 +62,7 @@ looked_all set arguments done le h = sym (h.same.2 ∙ at_drop_all (first_again 
 pub none_in : (set : BTreeSet ℕ) → IsEmpty set → AreIn [] set
 none_in set empty = λ q. ap (list_any (is_at (nat_cmp q))) empty
 
--- none was looked at
+-- no argument was looked at
 pub looked_first : (set : BTreeSet ℕ) (arguments : List Argument) → IsEmpty set → Looked set arguments 0
 looked_first set arguments empty = record { same = ([], none_in set empty, refl) }
 
@@ -71,23 +71,23 @@ one : (m : MethodModel) (b : Bool) (x : Mention) (checks more : List Check) (aga
 one m true x checks more again after h = refl
 one m false x checks more again after h = h
 
--- the first one that was given before is the finding
+-- the finding is for the first argument that was given before
 pub again_is : (m : MethodModel) (earlier : List ℕ) (arguments : List Argument) (more : List Check) (after : List Pair) → after_checks (given_before m earlier arguments ++ more) after ≡ after_checks (require_none_again m (first_again earlier arguments) ∷ more) after
 again_is m earlier [] more after = refl
 again_is m earlier (a ∷ arguments) more after =
     let x = a.mention in
     one m (is_among earlier x.variable.0) x (given_before m (x.variable.0 ∷ earlier) arguments) more (first_again (x.variable.0 ∷ earlier) arguments) after (again_is m (x.variable.0 ∷ earlier) arguments more after)
 
--- what was found stands for the checks that none was given before
+-- the result stands for the checks that no argument was given before
 pub again_stands : (m : MethodModel) (earlier : List ℕ) (arguments : List Argument) (again : Option Mention) (says : Breach → FindingModel) (found : Result (Unit {0}) Breach) → again ≡ first_again earlier arguments → check_model says found ≡ require_none_again m again → StandsFor says found (given_before m earlier arguments)
 again_stands m earlier arguments again says found is told =
     record { all = λ more after. again_is m earlier arguments more after ∙ ap (λ a. after_checks (require_none_again m a ∷ more) after) (sym is) ∙ ap (λ f. after_checks (f ∷ more) after) (sym told) }
 
--- of these checks only those are left
+-- of these checks, only those in `left` are still to be made
 pub record Left (checks left : List Check) : Type 0 where
   pub all : (more : List Check) (after : List Pair) → after_checks (checks ++ more) after ≡ after_checks (left ++ more) after
 
--- none was looked at
+-- no check was made
 pub left_all : (checks : List Check) → Left checks checks
 left_all checks = record { all = λ more after. refl }
 
@@ -97,11 +97,11 @@ module _ (says : Breach → FindingModel) where
   left_behind checks before left rest found is stands h more after =
       h.all more after ∙ ap (λ l. after_checks (l ++ more) after) is ∙ ap (λ l. after_checks l after) (append_assoc before rest more) ∙ stands.all (rest ++ more) after
 
-  -- the first of those that are left went well
+  -- the first of the checks left passed
   pub left_less : (checks before left rest : List Check) → left ≡ before ++ rest → StandsFor says (Ok tt) before → Left checks left → Left checks rest
   left_less checks before left rest is stands h = record { all = left_behind checks before left rest (Ok tt) is stands h }
 
-  -- the first of those that are left failed
+  -- the first of the checks left failed
   pub left_found : (checks before left rest : List Check) (answer : Result (Unit {0}) Breach) (breach : Breach) → left ≡ before ++ rest → IsErrAnd answer (λ b. b ≡ breach) → StandsFor says (Err breach) before → Left checks left
       → StandsFor says answer checks
   left_found checks before left rest answer breach is passed stands h = record {
@@ -110,15 +110,15 @@ module _ (says : Breach → FindingModel) where
         ∙ sym (ap (λ f. after_checks (check_model says f ∷ more) after) (passed_on answer breach passed));
   }
 
-  -- none is left
+  -- no check is left
   pub left_none : (checks left : List Check) → left ≡ [] → Left checks left → StandsFor says (Ok tt) checks
   left_none checks left is h = record { all = λ more after. h.all more after ∙ ap (λ l. after_checks (l ++ more) after) is }
 
--- what is claimed of one argument more is gone
+-- one more argument: what it claims is gone
 pub claimed_more : (row less : List Leaf) (arguments : List Argument) (done : ℕ) (d : Argument) → done < length arguments → less ≡ after_claims row (slice_index_or arguments done d ∷ []) → after_claims less (drop (done + 1) arguments) ≡ after_claims row (drop done arguments)
 claimed_more row less arguments done d lt is = sym (at_drop_more (after_claims row) arguments done d lt ∙ ap (λ r. after_claims r (drop (done + 1) arguments)) (sym is))
 
--- two lists side by side, from one place on
+-- two lists in pairs, from index i on
 pub zip_more : {A B : Type 0} (xs : List A) (ys : List B) (i : ℕ) (d : A) (e : B) → i < length xs → i < length ys → zip (drop i xs) (drop i ys) ≡ (slice_index_or xs i d, slice_index_or ys i e) ∷ zip (drop (i + 1) xs) (drop (i + 1) ys)
 zip_more xs ys i d e first second =
     at_drop_more (λ l. zip l (drop i ys)) xs i d first ∙ at_drop_more (λ l. zip (slice_index_or xs i d ∷ drop (i + 1) xs) l) ys i e second
@@ -128,7 +128,7 @@ zip_nil [] ys none = refl
 zip_nil (x ∷ xs) [] none = refl
 zip_nil (x ∷ xs) (y ∷ ys) none = absurd (cc)
 
--- nothing is left of one of them
+-- one of the lists is at its end
 pub zip_none : {A B : Type 0} (xs : List A) (ys : List B) (i : ℕ) → (length xs ≤ i) ⊎ (length ys ≤ i) → zip (drop i xs) (drop i ys) ≡ []
 zip_none xs ys i (inl le) = at_drop_all (λ l. zip l (drop i ys)) xs i le
 zip_none xs ys i (inr le) = zip_nil (drop i xs) (drop i ys) (drop_all i ys le)

@@ -1,4 +1,4 @@
--- Endpoints that were lent, variable by variable.
+-- Lent endpoints, variable by variable.
 use Rattle.std.proofs.Common.{◌≡◌, ℕ, suc, ◌+◌, ◌-◌, ◌<◌, ◌≤◌, List, [], ◌∷◌, length, map, ap, sym, ◌∙◌, arith, Bool, true, Some}
 use Rattle.std.specs.Prelude.{Result}
 use Rattle.std.specs.List.{range_with_len}
@@ -32,7 +32,7 @@ module _ (p : ProgramModel) (m : MethodModel) (row : List Leaf) (place : Place) 
       let left : length m.variables - v ≡ 0 = omega (arith, le) in
       ap (λ n. map back_check (range_with_len v n)) left
 
-  -- what is said of one that is not back stands for its check
+  -- the finding for an endpoint that is not back stands for its check
   pub told_back : (v : ℕ) (says : Breach → FindingModel) (found : Result (Unit {0}) Breach) → is_not_back p m row v ≡ true → check_model says found ≡ Some (not_back (name_of m v) place) → StandsFor says found (back_check v ∷ [])
   told_back v says found out told = record {
     all = λ more after. ap (λ (b : Bool). after_checks (refuse_if b (not_back (name_of m v) place) ∷ more) after) out ∙ ap (λ f. after_checks (f ∷ more) after) (sym told);

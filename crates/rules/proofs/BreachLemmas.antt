@@ -13,7 +13,7 @@ use Rattle.rules.specs.declared.breach.Reason.TheVariants.{NotOwned, NotSent, Wr
 use Rattle.rules.specs.declared.breach.Reason.TheVariants.{Overwritten, StillOwned, NotBack, Lent, Twice, WrongForResult, NoResult, WrongForField}
 use Rattle.lemmas.proofs.Orders.{same_bytes, same_number, then_equal}
 
--- the reasons of these numbers, by the number of the check
+-- the reasons with these numbers, by the number of the check
 abbrev reasons : ℕ → ℕ → ℕ → List Reason
 reasons v e m =
     let variable : VarId = record { 0 = v } in
@@ -23,7 +23,7 @@ reasons v e m =
     ∷ NotCovered endpoint message ∷ NothingToReceive ∷ Overwritten variable ∷ StillOwned variable ∷ NotBack variable ∷ Lent variable
     ∷ Twice variable ∷ WrongForResult variable ∷ NoResult ∷ WrongForField variable ∷ []
 
--- the reason of these numbers
+-- the reason with these numbers
 abbrev reason_of : List ℕ → Reason
 reason_of (check ∷ v ∷ e ∷ m ∷ []) = get_or (reasons v e m) check NoResult
 reason_of _ = NoResult

@@ -1,4 +1,4 @@
--- Checks one after the other: what their answers stand for. A check that goes well answers `Ok`, and `?` passes a breach on.
+-- Checks in sequence, and what their results stand for. A check that passes returns `Ok`, and `?` passes a breach on.
 use Rattle.std.proofs.Common.{◌≡◌, Bool, true, false, List, [], ◌∷◌, ◌++◌, None, Ok, Err, sym, ap, ◌∙◌, append-nil, append_assoc}
 use Rattle.std.specs.Prelude.{Result, IsErrAnd}
 use Rattle.source.specs.Findings.{FindingModel}
@@ -9,43 +9,43 @@ use Rattle.rules.specs.declared.breach.Breach.{Breach}
 use Rattle.rules.specs.declared.onward.Onward.{Onward}
 use Rattle.rows.specs.declared.row.Leaf.{Leaf}
 
--- a check answers a breach that another had
+-- a check returns the breach of another
 pub passed_on : (answer : Result (Unit {0}) Breach) (breach : Breach) → IsErrAnd answer (λ b. b ≡ breach) → answer ≡ Err breach
 passed_on (Ok x) breach is = absurd is
 passed_on (Err b) breach is = ap (λ e. Err e) is
 
--- the same checks said otherwise
+-- equal checks
 pub of_checks : {says : Breach → FindingModel} {answer : Result (Unit {0}) Breach} {checks others : List Check} → checks ≡ others → StandsFor says answer checks → StandsFor says answer others
 of_checks is stands = record { all = λ more after. ap (λ l. after_checks (l ++ more) after) (sym is) ∙ stands.all more after }
 
 module _ (says : Breach → FindingModel) where
-  -- a rule answers a breach that a check had
+  -- a rule returns the breach of a check
   pub told_on : (answer : Result Onward Breach) (breach : Breach) (row : List Leaf) → IsErrAnd answer (λ b. b ≡ breach) → onward_model says (onward_of answer) row ≡ Fails (says breach)
   told_on (Ok x) breach row is = absurd is
   told_on (Err b) breach row is = ap (λ e. Fails (says e)) is
 
-  -- nothing comes behind these checks
+  -- nothing follows these checks
   pub alone : (checks : List Check) (answer : Result (Unit {0}) Breach) (after : List Pair) → StandsFor says answer checks → after_checks (check_model says answer ∷ []) after ≡ after_checks checks after
   alone checks answer after stands = sym (ap (λ l. after_checks l after) (sym (append-nil checks)) ∙ stands.all [] after)
 
-  -- one check before others went well
+  -- a check that passed, before others
   pub behind_one : (check : Check) (checks : List Check) (after : List Pair) → None ≡ check → after_checks checks after ≡ after_checks (check ∷ checks) after
   behind_one check checks after is = ap (λ c. after_checks (c ∷ checks) after) is
 
-  -- two lists of checks, of which the first went well
+  -- two lists of checks; the first passed
   pub both_stand : (checks behind : List Check) (answer : Result (Unit {0}) Breach) → StandsFor says (Ok tt) checks → StandsFor says answer behind → StandsFor says answer (checks ++ behind)
   both_stand checks behind answer stands more_stands = record {
     all = λ more after.
         ap (λ l. after_checks l after) (append_assoc checks behind more) ∙ stands.all (behind ++ more) after ∙ more_stands.all more after;
   }
 
-  -- the same, where nothing comes behind
+  -- the same, if nothing follows
   pub second_of : (checks behind : List Check) (answer : Result (Unit {0}) Breach) (after : List Pair) → StandsFor says (Ok tt) checks → StandsFor says answer behind
       → after_checks (check_model says answer ∷ []) after ≡ after_checks (checks ++ behind) after
   second_of checks behind answer after stands more_stands =
       alone (checks ++ behind) answer after (both_stand checks behind answer stands more_stands)
 
-  -- the first failed, whatever comes behind
+  -- the first failed, whatever follows
   pub first_stands : (checks behind : List Check) (answer : Result (Unit {0}) Breach) (breach : Breach) → IsErrAnd answer (λ b. b ≡ breach) → StandsFor says (Err breach) checks → StandsFor says answer (checks ++ behind)
   first_stands checks behind answer breach passed stands = record {
     all = λ more after.
@@ -53,7 +53,7 @@ module _ (says : Breach → FindingModel) where
         ∙ sym (ap (λ f. after_checks (check_model says f ∷ more) after) (passed_on answer breach passed));
   }
 
-  -- a check that went well, before others
+  -- a check that passes, before others
   pub passes : (fails : Bool) (told : FindingModel) (checks : List Check) (answer : Result (Unit {0}) Breach) → fails ≡ false → StandsFor says answer checks → StandsFor says answer (refuse_if fails told ∷ checks)
   passes fails told checks answer well stands = record {
     all = λ more after. ap (λ b. after_checks (refuse_if b told ∷ (checks ++ more)) after) well ∙ stands.all more after;

@@ -38,7 +38,7 @@ whole_at (s ∷ sounds) (d ∷ contracts) zero c same there =
     subst (λ parts. ∥ IsWhole parts ∥₁) (head ∙ ap (λ (x : ContractModel). x.parts) here) s.whole
 whole_at (s ∷ sounds) (d ∷ contracts) (suc n) c same there = whole_at sounds contracts n c (cc) there
 
--- the number of a state of a contract is one that a state may have
+-- the number of a contract's state is below the limit
 state_numbered : (c : ContractModel) (state : StateId) → ∥ IsWhole c.parts ∥₁ → IsStateOf c state → state.0 < MOST_STATES
 state_numbered c state whole is =
     ∥∥₁_elim whole le_prop (λ w.
@@ -48,7 +48,7 @@ state_numbered c state whole is =
     let read = slice_get-map (λ (s : StateModel). s.id) c.parts.states is.index ∙ ap (option_map (λ (s : StateModel). s.id)) is.there in
     subst (λ (q : StateId). q.0 < MOST_STATES) (get_or_from_slice_get (state_ids c.parts) is.index is.state.id state read ∙ is.is) at)
 
--- and so is that of a leaf that a type declares
+-- and so is that in a leaf that a type declares
 pub type_numbered : (sounds : List Sound) (contracts : List ContractModel) (ty : HeapType) → map sound_parts sounds ≡ map (λ (x : ContractModel). x.parts) contracts → IsType contracts ty → IsNumbered (declared_leaf ty)
 type_numbered sounds contracts (Struct n) same is = tt
 type_numbered sounds contracts (Array element) same is = tt
@@ -62,13 +62,13 @@ pub option_numbered : (sounds : List Sound) (contracts : List ContractModel) (ty
 option_numbered sounds contracts None same is = tt
 option_numbered sounds contracts (Some ty) same is = type_numbered sounds contracts ty same is
 
--- what each of these declares
+-- and in the leaves that these types declare
 pub types_numbered : (sounds : List Sound) (contracts : List ContractModel) (types : List HeapType) → map sound_parts sounds ≡ map (λ (x : ContractModel). x.parts) contracts → Each (IsType contracts) types → All (λ ty. IsNumbered (declared_leaf ty)) types
 types_numbered sounds contracts [] same are = All-nil (λ ty. IsNumbered (declared_leaf ty))
 types_numbered sounds contracts (ty ∷ types) same are =
     All-cons (λ k. IsNumbered (declared_leaf k)) ty types (type_numbered sounds contracts ty same are.0) (types_numbered sounds contracts types same are.1)
 
--- and what each of these variables holds
+-- and in those that these variables declare
 pub variables_numbered : (sounds : List Sound) (contracts : List ContractModel) (variables : List Variable) → map sound_parts sounds ≡ map (λ (x : ContractModel). x.parts) contracts → Each (λ (v : VariableModel). IsType contracts v.ty) (map variable_model variables)
     → All (λ (v : Variable). IsNumbered (declared_leaf v.ty)) variables
 variables_numbered sounds contracts [] same are = All-nil (λ (v : Variable). IsNumbered (declared_leaf v.ty))
@@ -85,18 +85,18 @@ none_there : (o : Option ContractModel) → option_map (λ (c : ContractModel). 
 none_there None none = refl
 none_there (Some c) none = absurd (cc)
 
--- and none past the last
+-- there is no contract past the last
 pub parts_past : (sounds : List Sound) (contracts : List ContractModel) (n : ℕ) → map sound_parts sounds ≡ map (λ (x : ContractModel). x.parts) contracts → slice_get sounds n ≡ None → slice_get contracts n ≡ None
 parts_past sounds contracts n same none =
     none_there (slice_get contracts n)
     (sym (slice_get-map (λ (c : ContractModel). c.parts) contracts n) ∙ ap (λ l. slice_get l n) (sym same) ∙ slice_get-map sound_parts sounds n ∙ ap (option_map sound_parts) none)
 
--- what is read off the parts
+-- a value read from the parts
 pub read_parts : {X : Type 0} (f : Parts → X) (other : X) (o : Option ContractModel) (parts : Parts) → option_map (λ (c : ContractModel). c.parts) o ≡ Some parts → option_map_or (λ (c : ContractModel). f c.parts) o other ≡ f parts
 read_parts f other None parts is = absurd (cc)
 read_parts f other (Some c) parts is = let same : c.parts ≡ parts = cc in ap f same
 
--- an endpoint of a type is a side of its contract
+-- the endpoint of a type is a side of its contract
 pub end_there : (p : ProgramModel) (contract : ContractId) (side : Side) (state : StateId) (parts : Parts) → option_map (λ (c : ContractModel). c.parts) (slice_get p.contracts contract.0) ≡ Some parts
     → IsEndOf p (Some (Endpoint contract side state)) parts side
 end_there p contract side state parts is =
@@ -107,7 +107,7 @@ end_there p contract side state parts is =
       says = λ message. read_parts (λ (x : Parts). name_among x.messages message) [] (slice_get p.contracts contract.0) parts is;
     }
 
--- it is none where there is no such contract
+-- it is no endpoint if there is no such contract
 pub end_nowhere : (p : ProgramModel) (contract : ContractId) (side : Side) (state : StateId) → slice_get p.contracts contract.0 ≡ None → IsNoEnd p (Some (Endpoint contract side state))
 end_nowhere p contract side state none =
     let edges = ap (λ o. option_map_or (λ (c : ContractModel). c.parts.edges) o []) none in
@@ -117,7 +117,7 @@ end_nowhere p contract side state none =
       says = λ message. ap (λ o. option_map_or (λ (c : ContractModel). name_among c.parts.messages message) o []) none;
     }
 
--- what holds of each stands for the one at a place
+-- what holds of each element holds of the one at an index
 pub each_at : {X : Type 0} (P : X → Type 0) (xs : List X) (n : ℕ) (x : X) → Each P xs → slice_get xs n ≡ Some x → P x
 each_at P [] n x all there = absurd (cc)
 each_at P (y ∷ xs) zero x all there = let same : y ≡ x = cc in subst P same all.0

@@ -10,7 +10,7 @@ use Rattle.rules.specs.Outcomes.{Check, Pair, Step, Fails, after_checks, refuse_
 use Rattle.rules.specs.Texts.{still_owned}
 use Rattle.rows.specs.declared.row.Leaf.{Leaf}
 
--- what comes of the first variable that still has something, if there is one, and what of the checks behind
+-- the finding for the first variable that still has something, if there is one, or else the outcome of the checks after it
 abbrev pub given : MethodModel → Place → Option ℕ → List Check → List Pair → Step Pair FindingModel
 given m place None more after = after_checks more after
 given m place (Some v) more after = Fails (still_owned (name_of m v) place)

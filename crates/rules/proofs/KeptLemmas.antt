@@ -1,4 +1,4 @@
--- Variables that still have something, where the row alone tells that there are none.
+-- Cases in which the row alone shows that no variable still has something.
 use Rattle.std.proofs.Common.{◌≡◌, ℕ, ◌<◌, ◌≤◌, Bool, true, false, not, ◌&&◌, List, [], ◌∷◌, length, Option, None, Some, if◌then◌else◌, refl, sym, ap, ◌∙◌, arith, ⊎_elim, slice_get, slice_index_or}
 use Rattle.std.proofs.lemmas.Bool.{cases_lt}
 use Rattle.std.proofs.lemmas.Option.{slice_get-get_or, slice_get_past}
@@ -29,7 +29,7 @@ module _ (m : MethodModel) (row : List Leaf) (spared : Option Mention) where
   none_kept done all below v =
       ⊎_elim (λ lt. below v lt) (λ le. empty v (ap (λ o. is_something (leaf_or_nothing o)) (slice_get_past row v (omega (arith, le, all))))) (cases_lt v done)
 
-  -- where none is kept, none is the first of any
+  -- if no variable is kept, there is no first kept one
   pub first_none : ((v : ℕ) → is_kept m row spared v ≡ false) → (variables : List ℕ) → None ≡ first_kept m row spared variables
   first_none none [] = refl
   first_none none (v ∷ variables) = first_none none variables ∙ ap (λ (b : Bool). if b then Some v else first_kept m row spared variables) (sym (none v))

@@ -10,13 +10,13 @@ use Rattle.rules.specs.Scopes.{between, declared_between, is_this}
 use Rattle.rows.specs.declared.row.Leaf.{Leaf}
 use Rattle.rules.proofs.ScopeLemmas.{between_more, between_none, between_this, kept_append}
 
--- a variable behind the outer one is another
+-- a variable after the outer one is another
 require_another : (v : VarId) (outer : Option VarId) (first : ℕ) → first ≤ v.0 → IfSome outer (λ o. o.0 < first) → is_this v outer ≡ false
 require_another v None first le out = refl
 require_another v (Some o) first le out = ne_eqb v.0 o.0 (λ e. omega (arith, le, out, e))
 
 module _ (m : MethodModel) (row : List Leaf) (given : Option Mention) (outer : Option VarId) (first : ℕ) (is : IsFirstKept m row given first) where
-  -- the first kept of the variables in scope where this one is the last
+  -- the first kept variable in scope, if `at` is the last one in scope
   abbrev kept_from : ℕ → Option VarId → Option ℕ
   kept_from most at = first_kept m row given (between m.variables most outer at)
 
@@ -31,7 +31,7 @@ module _ (m : MethodModel) (row : List Leaf) (given : Option Mention) (outer : O
       ∙ kept_append m row given (between m.variables most outer (outer_of m.variables v)) v.0
       ∙ ap (λ a. kept_or a (if_kept m row given v.0)) rest
 
-  -- what comes of the variables around one, by the one before it in scope
+  -- the first kept of the variables around one, by the next one outwards
   around : (most : ℕ) (v : VarId) (found : Option ℕ) → ((u : VarId) → LeadsTo first v.0 (Some u) → kept_from most (Some u) ≡ found)
       → (LeadsTo first v.0 None → None ≡ found) → (o : Option VarId) → LeadsTo first v.0 o → kept_from most o ≡ found
   around most v found one none None leads = ap (first_kept m row given) (between_none m.variables most outer) ∙ none leads
@@ -48,7 +48,7 @@ module _ (m : MethodModel) (row : List Leaf) (given : Option Mention) (outer : O
       by rest true same = ap (first_kept m row given) (between_this m.variables (suc most) outer v same)
       by rest false other = one_more most v None other rest ∙ ap (λ (b : Bool). if b then Some v.0 else None) (is.none v.0 lt)
 
-  -- so the first is the first kept where it is in scope
+  -- so the first is the first kept if it is in scope
   first_from : (most : ℕ) (v : VarId) → IfSome outer (λ o. o.0 < first) → first ≤ v.0 → v.0 < most → All v.0 → kept_from most (Some v) ≡ Some first
   first_from zero v out le lt all = absurd (omega (arith, lt))
   first_from (suc most) v out le lt all = ⊎_elim

@@ -1,4 +1,4 @@
--- What goes into a message or into fields: which is given again, and the checks of each.
+-- Payloads of a message or of fields: the one that is given again, and the checks of each.
 use Rattle.std.proofs.Common.{◌≡◌, ℕ, ◌+◌, ◌<◌, ◌≤◌, Bool, true, false, ◌||◌, ◌==◌, List, [], ◌∷◌, length, drop, take, map, zip, slice_index_or, None, Some, if◌then◌else◌, refl, sym, ap, ◌∙◌, ◌⊎◌, inl, inr}
 use Rattle.std.specs.List.{list_any}
 use Rattle.std.proofs.lemmas.List.{at_drop_all, at_drop_more}
@@ -11,11 +11,11 @@ use Rattle.rules.specs.Repeats.{first_again}
 use Rattle.rows.specs.declared.row.Leaf.{Leaf}
 use Rattle.rules.proofs.ArgumentLemmas.{zip_nil}
 
--- whether it is one of these, or one of the first payloads is this variable
+-- whether q is in `besides` or is the variable of one of the first payloads
 abbrev pub is_taken : List ℕ → List Mention → ℕ → ℕ → Bool
 is_taken besides payloads done q = is_among besides q || list_any (λ x. x.variable.0 == q) (take done payloads)
 
--- so many payloads were looked at, these are their variables and those that cannot go there, and none of them was given before
+-- the first `done` payloads were looked at: their variables and `besides` are known, and none was given before
 pub record Taken (besides : List ℕ) (payloads : List Mention) (done : ℕ) : Type 0 where
   pub same : (earlier : List ℕ) × ((q : ℕ) → is_among earlier q ≡ is_taken besides payloads done q) × (first_again besides (map payload payloads) ≡ first_again earlier (map payload (drop done payloads)))
 
@@ -23,7 +23,7 @@ or_false : (b : Bool) → b ≡ (b || false)
 or_false true = refl
 or_false false = refl
 
--- none was looked at
+-- no payload was looked at
 pub taken_first : (besides : List ℕ) (payloads : List Mention) → Taken besides payloads 0
 taken_first besides payloads = record { same = (besides, λ q. or_false (is_among besides q), refl) }
 
@@ -67,19 +67,19 @@ taken_more besides payloads done d lt is h =
 pub taken_all : (besides : List ℕ) (payloads : List Mention) (done : ℕ) → length payloads ≤ done → Taken besides payloads done → None ≡ first_again besides (map payload payloads)
 taken_all besides payloads done le h = sym (h.same.2 ∙ at_drop_all (λ l. first_again h.same.0 (map payload l)) payloads done le)
 
--- types and payloads side by side, from one place on
+-- types and payloads in pairs, from index i on
 pub taken_side : (types : List HeapType) (payloads : List Mention) (i : ℕ) (d : HeapType) (e : Mention) → i < length types → i < length payloads
     → zip (drop i types) (map payload (drop i payloads)) ≡ (slice_index_or types i d, payload (slice_index_or payloads i e)) ∷ zip (drop (i + 1) types) (map payload (drop (i + 1) payloads))
 taken_side types payloads i d e first second =
     at_drop_more (λ l. zip l (map payload (drop i payloads))) types i d first
     ∙ at_drop_more (λ l. zip (slice_index_or types i d ∷ drop (i + 1) types) (map payload l)) payloads i e second
 
--- nothing is left of one of them
+-- one of the lists is at its end
 pub taken_none : (types : List HeapType) (payloads : List Mention) (i : ℕ) → (length types ≤ i) ⊎ (length payloads ≤ i) → zip (drop i types) (map payload (drop i payloads)) ≡ []
 taken_none types payloads i (inl le) = at_drop_all (λ l. zip l (map payload (drop i payloads))) types i le
 taken_none types payloads i (inr le) = at_drop_all (λ l. zip (drop i types) (map payload l)) payloads i le ∙ zip_nil (drop i types) [] refl
 
--- one payload more is gone
+-- one more payload is gone
 pub taken_gone : (row less : List Leaf) (payloads : List Mention) (done : ℕ) (d : Mention) → done < length payloads → less ≡ after_claims row (payload (slice_index_or payloads done d) ∷ [])
     → after_claims less (map payload (drop (done + 1) payloads)) ≡ after_claims row (map payload (drop done payloads))
 taken_gone row less payloads done d lt is =

@@ -20,7 +20,7 @@ use Rattle.rules.specs.RuleTable.{ways}
 use Rattle.rules.specs.Texts.{no_result}
 use Rattle.rules.specs.Steps.{entry_leaf, method_entry, method_outcome, outcome, point_outcome}
 
--- what stands at one place in two rows that are the same
+-- two lists with equal models have equal models at each index
 pub same_at : {A B C : Type 0} (f : A → C) (g : B → C) (xs : List A) (ys : List B) (n : ℕ) (x : A) → map f xs ≡ map g ys → n < length ys → x ≡ get_or xs n x → IsSomeAnd (slice_get ys n) (λ y. f x ≡ g y)
 same_at f g [] [] n x e h is = absurd (omega arith)
 same_at f g [] (y ∷ ys) n x e h is = absurd (cc)
@@ -31,7 +31,7 @@ same_at f g (a ∷ xs) (y ∷ ys) (suc n) x e h is = same_at f g xs ys n x (cc) 
 pub one_method : (a b : MethodModel) → Path (Option MethodModel) (Some a) (Some b) → a ≡ b
 one_method a b e = cc
 
--- what breaches say in the method of a number
+-- the findings of breaches in the method with this number
 pub said_in : (p : ProgramModel) (n : ℕ) (m : MethodModel) → slice_get p.methods n ≡ Some m → breach_in p n ≡ breach_model p m
 said_in p n m is = ap (λ o breach. option_map_or (λ m. breach_model p m breach) o (no_result breach.place)) is
 
@@ -43,7 +43,7 @@ entry_is (Some s) m g leaves its graph is =
     let row : leaves ≡ map (λ v. entry_leaf v.role v.ty) s.variables = is ∙ sym (map-map (λ v. entry_leaf v.role v.ty) variable_model m.variables.items) ∙ ap (λ (t : MethodModel). map (λ v. entry_leaf v.role v.ty) t.variables) (sym (one_method s (method_model m) its)) in
     λ i. (first i, row i)
 
--- what stands at a point of a method
+-- the instruction at a point of a method, if any
 pub at_point : (s : MethodModel) (g : Graph) (point : ℕ) (i : Option Instr) → graph_model g ≡ graph_of s → slice_get g.instructions.items point ≡ i → slice_get (graph_of s).instructions point ≡ option_map instruction_model i
 at_point s g point i graph is = ap (λ (h : GraphModel). slice_get h.instructions point) (sym graph) ∙ slice_get-map instruction_model g.instructions.items point ∙ ap (option_map instruction_model) is
 
@@ -52,7 +52,7 @@ pub outcome_at : (p : ProgramModel) (o : Option MethodModel) (m : Method) (g : G
 outcome_at p None m g point row i its graph is = absurd graph
 outcome_at p (Some s) m g point row i its graph is = λ j. point_outcome p (one_method s (method_model m) its j) row (at_point s g point i graph is j)
 
--- no instruction is there
+-- there is no instruction at the point
 pub outcome_past : (p : ProgramModel) (o : Option MethodModel) (g : Graph) (point : ℕ) (row : List Leaf) → IsSomeAnd o (λ s. graph_model g ≡ graph_of s) → slice_get g.instructions.items point ≡ None → method_outcome p o (point, row) ≡ Goes []
 outcome_past p None g point row graph is = absurd graph
 outcome_past p (Some s) g point row graph is = λ j. point_outcome p s row (at_point s g point None graph is j)
@@ -62,7 +62,7 @@ pub outcome_is : (p : ProgramModel) (n : ℕ) (pair : Pair) → outcome p n pair
 unfolding outcome
 outcome_is p n pair = refl
 
--- a condition goes on with whatever row comes to it
+-- a condition goes on with any row
 condition_goes : (p : ProgramModel) (m : MethodModel) (row : List Leaf) (branches : Branches) (i : Option Instruction) → Path (Option Branches) (Some branches) (condition_at i) → point_outcome p m row i ≡ Goes (ways branches row)
 condition_goes p m row branches None e = cc
 condition_goes p m row branches (Some (Act action next)) e = cc

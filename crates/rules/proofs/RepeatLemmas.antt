@@ -1,4 +1,4 @@
--- What is given again, point by point.
+-- Mentions that are given again, point by point.
 use Rattle.std.proofs.Common.{◌≡◌, ℕ, zero, suc, ◌+◌, ◌<◌, ◌≤◌, ◌==◌, Bool, true, false, List, [], ◌∷◌, ◌++◌, length, map, take, slice_index_or, slice_get, Option, None, Some, IsSomeAnd, if◌then◌else◌, refl, sym, ap, ◌∙◌, arith}
 use Rattle.std.specs.Option.{option_and_then, option_map}
 use Rattle.std.proofs.lemmas.Bool.Decides.{nat_tests}
@@ -15,7 +15,7 @@ use Rattle.rules.specs.Repeats.{again_in, given_again, repeated_in}
 use Rattle.rules.specs.declared.repeats.Repeats.{Repeats}
 use Rattle.rules.proofs.ProgramLemmas.{at_point}
 
--- so many instructions were looked at, and what those give again is there
+-- the first `done` instructions were looked at, and `repeats` has what they give again
 abbrev pub Kept : Repeats → List Instr → (done : ℕ) → Type 0
 Kept repeats instructions done = (q : ℕ) → repeated_in repeats q ≡ option_and_then (λ i. given_again (instruction_model i)) (slice_get (take done instructions) q)
 
@@ -28,7 +28,7 @@ suc_zero n = grind (arith, nat_tests)
 pub suc_suc : (a b : ℕ) → (suc a == suc b) ≡ (a == b)
 suc_suc a b = grind (arith, nat_tests)
 
--- what stands in a list with one more behind it
+-- an element of a list with one more appended
 get_behind : {X : Type 0} (xs : List X) (x : X) (q : ℕ) → slice_get (xs ++ x ∷ []) q ≡ (if length xs == q then Some x else slice_get xs q)
 get_behind [] x zero = refl
 get_behind [] x (suc q) = ap (λ b. if b then Some x else None) (sym (zero_suc q))
@@ -45,7 +45,7 @@ choose : {X Y : Type 0} (f : X → Option Y) (b : Bool) (x : X) (o : Option X) �
 choose f true x o = refl
 choose f false x o = refl
 
--- one instruction more was looked at
+-- one more instruction was looked at
 pub kept_more : (repeats more : Repeats) (instructions : List Instr) (done : ℕ) (d : Instr) (again : Option Mention) → done < length instructions → again ≡ given_again (instruction_model (slice_index_or instructions done d))
     → ((q : ℕ) → repeated_in more q ≡ (if done == q then again else repeated_in repeats q)) → Kept repeats instructions done → Kept more instructions (done + 1)
 kept_more repeats more instructions done d again lt is new h = λ q.
@@ -69,12 +69,12 @@ kept_all repeats graph done le h = λ j q. at q j
         ∙ seen given_again instruction_model (slice_get graph.instructions.items q)
         ∙ ap (option_and_then given_again) (sym (slice_get-map instruction_model graph.instructions.items q))
 
--- what the graphs of methods give again
+-- the repeats of methods are those of their graphs
 pub told_of : (repeats : List (Repeats)) (graphs : List Graph) (methods : List MethodModel) → map repeated_in repeats ≡ map (λ g. again_in (graph_model g)) graphs → map graph_model graphs ≡ map graph_of methods
     → map repeated_in repeats ≡ map (λ m. again_in (graph_of m)) methods
 told_of repeats graphs methods told lowered = told ∙ sym (map-map again_in graph_model graphs) ∙ ap (map again_in) lowered ∙ map-map again_in graph_of methods
 
--- what is given again where an instruction stands
+-- the repeat at a point is what its instruction gives again
 pub told_at : (o : Option MethodModel) (g : Graph) (repeats : Repeats) (point : ℕ) (i : Instr) → IsSomeAnd o (λ m. graph_model g ≡ graph_of m) → IsSomeAnd o (λ m. repeated_in repeats ≡ again_in (graph_of m))
     → slice_get g.instructions.items point ≡ Some i → repeated_in repeats point ≡ given_again (instruction_model i)
 told_at None g repeats point i graph told is = absurd graph

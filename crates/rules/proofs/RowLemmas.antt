@@ -55,7 +55,7 @@ bound_size row (v ∷ bound) (ty ∷ types) = bound_size (set row v.0 (declared_
 same_goes : (a b : List Pair) → Path (Step Pair FindingModel) (Goes a) (Goes b) → a ≡ b
 same_goes a b e = cc
 
--- where checks go well, the step leads to what comes then
+-- if the checks pass, the step leads to the pairs after them
 goes_on : (checks : List Check) (after to : List Pair) → after_checks checks after ≡ Goes to → after ≡ to
 goes_on [] after to e = same_goes after to e
 goes_on (None ∷ checks) after to e = goes_on checks after to e

@@ -40,7 +40,7 @@ between_this variables (suc most) outer v is = ap (λ (b : Bool). if b then [] e
 pub between_more : (variables : List VariableModel) (most : ℕ) (outer : Option VarId) (v : VarId) → is_this v outer ≡ false → between variables (suc most) outer (Some v) ≡ between variables most outer (outer_of variables v) ++ v.0 ∷ []
 between_more variables most outer v is = ap (λ (b : Bool). if b then [] else between variables most outer (outer_of variables v) ++ v.0 ∷ []) is
 
--- the first of all those is the first of those still to be looked at, and else the one that was found
+-- the first kept variable is the first of those still to be looked at, or else the one already found
 abbrev pub Looked : MethodModel → List Leaf → Option Mention → (outer last at : Option VarId) (done : ℕ) (found : Option ℕ) → Type 0
 Looked m row given outer last at done found =
     first_kept m row given (between m.variables (length m.variables) outer last) ≡ kept_or (first_kept m row given (between m.variables (length m.variables - done) outer at)) found

@@ -1,4 +1,4 @@
--- Small rows of the rule table with fields that own, computed by the definitions.
+-- Small steps of the rule table with owning fields, computed by the definitions.
 use Rattle.std.proofs.Common.{◌≡◌, ℕ, false, true, List, [], ◌∷◌, None, refl}
 use Rattle.std.specs.Prelude.{codes}
 use Rattle.source.specs.declared.place.Place.{Place}
@@ -31,11 +31,11 @@ variable name k role = record { name = name; ty = k; role = role; outer = None }
 abbrev end : ℕ → HeapType
 end state = Endpoint record { 0 = 0 } Imp record { 0 = state }
 
--- struct 0 has no fields that own, struct 1 one for a struct 0, struct 2 one for an endpoint in state 0
+-- struct 0 has no owning fields, struct 1 has one for a struct 0, struct 2 has one for an endpoint in state 0
 abbrev of_struct : ℕ → HeapType
 of_struct n = Struct record { 0 = n }
 
--- an own block x, a lent block y, a block h with a field for a block, an endpoint i, and a block e with a field for an endpoint
+-- a claimed block x, a lent block y, a block h with a field for a block, an endpoint i, and a block e with a field for an endpoint
 abbrev method : MethodModel
 method = record {
   name = at 1;
@@ -55,42 +55,42 @@ program = record { contracts = []; messages = []; structs = [] ∷ (of_struct 0 
 abbrev exchange : ℕ → ℕ → Instruction
 exchange holder given = Act (Exchange record { place = at 1; holder = mention holder 2; field = 0; given = mention given 3 }) 9
 
--- what is given for a field is gone, and the target has the new block
+-- the block given for a field is gone, and the target has the new block
 pub given_for_a_field : instruction_outcome program method (New (mention 2 1) (mention 0 2 ∷ []) 9)
     (Block ∷ Block ∷ Nothing ∷ State 1 ∷ Nothing ∷ []) ≡ Goes ((9, Nothing ∷ Block ∷ Block ∷ State 1 ∷ Nothing ∷ []) ∷ [])
 given_for_a_field = refl
 
--- it is lent
+-- a lent block is refused
 pub lent_for_a_field : instruction_outcome program method (New (mention 2 1) (mention 1 2 ∷ []) 9)
     (Block ∷ Block ∷ Nothing ∷ State 1 ∷ Nothing ∷ []) ≡ Fails (lent (codes "y") (at 2))
 lent_for_a_field = refl
 
--- it is in another state than the field asks, before the target is looked at
+-- an endpoint in another state than the field asks for is refused before the target is looked at
 pub wrong_for_a_field : instruction_outcome program method (New (mention 4 1) (mention 3 2 ∷ []) 9)
     (Block ∷ Block ∷ Nothing ∷ State 1 ∷ Block ∷ []) ≡ Fails (wrong_for_field (codes "i") (at 2))
 wrong_for_a_field = refl
 
--- an endpoint that is cut off never is, and then the target is
+-- an endpoint that is cut off is never in another state, so here the target is refused
 pub cut_off_for_a_field : instruction_outcome program method (New (mention 4 1) (mention 3 2 ∷ []) 9)
     (Block ∷ Block ∷ Nothing ∷ CutOff ∷ Block ∷ []) ≡ Fails (overwritten (codes "e") (at 1))
 cut_off_for_a_field = refl
 
--- nothing is given where something is asked for
+-- a variable that has nothing is refused
 pub nothing_for_a_field : instruction_outcome program method (exchange 2 0)
     (Nothing ∷ Block ∷ Block ∷ State 1 ∷ Nothing ∷ []) ≡ Fails (not_owned (codes "x") (at 3))
 nothing_for_a_field = refl
 
--- the holder itself, before all else
+-- the holder itself is refused, before all else
 pub holder_for_its_field : instruction_outcome program method (exchange 2 2)
     (Block ∷ Block ∷ Nothing ∷ State 1 ∷ Nothing ∷ []) ≡ Fails (twice (codes "h") (at 3))
 holder_for_its_field = refl
 
--- an endpoint in another state than the field asks
+-- an endpoint in another state than the field asks for is refused
 pub wrong_in_an_exchange : instruction_outcome program method (exchange 4 3)
     (Block ∷ Block ∷ Nothing ∷ State 1 ∷ Block ∷ []) ≡ Fails (wrong_for_field (codes "i") (at 3))
 wrong_in_an_exchange = refl
 
--- what comes out of the field has the field's state, and not what the variable had
+-- what comes out of the field has the field's state, not that of the variable before
 pub out_of_a_field : instruction_outcome program method (exchange 4 3)
     (Block ∷ Block ∷ Nothing ∷ CutOff ∷ Block ∷ []) ≡ Goes ((9, Block ∷ Block ∷ Nothing ∷ State 0 ∷ Block ∷ []) ∷ [])
 out_of_a_field = refl

@@ -17,7 +17,7 @@ use Rattle.rules.specs.Endpoints.{declared_leaf}
 use Rattle.program.specs.declared.types.HeapType.{HeapType}
 use Rattle.program.specs.declared.number.VarId.{VarId}
 
--- that the messages of these edges have a case at an endpoint
+-- the checks that the message of each of these edges has a case at the endpoint
 abbrev pub edge_checks : ProgramModel → MethodModel → List EntranceModel → Mention → List Edge → List Check
 edge_checks p m cases e edges =
     map
@@ -25,7 +25,7 @@ edge_checks p m cases e edges =
     (not_covered (name_of m e.variable.0) (message_name p (type_of m e.variable.0) d.message.0) e.place))
     edges
 
--- what was added, and what the others will add, are all of it
+-- the list so far and what the rest will add are the whole list
 pub record Adds {X Y : Type 0} (one : X → List Y) (old : List Y) (xs : List X) (now : List Y) (done : ℕ) : Type 0 where
   pub all : now ++ flat_map one (drop done xs) ≡ old ++ flat_map one xs
 

@@ -1,4 +1,4 @@
--- What an instruction with a transfer comes to.
+-- The outcome of an instruction with a transfer.
 use Rattle.std.proofs.Common.{◌≡◌, ℕ, Bool, true, false, not, ◌&&◌, ◌==◌, List, [], ◌∷◌, ◌++◌, flat_map, Option, Some, None, set, IfSome, IsSomeAnd, slice_get, if◌then◌else◌, refl, sym, ap, subst, ◌∙◌, true≢false}
 use Rattle.std.specs.Option.{option_map}
 use Rattle.source.specs.Findings.{FindingModel}
@@ -54,7 +54,7 @@ pass : (b : Bool) (f : FindingModel) (checks : List Check) (after : List Pair) �
 pass b f checks after e = ap (λ c. after_checks (refuse_if c f ∷ checks) after) e
 
 module _ (p : ProgramModel) (m : MethodModel) (row : List Leaf) where
-  -- where the transfer fits and is allowed, that is what comes of the instruction
+  -- if the transfer fits and is allowed, it is the outcome of the instruction
   abbrev Comes : Instruction → Transfer × ℕ → Type 0
   Comes i u = fits m u.0 ≡ true → allows u.0 row ≡ true → instruction_outcome p m i row ≡ Goes ((u.1, row_after_transfer u.0 row) ∷ [])
 

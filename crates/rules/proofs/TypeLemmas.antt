@@ -1,4 +1,4 @@
--- What a method takes for its parameters, variable by variable.
+-- The types of the parameters of a method, variable by variable.
 use Rattle.std.proofs.Common.{◌≡◌, ℕ, ◌+◌, ◌<◌, ◌≤◌, Bool, true, false, cond, List, [], ◌∷◌, ◌++◌, length, drop, filter, map, slice_index_or, if◌then◌else◌, refl, sym, ap, ◌∙◌, append-nil, append_assoc, slice_get, Option, Some, None, Vec}
 use Rattle.std.specs.Global.{Global}
 use Rattle.std.specs.Option.{option_map, option_map_or}
@@ -21,7 +21,7 @@ types_front : (v : Variable) (variables : List Variable) (b : Bool) → is_param
 types_front v variables true is = ap (λ (b : Bool). map (λ (x : VariableModel). x.ty) (cond b (variable_model v ∷ rest variables) (rest variables))) is
 types_front v variables false is = ap (λ (b : Bool). map (λ (x : VariableModel). x.ty) (cond b (variable_model v ∷ rest variables) (rest variables))) is
 
--- so many variables were looked at, and these types were found
+-- the first `done` variables were looked at, and their parameters have the types `found`
 pub record Listed (variables : List Variable) (done : ℕ) (found : List HeapType) : Type 0 where
   pub same : types_in variables ≡ found ++ types_in (drop done variables)
 
@@ -45,7 +45,7 @@ listed_less variables done x found lt at is h = record { same = listed_on variab
 pub listed_all : (variables : List Variable) (done : ℕ) (found : List HeapType) → length variables ≤ done → Listed variables done found → found ≡ types_in variables
 listed_all variables done found le h = sym (h.same ∙ ap (λ l. found ++ l) (at_drop_all types_in variables done le) ∙ append-nil found)
 
--- what each method takes
+-- the types that each method takes
 abbrev pub taken : List MethodModel → List (List HeapType)
 taken methods = map (λ m. map (λ v. v.ty) (parameters m)) methods
 

@@ -1,4 +1,4 @@
--- Calls, starts, sends and new blocks: the checks of what is given, and what is left of a row behind it.
+-- Calls, starts, sends and new blocks: the checks of what is given, and the row after it.
 use Rattle.std.specs.Prelude.{ℕ, Bool, true, false, ◌&&◌, List, [], ◌∷◌, ◌++◌, Option, Some, None}
 use Rattle.std.specs.Prelude.{flat_map, is_none, set, zip, if◌then◌else◌}
 use Rattle.std.specs.Option.{option_map_or}
@@ -19,37 +19,37 @@ use Rattle.rules.specs.Texts.{lent, twice, wrong_for, wrong_for_call, wrong_for_
 use Rattle.rows.specs.declared.row.Leaf.{Leaf}
 use Rattle.rows.specs.declared.row.Leaf.TheVariants.{Nothing, State}
 
--- what is claimed of arguments is gone
+-- the row after arguments: what is claimed is gone
 abbrev pub after_claims : List Leaf → List Argument → List Leaf
 after_claims row [] = row
 after_claims row (a ∷ arguments) = after_claims (if a.claimed then set row a.mention.variable.0 Nothing else row) arguments
 
--- a message claims what is given with it, and so does a block what is given for its fields
+-- a variable given with a message or for a field, which is always claimed
 abbrev pub payload : Mention → Argument
 payload x = record { mention = x; claimed = true }
 
--- a variable takes what a method gives, if it gives something of the exchange heap
+-- the row after a result: a variable takes what the method returns, if that is of the exchange heap
 abbrev pub given_leaf : List Leaf → Option HeapType → Option Mention → List Leaf
 given_leaf row (Some ty) (Some target) = set row target.variable.0 (declared_leaf ty)
 given_leaf row _ _ = row
 
--- what an endpoint of this type has behind a send of the message
+-- what an endpoint of this type has after it sends the message
 abbrev pub sent_leaf : ProgramModel → Option HeapType → ℕ → Leaf → Leaf
 sent_leaf p ty message leaf = in_state leaf (λ q. option_map_or State (end_on (edges_out p ty q) message) leaf) leaf
 
--- an endpoint in a state that has no edge on which it sends the message
+-- whether the state of an endpoint has no edge on which it sends the message
 abbrev pub lacks_edge : ProgramModel → Option HeapType → ℕ → Leaf → Bool
 lacks_edge p ty message leaf = in_state leaf (λ q. is_none (end_on (edges_out p ty q) message)) false
 
 module _ (m : MethodModel) where
-  -- none is one of these, and none is given twice
+  -- no variable is given twice, nor is one of these given
   abbrev pub given_before : List ℕ → List Argument → List Check
   given_before earlier [] = []
   given_before earlier (a ∷ arguments) =
       refuse_if (is_among earlier a.mention.variable.0) (twice (name_of m a.mention.variable.0) a.mention.place)
       ∷ given_before (a.mention.variable.0 ∷ earlier) arguments
 
-  -- The checks of what is given for a parameter: it is there, not lent where it is claimed, and in the state that the parameter asks.
+  -- The checks of an argument: it has something, is not lent if it is claimed, and is in the state that the parameter asks for.
   abbrev pub argument_checks : List Leaf → HeapType → Argument → List Check
   argument_checks row ty a =
       require_owned m row a.mention
@@ -57,38 +57,40 @@ module _ (m : MethodModel) where
       ∷ refuse_if (is_wrong ty (leaf_at row a.mention.variable.0)) (wrong_for_call (name_of m a.mention.variable.0) a.mention.place)
       ∷ []
 
-  -- the checks of arguments, for parameters of these types
+  -- the checks of all arguments, for parameters of these types
   abbrev pub all_arguments : List Leaf → List HeapType → List Argument → List Check
   all_arguments row types arguments = given_before [] arguments ++ flat_map (λ x. argument_checks row x.0 x.1) (zip types arguments)
 
-  -- The checks of what goes into a message or a field: it is not lent, there, and in the state that is asked. Where it is in a wrong
-  -- one, this is said.
+  -- The checks of what goes into a message or a field: it is not lent, has something, and is in the
+  -- state that is asked for; `wrong` is the finding if it is in another.
   abbrev pub taken_checks : List Leaf → (wrong : List ℕ → Place → FindingModel) → HeapType → Argument → List Check
   taken_checks row wrong ty a =
       require_not_lent m a.mention ∷ require_owned m row a.mention
       ∷ refuse_if (is_wrong ty (leaf_at row a.mention.variable.0)) (wrong (name_of m a.mention.variable.0) a.mention.place)
       ∷ []
 
-  -- the checks of all that goes there at once; none of it is one of these
+  -- the checks of all that goes there at once; none of it is one of these variables
   abbrev pub all_taken : (besides : List ℕ) → List Leaf → (wrong : List ℕ → Place → FindingModel) → List HeapType → List Argument
       → List Check
   all_taken besides row wrong types given = given_before besides given ++ flat_map (λ x. taken_checks row wrong x.0 x.1) (zip types given)
 
-  -- the checks of what a message takes with it, and of all that is sent along an endpoint
+  -- the checks of what goes into a message
   abbrev pub payload_checks : List Leaf → (message : List ℕ) → HeapType → Argument → List Check
   payload_checks row message = taken_checks row (λ name place. wrong_for name message place)
 
+  -- the checks of all that goes into a message
   abbrev pub all_payloads : List Leaf → Mention → (message : List ℕ) → List HeapType → List Argument → List Check
   all_payloads row endpoint message = all_taken (endpoint.variable.0 ∷ []) row (λ name place. wrong_for name message place)
 
-  -- the checks of what is given for a field, and of all that is given for the fields of a new block
+  -- the checks of what goes into a field
   abbrev pub field_checks : List Leaf → HeapType → Argument → List Check
   field_checks row = taken_checks row wrong_for_field
 
+  -- the checks of all that goes into the owning fields of a new block
   abbrev pub all_fields : List Leaf → List HeapType → List Argument → List Check
   all_fields row = all_taken [] row wrong_for_field
 
-  -- the checks of what takes a block: it is not lent, and has nothing
+  -- the checks of a variable that takes a block: it is not lent, and has nothing
   abbrev pub target_checks : List Leaf → Option Mention → List Check
   target_checks row None = []
   target_checks row (Some v) = require_not_lent m v ∷ require_empty m row v ∷ []

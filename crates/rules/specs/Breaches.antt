@@ -1,4 +1,4 @@
--- What breaches say: the finding of each.
+-- The finding of each breach.
 use Rattle.std.specs.Prelude.{ℕ, List, slice_get}
 use Rattle.std.specs.Option.{option_map_or}
 use Rattle.source.specs.Findings.{FindingModel}
@@ -43,6 +43,6 @@ module _ (p : ProgramModel) (m : MethodModel) where
   abbrev pub breach_model : Breach → FindingModel
   breach_model breach = finding_for_reason breach.place breach.reason
 
--- the finding of a breach in the method of a number; calls ask for methods of the program alone
+-- the finding of a breach in the method with this number; callers ask only for methods of the program
 abbrev pub breach_in : ProgramModel → ℕ → Breach → FindingModel
 breach_in p method breach = option_map_or (λ m. breach_model p m breach) (slice_get p.methods method) (no_result breach.place)

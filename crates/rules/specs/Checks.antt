@@ -1,4 +1,4 @@
--- What a check answers, as the rule table has it.
+-- The results of checks, in terms of the rule table.
 use Rattle.std.specs.Prelude.{◌≡◌, ◌<◌, ◌≤◌, ℕ, true, false, length, IfSome, List, [], ◌∷◌, ◌++◌, if◌then◌else◌}
 use Rattle.std.specs.Prelude.{Option, None, Some, Result, Ok, Err}
 use Rattle.std.specs.BTreeSet.{BTreeSet, contains}
@@ -14,51 +14,52 @@ use Rattle.rules.specs.Outcomes.{Check, Pair, after_checks}
 use Rattle.rules.specs.declared.breach.Breach.{Breach}
 use Rattle.rows.specs.declared.row.Leaf.{Leaf}
 
--- the check that answered this, by what breaches say
+-- the check that has this result; `says` gives the finding of a breach
 abbrev pub check_model : (Breach → FindingModel) → Result (Unit {0}) Breach → Check
 check_model says (Ok x) = None
 check_model says (Err breach) = Some (says breach)
 
--- the first of these variables that still has something, but for the one that is given
+-- the first of these variables that still has something, except the one that is given
 abbrev pub first_kept : MethodModel → List Leaf → Option Mention → List ℕ → Option ℕ
 first_kept m row given [] = None
 first_kept m row given (v ∷ variables) = if is_kept m row given v then Some v else first_kept m row given variables
 
--- this one, if it still has something
+-- this variable, if it still has something
 abbrev pub if_kept : MethodModel → List Leaf → Option Mention → ℕ → Option ℕ
 if_kept m row given v = if is_kept m row given v then Some v else None
 
--- the first of them, and else the other
+-- the first option, or the other one if that is none
 abbrev pub kept_or : Option ℕ → Option ℕ → Option ℕ
 kept_or None other = other
 kept_or (Some v) other = Some v
 
--- the first variable of a method that still has something, but for the one that is given
+-- the first variable of a method that still has something, except the one that is given
 pub record IsFirstKept (m : MethodModel) (row : List Leaf) (given : Option Mention) (first : ℕ) : Type 0 where
   pub kept : is_kept m row given first ≡ true
   pub none : (v : ℕ) → v < first → is_kept m row given v ≡ false
 
--- The variable before this one in scope was declared before it, and not before the first one if this was declared behind that.
+-- The variable before this one in scope was declared before it, and not before the first one if this one was declared after that. If
+-- there is none before this one in scope, this one was not declared after the first one.
 abbrev pub LeadsTo : (first variable : ℕ) → Option VarId → Type 0
 LeadsTo first variable None = variable ≤ first
 LeadsTo first variable (Some outer) = (outer.0 < variable) × (first < variable → first ≤ outer.0)
 
--- so it is with all variables up to the last one
+-- each variable up to the last one leads to the first one
 pub record AllLeadTo (variables : List VariableModel) (first last : ℕ) : Type 0 where
   pub there : last < length variables
   pub each : (v : ℕ) → v ≤ last → LeadsTo first v (outer_of variables (record { 0 = v }))
 
--- the first one is plainly in scope where the last one is, and not where the outer one is
+-- `first` is plainly among the variables in scope up to `last`, without those in scope up to `outer`
 abbrev pub IsPlain : List VariableModel → ℕ → (outer last : Option VarId) → Type 0
 IsPlain variables first outer None = ⊥
 IsPlain variables first outer (Some last) =
     IfSome outer (λ o. o.0 < first) × ((first ≤ last.0) × AllLeadTo variables first last.0)
 
--- the set has just these
+-- the set has exactly these numbers
 abbrev pub AreIn : List ℕ → BTreeSet ℕ → Type 0
 AreIn listed set = (q : ℕ) → contains nat_cmp set q ≡ is_among listed q
 
--- The answer stands for these checks, whatever checks come behind them.
+-- The result replaces these checks, whatever checks follow.
 pub record StandsFor (says : Breach → FindingModel) (answer : Result (Unit {0}) Breach) (checks : List Check) : Type 0 where
   pub all : (more : List Check) (after : List Pair)
       → after_checks (checks ++ more) after ≡ after_checks (check_model says answer ∷ more) after

@@ -1,5 +1,5 @@
--- What the rule table asks of a program: the edges along which its endpoints send and receive, what its messages and methods take, and
--- what a variable is declared to have.
+-- What the rule table looks up in a program: the edges along which its endpoints send and receive, what its messages and methods take,
+-- and what a variable is declared to have.
 use Rattle.std.specs.Prelude.{ℕ, ◌==◌, Bool, false, not, List, [], length, Option, Some, None, map, slice_get}
 use Rattle.std.specs.Option.{option_and_then, option_map_or}
 use Rattle.program.specs.Methods.{MethodModel}
@@ -17,25 +17,27 @@ use Rattle.rows.specs.declared.row.Leaf.TheVariants.{Block, State}
 abbrev pub payload_types : ProgramModel → ℕ → List HeapType
 payload_types p message = option_map_or (λ types. types) (slice_get p.messages message) []
 
--- what a method takes for its parameters of the exchange heap
+-- the types of a method's parameters of the exchange heap
 abbrev pub parameter_types : ProgramModel → ℕ → List HeapType
 parameter_types p method = option_map_or (λ m. map (λ v. v.ty) (parameters m)) (slice_get p.methods method) []
 
--- what it gives, where that is of the exchange heap
+-- the type of a method's result, if it is of the exchange heap
 abbrev pub result_of : ProgramModel → ℕ → Option HeapType
 result_of p method = option_and_then (λ m. m.result) (slice_get p.methods method)
 
--- what a variable of a method holds
+-- the type of a variable of a method
 abbrev pub type_of : MethodModel → ℕ → Option HeapType
 type_of m variable = option_map_or (λ v. Some v.ty) (slice_get m.variables variable) None
 
--- what the block of a variable has in its fields that own, and what one of them holds
+-- the types of the owning fields of the block of a variable
 abbrev pub fields_of : ProgramModel → MethodModel → (variable : ℕ) → List HeapType
 fields_of p m variable = option_map_or (λ ty. field_types p.structs ty) (type_of m variable) []
 
+-- the type of one of them
 abbrev pub field_of : ProgramModel → MethodModel → (variable field : ℕ) → Option HeapType
 field_of p m variable field = slice_get (fields_of p m variable) field
 
+-- the edges of a contract
 abbrev pub edges_of : ProgramModel → ℕ → List Edge
 edges_of p contract = option_map_or (λ c. c.parts.edges) (slice_get p.contracts contract) []
 
@@ -52,7 +54,7 @@ edges_out p _ q = []
 abbrev pub sends : ProgramModel → Option HeapType → ℕ → Bool
 sends p ty q = not (length (edges_out p ty q) == 0)
 
--- the edges along which it receives
+-- the edges along which an endpoint of this type receives in a state
 abbrev pub edges_in : ProgramModel → Option HeapType → ℕ → List Edge
 edges_in p (Some (Endpoint contract side state)) q = edges_from (edges_of p contract.0) (sign_to side) q
 edges_in p _ q = []
@@ -63,17 +65,17 @@ message_name p (Some (Endpoint contract side state)) message =
     option_map_or (λ c. name_among c.parts.messages message) (slice_get p.contracts contract.0) []
 message_name p _ message = []
 
--- what is had of this type where it is given: a block, or an endpoint in the declared state
+-- what a variable of this type has when it is given: a block, or an endpoint in its declared state
 abbrev pub declared_leaf : HeapType → Leaf
 declared_leaf (Endpoint contract side state) = State state.0
 declared_leaf _ = Block
 
--- an endpoint neither cut off nor in the declared state
+-- whether an endpoint is neither cut off nor in its declared state
 abbrev pub is_wrong : HeapType → Leaf → Bool
 is_wrong (Endpoint contract side state) (State q) = not (q == state.0)
 is_wrong _ _ = false
 
--- what holds of an endpoint in the state that it is in; of one that is cut off, and of all else, the other
+-- a value from the state of an endpoint; the other value for anything else, and for an endpoint that is cut off
 abbrev pub in_state : {X : Type 0} → Leaf → (ℕ → X) → X → X
 in_state (State q) there other = there q
 in_state _ there other = other

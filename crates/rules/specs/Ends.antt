@@ -1,4 +1,4 @@
--- An end of a channel as the code finds it: a contract and a side, which answer what the rule table asks of an endpoint.
+-- An end of a channel in the code: a contract and a side, from which the rule table looks up what an endpoint can do.
 use Rattle.std.specs.Prelude.{◌≡◌, ℕ, [], Option}
 use Rattle.program.specs.Parts.{Parts}
 use Rattle.program.specs.Programs.{ProgramModel}
@@ -14,7 +14,7 @@ pub record IsEndOf (p : ProgramModel) (ty : Option HeapType) (parts : Parts) (si
   pub receives : (q : ℕ) → edges_in p ty q ≡ edges_from parts.edges (sign_to side) q
   pub says : (message : ℕ) → message_name p ty message ≡ name_among parts.messages message
 
--- nothing of this type is an endpoint
+-- no value of this type is an endpoint
 pub record IsNoEnd (p : ProgramModel) (ty : Option HeapType) : Type 0 where
   pub sends : (q : ℕ) → edges_out p ty q ≡ []
   pub receives : (q : ℕ) → edges_in p ty q ≡ []

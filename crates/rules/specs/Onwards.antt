@@ -1,4 +1,4 @@
--- What a step in place comes to: the answer, and the row that stands in place behind it.
+-- The outcome of a step in place: what it returns, and the row that it leaves in place.
 use Rattle.std.specs.Prelude.{◌≡◌, List, [], ◌∷◌, Option, None, Some, map, Result, Ok, Err}
 use Rattle.flow.specs.Graphs.{Instruction, Branch}
 use Rattle.flow.specs.declared.graph.Branches.{Branches}
@@ -10,7 +10,7 @@ use Rattle.rules.specs.declared.onward.Onward.{Onward}
 use Rattle.rules.specs.declared.onward.Onward.TheVariants.{Ends, Same, Both, Changed, Ways, Found}
 use Rattle.rows.specs.declared.row.Leaf.{Leaf}
 
--- what this answer means where that row stands in place, by what breaches say
+-- the step that this outcome means if that row is in place; `says` gives the finding of a breach
 abbrev pub onward_model : (Breach → FindingModel) → Onward → List Leaf → Step Pair FindingModel
 onward_model says Ends row = Goes []
 onward_model says (Same point) row = Goes ((point, row) ∷ [])
@@ -19,18 +19,18 @@ onward_model says (Changed point) row = Goes ((point, row) ∷ [])
 onward_model says (Ways pairs) row = Goes (map pair_model pairs.items)
 onward_model says (Found breach) row = Fails (says breach)
 
--- the row is as it was, where the answer says so
+-- the row is unchanged, except for `Changed` and `Found`
 abbrev pub KeepsRow : Onward → (before after : List Leaf) → Type 0
 KeepsRow (Changed point) before after = Unit {0}
 KeepsRow (Found breach) before after = Unit {0}
 KeepsRow _ before after = after ≡ before
 
--- what a rule answers: where the method goes on, or what is wrong
+-- the outcome of a rule: where the method continues, or a breach
 abbrev pub onward_of : Result Onward Breach → Onward
 onward_of (Ok onward) = onward
 onward_of (Err breach) = Found breach
 
--- where a condition goes on, if one stands there
+-- where a condition continues, if the instruction is one
 abbrev pub condition_at : Option Instruction → Option Branches
 condition_at (Some (Branch place branches)) = Some branches
 condition_at _ = None

@@ -8,7 +8,7 @@ use Rattle.rules.specs.declared.breach.Reason.TheVariants.{NotOwned, NotSent, Wr
 use Rattle.rules.specs.declared.breach.Reason.TheVariants.{Overwritten, StillOwned, NotBack, Lent, Twice, WrongForResult, NoResult}
 use Rattle.rules.specs.declared.breach.Reason.TheVariants.{WrongForField}
 
--- the number of the check, the variable, the endpoint and the message: 0 for what the reason does not name
+-- the numbers of the check, the variable, the endpoint and the message, with 0 for what the reason does not name
 abbrev pub numbers : Reason → List ℕ
 numbers (NotOwned variable) = 1 ∷ variable.0 ∷ 0 ∷ 0 ∷ []
 numbers (NotSent endpoint message) = 2 ∷ 0 ∷ endpoint.0 ∷ message.0 ∷ []

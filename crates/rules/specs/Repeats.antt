@@ -1,4 +1,4 @@
--- What is given a second time. It asks no row.
+-- Repeated arguments. They depend on no row.
 use Rattle.std.specs.Prelude.{ℕ, List, [], ◌∷◌, Option, None, Some, if◌then◌else◌, slice_get}
 use Rattle.std.specs.BTreeMap.{get}
 use Rattle.std.specs.Option.{option_and_then, option_map}
@@ -19,20 +19,20 @@ first_again earlier [] = None
 first_again earlier (a ∷ arguments) =
     if is_among earlier a.mention.variable.0 then Some a.mention else first_again (a.mention.variable.0 ∷ earlier) arguments
 
--- what a call or a start gives again first
+-- the first repeated argument of a call or a start
 abbrev pub given_again : Instruction → Option Mention
 given_again (Call place method arguments target next) = first_again [] arguments
 given_again (Start place method arguments next) = first_again [] arguments
 given_again _ = None
 
--- what is given again first at a point of a graph
+-- the first repeated argument at a point of a graph
 abbrev pub again_in : GraphModel → ℕ → Option Mention
 again_in graph point = option_and_then given_again (slice_get graph.instructions point)
 
--- the same as the code has it
+-- the same from the table of the code
 abbrev pub repeated_in : Repeats → ℕ → Option Mention
 repeated_in repeats point = get nat_cmp repeats.firsts point
 
--- what is said of what is given again
+-- the check that no argument is repeated
 abbrev pub require_none_again : MethodModel → Option Mention → Check
 require_none_again m again = option_map (λ x. twice (name_of m x.variable.0) x.place) again

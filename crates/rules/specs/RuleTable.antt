@@ -1,5 +1,4 @@
--- The rule table: for each instruction its checks in order, and the row after it. The first check that fails is the finding
--- of the step.
+-- The rule table: the checks of each instruction in order, and the row after it. The first check that fails is the finding.
 use Rattle.std.specs.Prelude.{ℕ, Bool, false, ◌&&◌, List, [], ◌∷◌, ◌++◌, length, Option, Some, None, map, set}
 use Rattle.std.specs.List.{range_with_len}
 use Rattle.std.specs.Option.{option_map_or}
@@ -28,13 +27,13 @@ use Rattle.rules.specs.Texts.{no_result, not_back, not_sent, wrong_for_result}
 use Rattle.rows.specs.declared.row.Leaf.{Leaf}
 use Rattle.rows.specs.declared.row.Leaf.TheVariants.{Nothing, Block, State}
 
--- where a condition goes on
+-- where a condition continues
 abbrev pub ways : Branches → List Leaf → List Pair
 ways (Either inside past) row = (inside, row) ∷ (past, row) ∷ []
 ways (Only point) row = (point, row) ∷ []
 
 module _ (p : ProgramModel) (m : MethodModel) where
-  -- the checks of what a method gives: it is not lent, there, and in the state of the result
+  -- the checks of a returned value: it is not lent, has something, and is in the state of the result
   abbrev pub value_checks : List Leaf → Option Mention → List Check
   value_checks row None = []
   value_checks row (Some v) =
@@ -42,22 +41,22 @@ module _ (p : ProgramModel) (m : MethodModel) where
       ∷ refuse_if (option_map_or (λ ty. is_wrong ty (leaf_at row v.variable.0)) m.result false)
       (wrong_for_result (name_of m v.variable.0) v.place) ∷ []
 
-  -- whether an endpoint was lent, and is neither cut off nor in its declared state
+  -- whether a lent endpoint is neither cut off nor in its declared state
   abbrev pub is_not_back : List Leaf → ℕ → Bool
   is_not_back row v = is_lent m v && option_map_or (λ ty. is_wrong ty (leaf_at row v)) (type_of m v) false
 
-  -- the checks of endpoints that were lent, in order: each is cut off, or back in its state
+  -- the checks of lent endpoints, in order: each is cut off, or back in its declared state
   abbrev pub back_checks : List Leaf → Place → List Check
   back_checks row place = map (λ v. refuse_if (is_not_back row v) (not_back (name_of m v) place)) (range_with_len 0 (length m.variables))
 
-  -- An exchange with a field of this type. What the field held is in the state that the field asks.
+  -- An exchange with a field of this type. What was in the field is in the state that the field asks for.
   abbrev pub after_exchange : List Leaf → stated.Exchange.Exchange → ℕ → Option HeapType → Step Pair FindingModel
   after_exchange row e next ty =
       after_checks (require_another m e.holder e.given ∷ require_owned m row e.holder
       ∷ option_map_or (λ ty. field_checks m row ty (payload e.given)) ty [])
       ((next, set row e.given.variable.0 (option_map_or declared_leaf ty Nothing)) ∷ [])
 
-  -- a line for each instruction
+  -- for each instruction its checks in order, and the row after it
   abbrev pub instruction_outcome : Instruction → List Leaf → Step Pair FindingModel
   instruction_outcome (Act (Use v) next) row = after_checks (require_owned m row v ∷ []) ((next, row) ∷ [])
   instruction_outcome (Act (Exchange e) next) row = after_exchange row e next (field_of p m e.holder.variable.0 e.field)

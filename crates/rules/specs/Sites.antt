@@ -1,4 +1,4 @@
--- For proofs within the crate: where a step is taken, and what checks and rules answer there, in words of the rule table.
+-- For proofs within the crate: where a step is taken, and the results of checks and rules there, in terms of the rule table.
 use Rattle.std.specs.Prelude.{◌≡◌, List, Result}
 use Rattle.source.specs.Findings.{FindingModel}
 use Rattle.program.specs.Methods.{MethodModel, method_model}
@@ -28,19 +28,19 @@ method_of here = method_model here.site.method.now
 abbrev pub row_of : Here → List Leaf
 row_of here = row_model here.row.now
 
--- what a breach says there
+-- the finding of a breach there
 abbrev pub says : Site → Breach → FindingModel
 says site = breach_model (model_of site.program.now) (method_model site.method.now)
 
--- the answer is that of a check
+-- the result is that of the check
 abbrev pub AnswersCheck : Here → Result (Unit {0}) Breach → Check → Type 0
 AnswersCheck here answer check = check_model (says here.site) answer ≡ check
 
--- the answer is that of these checks in order, whatever checks come behind them
+-- the result is that of these checks in order, whatever checks follow
 abbrev pub AnswersChecks : Here → Result (Unit {0}) Breach → List Check → Type 0
 AnswersChecks here answer checks = StandsFor (says here.site) answer checks
 
--- where a rule goes on, and the row that it leaves, are those of the line of an instruction for the row before
+-- where a rule continues, and the row that it leaves, are those that the rule table has for the instruction and the row before
 abbrev pub Follows : Site → Instruction → (old new : Row) → Result Onward Breach → Type 0
 Follows site instruction old new answer =
     onward_model (says site) (onward_of answer) (row_model new)

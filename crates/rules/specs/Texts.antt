@@ -1,64 +1,64 @@
--- What is said where a check of the rule table fails.
+-- The finding for each check of the rule table.
 use Rattle.std.specs.Prelude.{ℕ, List, ◌++◌, codes}
 use Rattle.std.specs.Str.Lossy.{utf8_lossy}
 use Rattle.source.specs.Findings.{FindingModel}
 use Rattle.source.specs.declared.place.Place.{Place}
 use Rattle.source.specs.declared.finding.Code.TheVariants.{A01, A02, A03, A04, A05, A06, A07, A08, A09, A10, A11, A12, A13, A15}
 
--- it has nothing
+-- A01: a variable is used that has nothing
 abbrev pub not_owned : List ℕ → Place → FindingModel
 not_owned name place = record { place = place; code = A01; text = utf8_lossy name ++ codes " not owned" }
 
--- it takes something while it still has something
+-- A07: a variable is assigned that still has something
 abbrev pub overwritten : List ℕ → Place → FindingModel
 overwritten name place = record { place = place; code = A07; text = utf8_lossy name ++ codes " overwritten" }
 
--- it has something where it goes out of scope
+-- A08: a variable goes out of scope that still has something
 abbrev pub still_owned : List ℕ → Place → FindingModel
 still_owned name place = record { place = place; code = A08; text = utf8_lossy name ++ codes " still owned" }
 
--- it is lent, and is given away or assigned
+-- A10: a lent variable is given away or assigned
 abbrev pub lent : List ℕ → Place → FindingModel
 lent name place = record { place = place; code = A10; text = utf8_lossy name ++ codes " is lent" }
 
--- it is given away twice at once, or to itself
+-- A11: a variable is given away twice at once, or to itself
 abbrev pub twice : List ℕ → Place → FindingModel
 twice name place = record { place = place; code = A11; text = utf8_lossy name ++ codes " twice" }
 
--- the end of a method that ought to have given something
+-- A13: a method ends without the result that it is to return
 abbrev pub no_result : Place → FindingModel
 no_result place = record { place = place; code = A13; text = codes "no result" }
 
--- no edge of its state sends the message
+-- A02: no edge from the state of the endpoint sends the message
 abbrev pub not_sent : List ℕ → Place → FindingModel
 not_sent message place = record { place = place; code = A02; text = utf8_lossy message ++ codes " not sent here" }
 
--- it is given with a message, and is not in the state that the message asks
+-- A03: an endpoint goes into a message that asks for another state
 abbrev pub wrong_for : List ℕ → List ℕ → Place → FindingModel
 wrong_for name message place =
     record { place = place; code = A03; text = utf8_lossy name ++ (codes " in a wrong state for " ++ utf8_lossy message) }
 
--- likewise with a call
+-- A04: an endpoint is given to a call that asks for another state
 abbrev pub wrong_for_call : List ℕ → Place → FindingModel
 wrong_for_call name place = record { place = place; code = A04; text = utf8_lossy name ++ codes " in a wrong state for the call" }
 
--- likewise for a field
+-- A15: an endpoint goes into a field that asks for another state
 abbrev pub wrong_for_field : List ℕ → Place → FindingModel
 wrong_for_field name place = record { place = place; code = A15; text = utf8_lossy name ++ codes " in a wrong state for the field" }
 
--- no case for a message that may come
+-- A05: no case for a message that may arrive
 abbrev pub not_covered : List ℕ → List ℕ → Place → FindingModel
 not_covered name message place =
     record { place = place; code = A05; text = utf8_lossy name ++ (codes "." ++ (utf8_lossy message ++ codes " not covered")) }
 
--- all endpoints are to send
+-- A06: every endpoint of a switch is in a state in which it sends
 abbrev pub nothing_to_receive : Place → FindingModel
 nothing_to_receive place = record { place = place; code = A06; text = codes "nothing to receive" }
 
--- it was lent, and is not in the state in which it was lent
+-- A09: a lent endpoint is not back in the state in which it was lent
 abbrev pub not_back : List ℕ → Place → FindingModel
 not_back name place = record { place = place; code = A09; text = utf8_lossy name ++ codes " not back in its state" }
 
--- it is given back, and is not in the state of the result
+-- A12: an endpoint is returned in another state than that of the result
 abbrev pub wrong_for_result : List ℕ → Place → FindingModel
 wrong_for_result name place = record { place = place; code = A12; text = utf8_lossy name ++ codes " in a wrong state for the result" }

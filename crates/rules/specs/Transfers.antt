@@ -1,4 +1,4 @@
--- Transfers: what an instruction does to a row, where that depends on nothing but the leaves of a variable or two.
+-- Transfers: what an instruction does to a row, if that depends only on the leaves of one or two variables.
 use Rattle.std.specs.Prelude.{ℕ, ◌==◌, Bool, true, not, ◌&&◌, List, [], Option, Some, None, option_map, set, if◌then◌else◌}
 use Rattle.program.specs.Methods.{MethodModel}
 use Rattle.program.specs.declared.statement.Action.{Action}
@@ -12,21 +12,21 @@ use Rattle.rows.specs.declared.row.Leaf.TheVariants.{Nothing, Block}
 use Rattle.rules.specs.declared.transfer.Transfer.{Transfer}
 use Rattle.rules.specs.declared.transfer.Transfer.TheVariants.{Use, New, Move, Delete}
 
--- whether a row passes the checks that ask it
+-- whether a row passes the checks that depend on it
 abbrev pub allows : Transfer → List Leaf → Bool
 allows (Use v) row = is_owned row v.0
 allows (New v) row = not (is_owned row v.0)
 allows (Move target source) row = is_owned row source.0 && not (is_owned row target.0)
 allows (Delete v) row = is_owned row v.0
 
--- the row behind it
+-- the row after the transfer
 abbrev pub row_after_transfer : Transfer → List Leaf → List Leaf
 row_after_transfer (Use v) row = row
 row_after_transfer (New v) row = set row v.0 Block
 row_after_transfer (Move target source) row = set (set row target.0 (leaf_at row source.0)) source.0 Nothing
 row_after_transfer (Delete v) row = set row v.0 Nothing
 
--- whether the checks pass that ask no row: nothing is given to itself, and nothing that is lent is taken or given
+-- whether the checks pass that do not depend on a row: nothing is given to itself, and nothing that is lent is taken or given
 abbrev pub fits : MethodModel → Transfer → Bool
 fits m (Use v) = true
 fits m (New v) = not (is_lent m v.0)
@@ -40,18 +40,18 @@ transfer_of (does.Move target source) = Some (Move target.variable source.variab
 transfer_of (does.Delete at) = Some (Delete at.variable)
 transfer_of _ = None
 
--- the transfer of an instruction and the point behind it, if it has one
+-- the transfer of an instruction and the point after it, if it has one
 abbrev pub transfer_in : Instruction → Option (Transfer × ℕ)
 transfer_in (graphs.Act action next) = option_map (λ t. (t, next)) (transfer_of action)
 transfer_in (graphs.New at [] next) = Some (New at.variable, next)
 transfer_in _ = None
 
--- that transfer, where it fits
+-- that transfer, if it fits
 abbrev pub fitting_transfer : MethodModel → Option (Transfer × ℕ) → Option (Transfer × ℕ)
 fitting_transfer m None = None
 fitting_transfer m (Some t) = if fits m t.0 then Some t else None
 
--- the transfer that fits, if an instruction is there and has one
+-- the transfer of an instruction, if there is an instruction and its transfer fits
 abbrev pub transfer_at : MethodModel → Option Instruction → Option (Transfer × ℕ)
 transfer_at m None = None
 transfer_at m (Some instruction) = fitting_transfer m (transfer_in instruction)

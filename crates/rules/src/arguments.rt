@@ -1,4 +1,4 @@
-//! The checks of calls and starts, and what their arguments leave behind.
+//! The checks of calls and starts, and the row after their arguments.
 
 ghost use Rattle.std.specs.Prelude.{◌≡◌, ◌&&◌, [], ◌∷◌, IfSome};
 ghost use Rattle.rules.specs.Arguments.{all_arguments, argument_checks, after_claims, given_leaf, target_checks};
@@ -18,7 +18,7 @@ use crate::here::Here;
 use program::{Argument, HeapType, Mention};
 use rows::{Leaf, Row};
 
-/// That what is claimed of an argument is not lent.
+/// Checks that an argument is not lent if it is claimed.
 fn require_claimable(here: &Here<'_>, argument: Argument) -> Result<(), Breach>
     ensures { AnswersCheck here.now result (refuse_if
         (argument.claimed && is_lent (method_of here.now) argument.mention.variable.0)
@@ -30,7 +30,7 @@ fn require_claimable(here: &Here<'_>, argument: Argument) -> Result<(), Breach>
     require_not_lent(here, argument.mention)
 }
 
-/// That what is given for a parameter of this type is in its state.
+/// Checks that what is given for a parameter of this type is in its state.
 fn require_state(here: &Here<'_>, ty: HeapType, mention: Mention) -> Result<(), Breach>
     ensures { AnswersCheck here.now result (refuse_if
         (is_wrong ty (leaf_at (row_of here.now) mention.variable.0))
@@ -42,7 +42,7 @@ fn require_state(here: &Here<'_>, ty: HeapType, mention: Mention) -> Result<(), 
     Err(Breach::at(mention.place, Reason::WrongForCall(mention.variable)))
 }
 
-/// That what an argument gives is there, not lent where it is claimed, and in the state that the parameter asks.
+/// Checks that an argument has something, is not lent if it is claimed, and is in the state that the parameter asks for.
 fn require_argument(here: &Here<'_>, ty: HeapType, argument: Argument) -> Result<(), Breach>
     ensures { AnswersChecks here.now result
         (argument_checks (method_of here.now) (row_of here.now) ty argument) }
@@ -52,7 +52,7 @@ fn require_argument(here: &Here<'_>, ty: HeapType, argument: Argument) -> Result
     require_state(here, ty, argument.mention)
 }
 
-/// The checks of arguments, for parameters of these types, where it is known which argument is the first to give a variable again.
+/// Checks the arguments for parameters of these types. `again` is the first argument that gives a variable again, if one does.
 pub(crate) fn require_arguments(
     here: &Here<'_>,
     again: Option<Mention>,
@@ -70,7 +70,7 @@ pub(crate) fn require_arguments(
     Ok(())
 }
 
-/// That what takes a block, if something does, is not lent and has nothing.
+/// Checks that the variable that takes a block, if there is one, is not lent and has nothing.
 pub(crate) fn require_target(here: &Here<'_>, target: Option<Mention>) -> Result<(), Breach>
     ensures { AnswersChecks here.now result
         (target_checks (method_of here.now) (row_of here.now) target) }
@@ -82,7 +82,7 @@ pub(crate) fn require_target(here: &Here<'_>, target: Option<Mention>) -> Result
     require_empty(here, target)
 }
 
-/// Takes away what is claimed of an argument.
+/// Takes an argument away from its variable if it is claimed.
 fn claim(row: &mut Row, argument: Argument)
     ensures { row_model row.new ≡ after_claims (row_model row.old) (argument ∷ []) }
 {
@@ -91,7 +91,7 @@ fn claim(row: &mut Row, argument: Argument)
     }
 }
 
-/// Takes away what is claimed of arguments.
+/// Takes all claimed arguments away from their variables.
 pub(crate) fn claim_all(row: &mut Row, arguments: &[Argument])
     ensures { row_model row.new ≡ after_claims (row_model row.old) arguments.now }
 {
@@ -100,7 +100,7 @@ pub(crate) fn claim_all(row: &mut Row, arguments: &[Argument])
     }
 }
 
-/// Gives what a method gives to the variable that takes it, if one does.
+/// Gives the result of a method to the variable that takes it, if there is one.
 pub(crate) fn give(row: &mut Row, ty: Option<HeapType>, target: Option<Mention>)
     requires numbered { IfSome ty (λ ty. IsNumbered (declared_leaf ty)) }
     ensures { row_model row.new ≡ given_leaf (row_model row.old) ty target }

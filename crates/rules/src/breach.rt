@@ -1,4 +1,4 @@
-//! What a check of the rule table found, in numbers.
+//! Breaches: what the checks of the rule table find, in numbers.
 
 ghost use Rattle.std.specs.Prelude.{◌≡◌};
 ghost use Rattle.std.specs.Cmp.{partial_order_from_own_ties};
@@ -11,8 +11,8 @@ use program::{MessageId, VarId};
 use source::Place;
 use std::cmp::Ordering;
 
-/// What a check of the rule table found, in numbers: a place, and which check failed of what. `Program::finding` makes the finding of it.
-/// Breaches are ordered by place.
+/// What a check of the rule table found, in numbers: a place, and which check failed for what. `Program::finding` turns it into a
+/// finding. Breaches are ordered by place.
 #[derive(Clone, Copy, Debug, PartialEq, Eq, PartialOrd, Ord)]
 pub struct Breach {
     pub place: Place,
@@ -20,7 +20,7 @@ pub struct Breach {
 }
 
 impl Breach {
-    /// The breach of this reason at this place.
+    /// Returns the breach with this reason at this place.
     pub(crate) fn at(place: Place, reason: Reason) -> Breach
         ensures { result ≡ record { place = place; reason = reason } }
     {
@@ -28,7 +28,7 @@ impl Breach {
     }
 }
 
-/// Which check failed, and of what. Variables and messages are those of the method and its program.
+/// Which check failed, and for what. Variables and messages are those of the method and its program.
 #[derive(Clone, Copy, Debug)]
 pub enum Reason {
     /// The variable has nothing.
@@ -38,24 +38,24 @@ pub enum Reason {
         endpoint: VarId,
         message: MessageId,
     },
-    /// A payload of the message is not in the state that the message asks.
+    /// A payload of the message is not in the state that the message asks for.
     WrongFor {
         variable: VarId,
         endpoint: VarId,
         message: MessageId,
     },
-    /// An argument is not in the state that the parameter asks.
+    /// An argument is not in the state that the parameter asks for.
     WrongForCall(VarId),
     /// The endpoint may receive the message, and no case waits for it.
     NotCovered {
         endpoint: VarId,
         message: MessageId,
     },
-    /// All endpoints of a switch are to send.
+    /// All endpoints of a switch are in a state in which they send.
     NothingToReceive,
     /// The variable takes something while it still has something.
     Overwritten(VarId),
-    /// The variable still has something where it goes out of scope.
+    /// The variable still has something when it goes out of scope.
     StillOwned(VarId),
     /// A lent endpoint is not in the state in which it was lent.
     NotBack(VarId),
@@ -67,14 +67,14 @@ pub enum Reason {
     WrongForResult(VarId),
     /// The method ends without the result that it declares.
     NoResult,
-    /// What is given for a field is not in the state that the field asks.
+    /// What is given for a field is not in the state that the field asks for.
     WrongForField(VarId),
 }
 
 impl Reason {
     ghost use Rattle.rules.specs.Reasons.{numbers};
 
-    /// The number of the check, the variable, the endpoint and the message: 0 for what the reason does not name.
+    /// Returns the numbers of the check, the variable, the endpoint and the message, with 0 for what the reason does not name.
     fn numbers(self) -> [usize; 4]
         ensures { result ≡ numbers self }
     {

@@ -1,4 +1,4 @@
-//! The checks of a variable where it is named: each answers what is wrong where it fails, and a rule passes that on.
+//! The checks of a variable that is mentioned. A check that fails returns a breach, and a rule passes that on.
 
 ghost use Rattle.std.specs.Prelude.{◌≡◌};
 ghost use Rattle.program.specs.Methods.{method_model};
@@ -10,7 +10,7 @@ use crate::breach::{Breach, Reason};
 use crate::here::Here;
 use program::{Mention, Method, Role, VarId};
 
-/// The name of a variable: none, where there is no such variable.
+/// Returns the name of a variable; empty if there is no such variable.
 pub(crate) fn name_of(method: &Method, variable: VarId) -> &[u8]
     ensures { result.now ≡ table.name_of (method_model method.now) variable.0 }
 {
@@ -20,7 +20,7 @@ pub(crate) fn name_of(method: &Method, variable: VarId) -> &[u8]
     }
 }
 
-/// Whether this is how a method came to a parameter that is lent.
+/// Returns whether this is the role of a lent parameter.
 pub(crate) fn is_lent_role(role: Role) -> bool
     ensures { result ≡ table.is_lent_role role }
 {
@@ -30,7 +30,7 @@ pub(crate) fn is_lent_role(role: Role) -> bool
     }
 }
 
-/// Whether a variable is lent: not, where there is no such variable.
+/// Returns whether a variable is lent; `false` if there is no such variable.
 pub(crate) fn lends(method: &Method, variable: VarId) -> bool
     ensures { result ≡ table.is_lent (method_model method.now) variable.0 }
 {
@@ -40,7 +40,7 @@ pub(crate) fn lends(method: &Method, variable: VarId) -> bool
     }
 }
 
-/// That the variable has something.
+/// Checks that the variable has something.
 pub(crate) fn require_owned(here: &Here<'_>, mention: Mention) -> Result<(), Breach>
     ensures { AnswersCheck here.now result
         (table.require_owned (method_of here.now) (row_of here.now) mention) }
@@ -51,7 +51,7 @@ pub(crate) fn require_owned(here: &Here<'_>, mention: Mention) -> Result<(), Bre
     Err(Breach::at(mention.place, Reason::NotOwned(mention.variable)))
 }
 
-/// That the variable has nothing.
+/// Checks that the variable has nothing.
 pub(crate) fn require_empty(here: &Here<'_>, mention: Mention) -> Result<(), Breach>
     ensures { AnswersCheck here.now result
         (table.require_empty (method_of here.now) (row_of here.now) mention) }
@@ -62,7 +62,7 @@ pub(crate) fn require_empty(here: &Here<'_>, mention: Mention) -> Result<(), Bre
     Err(Breach::at(mention.place, Reason::Overwritten(mention.variable)))
 }
 
-/// That the variable is not lent.
+/// Checks that the variable is not lent.
 pub(crate) fn require_not_lent(here: &Here<'_>, mention: Mention) -> Result<(), Breach>
     ensures { AnswersCheck here.now result (table.require_not_lent (method_of here.now) mention) }
 {
@@ -72,7 +72,7 @@ pub(crate) fn require_not_lent(here: &Here<'_>, mention: Mention) -> Result<(), 
     Err(Breach::at(mention.place, Reason::Lent(mention.variable)))
 }
 
-/// That nothing is given a second time. This is the first mention that gives something again, if one does.
+/// Checks that nothing is given twice. `again` is the first mention that gives something again, if one does.
 pub(crate) fn require_none_again(here: &Here<'_>, again: Option<Mention>) -> Result<(), Breach>
     ensures { AnswersCheck here.now result (require_none_again (method_of here.now) again) }
 {
@@ -82,7 +82,7 @@ pub(crate) fn require_none_again(here: &Here<'_>, again: Option<Mention>) -> Res
     }
 }
 
-/// That the source is another variable than the target.
+/// Checks that the source is another variable than the target.
 pub(crate) fn require_another(
     here: &Here<'_>,
     target: Mention,

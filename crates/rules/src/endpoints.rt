@@ -1,4 +1,4 @@
-//! What the rule table asks of a program.
+//! What the rule table looks up in a program.
 
 ghost use Rattle.std.specs.Prelude.{◌≡◌, ◌<◌, All, IfSome, MatchOption, option_map};
 ghost use Rattle.contracts.specs.Leaving.{end_on};
@@ -16,7 +16,7 @@ use contracts::Sound;
 use program::{ContractId, Edge, HeapType, MessageId, Method, MethodId, Side, StateId, VarId};
 use rows::Leaf;
 
-/// What is had of this type where it is given.
+/// Returns what a variable of this type has when it is given.
 pub(crate) fn declared_leaf(ty: HeapType) -> Leaf
     ensures { result ≡ declared_leaf ty }
 {
@@ -26,7 +26,7 @@ pub(crate) fn declared_leaf(ty: HeapType) -> Leaf
     }
 }
 
-/// Whether this is an endpoint neither cut off nor in the state that its type declares.
+/// Returns whether this is an endpoint that is neither cut off nor in the state that its type declares.
 pub(crate) fn is_wrong(ty: HeapType, leaf: Leaf) -> bool
     ensures { result ≡ table.is_wrong ty leaf }
 {
@@ -36,7 +36,7 @@ pub(crate) fn is_wrong(ty: HeapType, leaf: Leaf) -> bool
     }
 }
 
-/// What a variable of a method holds, if there is such a variable.
+/// Returns the type of a variable of a method, if there is such a variable.
 pub(crate) fn type_of(method: &Method, variable: VarId) -> Option<HeapType>
     ensures { result ≡ table.type_of (method_model method.now) variable.0 }
 {
@@ -49,7 +49,7 @@ pub(crate) fn type_of(method: &Method, variable: VarId) -> Option<HeapType>
 impl Program {
     ghost use Rattle.rules.specs.Programs.{model_of};
 
-    /// What a message brings for its parameters of the exchange heap.
+    /// Returns the types of a message's parameters of the exchange heap.
     pub(crate) fn payload_types(&self, message: MessageId) -> &[HeapType]
         ensures types { result.now ≡ table.payload_types (model_of self.now) message.0 }
         ensures numbered { All (λ ty. IsNumbered (declared_leaf ty)) result.now }
@@ -60,7 +60,7 @@ impl Program {
         }
     }
 
-    /// What a block of this type has in its fields that own.
+    /// Returns the types of the owning fields of a block of this type.
     fn field_types(&self, ty: HeapType) -> &[HeapType]
         ensures types { result.now ≡ field_types (model_of self.now).structs ty }
         ensures numbered { All (λ ty. IsNumbered (declared_leaf ty)) result.now }
@@ -74,7 +74,7 @@ impl Program {
         }
     }
 
-    /// What the block of a variable has in its fields that own.
+    /// Returns the types of the owning fields of the block of a variable.
     pub(crate) fn fields_of(&self, method: &Method, variable: VarId) -> &[HeapType]
         ensures types { result.now ≡ table.fields_of (model_of self.now) (method_model method.now) variable.0 }
         ensures numbered { All (λ ty. IsNumbered (declared_leaf ty)) result.now }
@@ -85,7 +85,7 @@ impl Program {
         }
     }
 
-    /// What one of these fields holds, if there is such a field.
+    /// Returns the type of one of these fields, if there is such a field.
     pub(crate) fn field_of(
         &self,
         method: &Method,
@@ -98,7 +98,7 @@ impl Program {
         self.fields_of(method, variable).get(field).copied()
     }
 
-    /// What a method takes for its parameters of the exchange heap.
+    /// Returns the types of a method's parameters of the exchange heap.
     pub(crate) fn parameter_types(&self, method: MethodId) -> &[HeapType]
         ensures { result.now ≡ table.parameter_types (model_of self.now) method.0 }
     {
@@ -108,7 +108,7 @@ impl Program {
         }
     }
 
-    /// What a method gives, where that is of the exchange heap.
+    /// Returns the type of a method's result, if it is of the exchange heap.
     pub(crate) fn result_of(&self, method: MethodId) -> Option<HeapType>
         ensures ty { result ≡ table.result_of (model_of self.now) method.0 }
         ensures numbered { IfSome result (λ ty. IsNumbered (declared_leaf ty)) }
@@ -116,7 +116,7 @@ impl Program {
         self.methods.list().get(method.0 as usize)?.result
     }
 
-    /// The state in which a channel of the contract begins.
+    /// Returns the state in which a channel of the contract begins.
     pub fn first_state(&self, contract: ContractId) -> StateId
         ensures state { result.0 ≡ table.first_state (model_of self.now) contract.0 }
         ensures numbered { result.0 < MOST_STATES }
@@ -127,7 +127,7 @@ impl Program {
         }
     }
 
-    /// Whether an endpoint of this type sends in a state.
+    /// Returns whether an endpoint of this type sends in a state.
     pub(crate) fn sends(&self, ty: Option<HeapType>, state: u32) -> bool
         ensures { result ≡ table.sends (model_of self.now) ty state }
     {
@@ -137,7 +137,7 @@ impl Program {
         }
     }
 
-    /// Where an endpoint of this type is behind a send of the message, if it sends it in that state.
+    /// Returns the state of an endpoint of this type after it sends the message, if it sends it in the given state.
     pub fn state_after_send(
         &self,
         ty: Option<HeapType>,
@@ -155,7 +155,7 @@ impl Program {
         }
     }
 
-    /// The edges along which an endpoint of this type receives in a state, in order of the contract.
+    /// Returns the edges along which an endpoint of this type receives in a state, in order of the contract.
     pub(crate) fn edges_in(&self, ty: Option<HeapType>, state: u32) -> &[Edge]
         ensures edges { result.now ≡ table.edges_in (model_of self.now) ty state }
         ensures numbered { All (λ e. e.to.0 < MOST_STATES) result.now }
@@ -166,7 +166,7 @@ impl Program {
         }
     }
 
-    /// The name of a message of the contract of an endpoint of this type.
+    /// Returns the name of a message of the contract of an endpoint of this type.
     pub(crate) fn message_name(&self, ty: Option<HeapType>, message: MessageId) -> &[u8]
         ensures { result.now ≡ table.message_name (model_of self.now) ty message.0 }
     {
@@ -176,7 +176,7 @@ impl Program {
         }
     }
 
-    /// The contract and the side of an endpoint of this type.
+    /// Returns the contract and the side of an endpoint of this type.
     fn end_of(&self, ty: Option<HeapType>) -> Option<End<'_>>
         ensures { MatchOption result (IsNoEnd (model_of self.now) ty)
             (λ end. IsEndOf (model_of self.now) ty (sound_parts end.sound.now) end.side) }
@@ -191,7 +191,7 @@ impl Program {
     }
 }
 
-/// A sound contract, and a side of it.
+/// A sound contract and one of its sides.
 #[derive(Clone, Copy)]
 struct End<'a> {
     sound: &'a Sound,

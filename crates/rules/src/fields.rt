@@ -1,4 +1,4 @@
-//! The rule table's lines of new blocks and of exchanges.
+//! The rule table's lines for new blocks and exchanges.
 
 ghost use Rattle.std.specs.Prelude.{◌≡◌, [], IfSome};
 ghost use Rattle.std.specs.Option.{option_map_or};
@@ -22,7 +22,7 @@ use crate::payloads::{Taker, claim_payloads, require_payload, require_payloads};
 use program::{Exchange, HeapType, Mention};
 use rows::{Leaf, Row};
 
-/// The variable takes a new block, and what is given for the fields of that is gone.
+/// Applies a new block: the variable takes it, and what is given for its fields is gone.
 pub(crate) fn new(
     site: &Site<'_>,
     row: &mut Row,
@@ -43,7 +43,8 @@ pub(crate) fn new(
     Ok(Onward::Changed(next))
 }
 
-/// That what is given for a field, if there is such a field, is not lent, there, and in the state that the field asks.
+/// Checks that what is given for a field is not lent, has something, and is in the state that the field asks for. Passes if there is
+/// no such field.
 fn require_field(here: &Here<'_>, field: Option<HeapType>, given: Mention) -> Result<(), Breach>
     ensures { AnswersChecks here.now result
         (option_map_or
@@ -55,7 +56,7 @@ fn require_field(here: &Here<'_>, field: Option<HeapType>, given: Mention) -> Re
     }
 }
 
-/// What comes out of a field, if there is such a field.
+/// Returns what comes out of a field; nothing if there is no such field.
 fn leaf_out_of(field: Option<HeapType>) -> Leaf
     requires numbered { IfSome field (λ ty. IsNumbered (table.declared_leaf ty)) }
     ensures leaf { result ≡ option_map_or table.declared_leaf field Nothing }
@@ -67,7 +68,7 @@ fn leaf_out_of(field: Option<HeapType>) -> Leaf
     }
 }
 
-/// What a field holds and what a variable has change places.
+/// Applies an exchange: what a field holds and what a variable has change places.
 pub(crate) fn exchange(
     site: &Site<'_>,
     row: &mut Row,

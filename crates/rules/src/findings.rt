@@ -16,9 +16,10 @@ use source::{Finding, Memory, texts};
 use std::alloc::Global;
 
 impl Program {
-    /// The finding of a breach in a method, with the names of the variables and of the message that it names.
+    /// Returns the finding of a breach in a method, with the names of the variables and of the message that it names.
     ///
-    /// `Memory` is returned if a growth was refused.
+    /// # Errors
+    /// `Memory` if out of memory.
     pub fn finding(
         &self,
         alloc: Global,
@@ -31,7 +32,7 @@ impl Program {
         self.finding_in(alloc, self.method(method), breach)
     }
 
-    /// The same, of a method.
+    /// Returns the same finding, for the method itself.
     fn finding_in(&self, alloc: Global, method: &Method, breach: Breach) -> Result<Finding, Memory>
         ensures { IfOk result (λ finding. finding_model finding ≡ breach_model (model_of self.now) (method_model method.now) breach) }
     {
@@ -73,7 +74,7 @@ impl Program {
         }
     }
 
-    /// The name of a message of the contract of an endpoint.
+    /// Returns the name of a message of the contract of an endpoint.
     fn name_along<'a>(&'a self, method: &Method, endpoint: VarId, message: MessageId) -> &'a [u8]
         ensures { result.now ≡ table.name_along (model_of self.now) (method_model method.now) endpoint message }
     {

@@ -5,7 +5,7 @@ use crate::repeats::Repeats;
 use program::Method;
 use rows::Row;
 
-/// The program, the method and the point at which a step is taken, and what the calls and starts of the method give again.
+/// The program, the method and the point at which a step is taken, and the repeated arguments of the method's calls and starts.
 #[derive(Clone, Copy)]
 pub(crate) struct Site<'a> {
     pub(crate) program: &'a Program,

@@ -1,4 +1,4 @@
-//! Laws of the rule table: they hold of every program.
+//! Laws of the rule table. They hold for every program.
 
 ghost use Rattle.std.specs.Prelude.{◌≡◌, ◌↔◌, ℕ, List, All, Some, slice_get};
 ghost use Rattle.std.specs.Thread.{IsSync};
@@ -18,7 +18,7 @@ use contracts::laws::threads_share_a_contract;
 use flow::laws::threads_share_a_graph;
 use program::laws::threads_share_methods;
 
-/// The row with which a method begins has a leaf for each of its variables, and a step leads from such a row to such rows alone.
+/// The row with which a method begins has a leaf for each of its variables, and a step from such a row leads only to such rows.
 pub fn a_leaf_for_each_variable()
     ensures entry { (p : ProgramModel) (n : ℕ) (m : MethodModel)
         → slice_get p.methods n ≡ Some m → IsRowOf m (entry_of p n).1 }
@@ -41,7 +41,7 @@ pub fn threads_share_a_program()
     threads_share_repeats();
 }
 
-/// Threads may share by reference what calls and starts give again.
+/// Threads may share the repeated arguments of calls and starts by reference.
 fn threads_share_repeats()
     ensures { IsSync repeats.the_row }
 {

@@ -1,4 +1,4 @@
-//! Rows, and the rule table: what an instruction does to a row, or what is wrong there.
+//! Rows, and the rule table: what an instruction does to a row, or which check fails.
 #![tactic(auto)]
 
 mod arguments;

@@ -1,4 +1,4 @@
-//! A program as its methods and its contracts, and the graph of each method.
+//! A program: its methods, its contracts, and the graph of each method.
 
 ghost use Rattle.std.specs.Prelude.{◌≡◌, ◌<◌, ◌≤◌, IfOk, IsSomeAnd, Some, length, map, slice_get};
 ghost use Rattle.std.proofs.Props.{props};
@@ -20,8 +20,8 @@ use program::{Contract, ContractId, HeapType, Method, MethodId, Methods, Role};
 use source::Memory;
 use std::alloc::Global;
 
-/// The methods of a text in order, which are well formed, its contracts, which are sound, and for each method its graph and what its
-/// calls and starts give again.
+/// The methods of a text in order, which are well formed, its contracts, which are sound, and for each method its graph and the repeated
+/// arguments of its calls and starts.
 #[derive(Drop)]
 pub struct Program {
     pub(crate) methods: Methods,
@@ -38,9 +38,10 @@ pub struct Program {
 impl Program {
     ghost use Rattle.rules.specs.Programs.{is_entry, model_of};
 
-    /// The program of these methods, with a sound contract for each of theirs, in order.
+    /// Makes the program of these methods, with a sound contract for each of theirs, in order.
     ///
-    /// `Memory` is answered where a growth was refused.
+    /// # Errors
+    /// `Memory` if out of memory.
     pub fn new(alloc: Global, methods: Methods, sounds: Vec<Sound>) -> Result<Program, Memory>
         requires sound { map sound_parts sounds.items ≡ map (λ c. c.parts) (contracts_model methods) }
         ensures { IfOk result (λ p. model_of p ≡ program_model methods) }
@@ -57,28 +58,28 @@ impl Program {
         })
     }
 
-    /// Its methods, in order of the text.
+    /// Returns its methods, in order of the text.
     pub fn methods(&self) -> &[Method]
         ensures { map method_model result.now ≡ (model_of self.now).methods }
     {
         self.methods.list()
     }
 
-    /// Its contracts with their names, in order of the text.
+    /// Returns its contracts with their names, in order of the text.
     pub fn contracts(&self) -> &[Contract]
         ensures { map contract_model result.now ≡ (model_of self.now).contracts }
     {
         self.methods.contracts().contracts.as_slice()
     }
 
-    /// Its contracts, in order of the text. Each meets the four conditions.
+    /// Returns its contracts, in order of the text. Each meets the four conditions.
     pub fn sounds(&self) -> &[Sound]
         ensures { map sound_parts result.now ≡ map (λ c. c.parts) (model_of self.now).contracts }
     {
         self.sounds.as_slice()
     }
 
-    /// A contract of it.
+    /// Returns one of its contracts.
     pub fn sound(&self, contract: ContractId) -> &Sound
         requires there { contract.0 < length (model_of self.now).contracts }
         ensures { IsSomeAnd (slice_get (model_of self.now).contracts contract.0) (λ c. sound_parts result.now ≡ c.parts) }
@@ -86,7 +87,7 @@ impl Program {
         &self.sounds[contract.0 as usize]
     }
 
-    /// The graph of a method.
+    /// Returns the graph of a method.
     pub fn graph(&self, method: MethodId) -> &Graph
         requires there { method.0 < length (model_of self.now).methods }
         ensures { IsSomeAnd (slice_get (model_of self.now).methods method.0) (λ m. graph_model result.now ≡ graph_of m) }
@@ -94,7 +95,7 @@ impl Program {
         &self.graphs[method.0 as usize]
     }
 
-    /// What the calls and starts of a method give again.
+    /// Returns the repeated arguments of a method's calls and starts.
     pub(crate) fn repeats(&self, method: MethodId) -> &Repeats
         requires there { method.0 < length (model_of self.now).methods }
         ensures { IsSomeAnd (slice_get (model_of self.now).methods method.0) (λ m. repeated_in result.now ≡ again_in (graph_of m)) }
@@ -102,7 +103,7 @@ impl Program {
         &self.repeats[method.0 as usize]
     }
 
-    /// Whether a run may begin with a method: whether it gives nothing and has no parameter of any kind, numbers included.
+    /// Returns whether a run may begin with a method: it returns nothing and has no parameter of any kind, numbers included.
     pub fn is_entry(&self, method: MethodId) -> bool
         requires there { method.0 < length (model_of self.now).methods }
         ensures { IsSomeAnd (slice_get (model_of self.now).methods method.0) (λ m. result ≡ is_entry m) }
@@ -111,7 +112,7 @@ impl Program {
         !method.gives && !method.takes
     }
 
-    /// A method of it.
+    /// Returns one of its methods.
     pub(crate) fn method(&self, method: MethodId) -> &Method
         requires there { method.0 < length (model_of self.now).methods }
         ensures method { slice_get (model_of self.now).methods method.0 ≡ Some (method_model result.now) }
@@ -122,7 +123,7 @@ impl Program {
     }
 }
 
-/// The graph of each of these methods.
+/// Returns the graph of each of these methods.
 fn graphs_of(alloc: Global, methods: &[Method]) -> Result<Vec<Graph>, Memory>
     ensures { IfOk result (λ graphs. map graph_model graphs.items ≡ map graph_of (map method_model methods.now)) }
 {
@@ -133,7 +134,7 @@ fn graphs_of(alloc: Global, methods: &[Method]) -> Result<Vec<Graph>, Memory>
     Ok(graphs)
 }
 
-/// Whether a method gets the variable from its caller.
+/// Returns whether a method gets a variable with this role from its caller.
 fn is_parameter(role: Role) -> bool
     ensures { result ≡ formed.is_parameter role }
 {
@@ -143,7 +144,7 @@ fn is_parameter(role: Role) -> bool
     }
 }
 
-/// What a method takes for its parameters of the exchange heap.
+/// Returns the types of a method's parameters of the exchange heap.
 fn types_of(alloc: Global, method: &Method) -> Result<Vec<HeapType>, Memory>
     ensures { IfOk result (λ types. types.items ≡ map (λ v. v.ty) (parameters (method_model method.now))) }
 {
@@ -156,7 +157,7 @@ fn types_of(alloc: Global, method: &Method) -> Result<Vec<HeapType>, Memory>
     Ok(types)
 }
 
-/// What each of these methods takes for its parameters of the exchange heap.
+/// Returns the types of the parameters of the exchange heap of each of these methods.
 fn parameters_of(alloc: Global, methods: &[Method]) -> Result<Vec<Vec<HeapType>>, Memory>
     ensures { IfOk result (λ types. type_lists types.items ≡ map (λ m. map (λ v. v.ty) (parameters m)) (map method_model methods.now)) }
 {

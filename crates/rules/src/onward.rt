@@ -1,21 +1,21 @@
-//! What a step in place comes to.
+//! The outcome of a step in place.
 
 use crate::breach::Breach;
 use rows::Row;
 
-/// What a step in place comes to. It works on the row that it is given, which is then the row of `Changed`.
+/// The outcome of a step in place. The step works on the row that it is given, which is then the row of `Changed`.
 #[derive(Drop)]
 pub enum Onward {
     /// The method ends.
     Ends,
-    /// It goes on at this point, with the row as it was.
+    /// It continues at this point, with the row as it was.
     Same(usize),
-    /// It goes on at one of these two points, with the row as it was.
+    /// It continues at one of these two points, with the row as it was.
     Both(usize, usize),
-    /// It goes on at this point, with the row as it is now.
+    /// It continues at this point, with the row as it is now.
     Changed(usize),
-    /// It goes on at one of these points, with that row there.
+    /// It continues at one of these points, each with its row.
     Ways(Vec<(usize, Row)>),
-    /// What is wrong there. The method does not go on.
+    /// A check failed. The method does not continue.
     Found(Breach),
 }

@@ -1,13 +1,13 @@
-//! What a step comes to.
+//! The outcome of a step.
 
 use crate::breach::Breach;
 use rows::Row;
 
-/// What a step comes to.
+/// The outcome of a step.
 #[derive(Drop)]
 pub enum StepOutcome {
-    /// The method goes on at one of these points, with that row there; where there is none, it ends.
+    /// The method continues at one of these points, each with its row; if there are none, it ends.
     Next(Vec<(usize, Row)>),
-    /// What is wrong there. The method does not go on.
+    /// A check failed. The method does not continue.
     Found(Breach),
 }

@@ -1,4 +1,4 @@
-//! The checks of what goes into a message or into the fields of a block, and what that leaves behind. It is little, so each is compared
+//! The checks of what goes into a message or into the fields of a block, and the row after them. Payloads are few, so each is compared
 //! with those before it.
 
 ghost use Rattle.std.specs.Prelude.{◌≡◌, ◌==◌, ◌||◌, map};
@@ -24,20 +24,20 @@ use crate::here::Here;
 use program::{HeapType, Mention, MessageId, VarId};
 use rows::{Leaf, Row};
 
-/// Where something goes for good.
+/// What takes a payload for good.
 #[derive(Clone, Copy)]
 pub(crate) enum Taker {
-    /// Into a message that is sent along an endpoint.
+    /// A message that is sent along an endpoint.
     Message {
         endpoint: Mention,
         message: MessageId,
     },
-    /// Into a field of a block.
+    /// A field of a block.
     Field,
 }
 
 impl Taker {
-    /// Whether it is this variable that cannot go there.
+    /// Returns whether this taker cannot take the variable.
     fn is_besides(self, variable: VarId) -> bool
         ensures { result ≡ is_among (besides self) variable.0 }
     {
@@ -47,7 +47,7 @@ impl Taker {
         }
     }
 
-    /// What is found where this variable goes there in a wrong state.
+    /// Returns the reason of the breach if the variable is in a wrong state for this taker.
     fn wrong_state(self, variable: VarId) -> Reason
         ensures { (p : ProgramModel) (m : MethodModel) (place : Place)
             → breach_model p m (record { place = place; reason = result })
@@ -67,14 +67,14 @@ impl Taker {
     }
 }
 
-/// Whether one of these payloads is this variable.
+/// Returns whether one of these payloads is this variable.
 fn is_among(payloads: &[Mention], variable: VarId) -> bool
     ensures { result ≡ list_any (λ x. x.variable.0 == variable.0) payloads.now }
 {
     payloads.iter().any(|x| x.variable.0 == variable.0)
 }
 
-/// Whether a variable cannot go there, or is one of these payloads.
+/// Returns whether the taker cannot take a variable, or the variable is one of these payloads.
 fn is_taken(taker: Taker, payloads: &[Mention], variable: VarId) -> bool
     ensures { result ≡ (is_among (besides taker) variable.0
         || list_any (λ x. x.variable.0 == variable.0) payloads.now) }
@@ -82,7 +82,7 @@ fn is_taken(taker: Taker, payloads: &[Mention], variable: VarId) -> bool
     taker.is_besides(variable) || is_among(payloads, variable)
 }
 
-/// The first payload whose variable cannot go there, or goes there with a payload before it.
+/// Returns the first payload whose variable the taker cannot take, or is an earlier payload too.
 fn first_again(taker: Taker, payloads: &[Mention]) -> Option<Mention>
     ensures { result ≡ first_again (besides taker) (map payload payloads.now) }
 {
@@ -94,7 +94,7 @@ fn first_again(taker: Taker, payloads: &[Mention]) -> Option<Mention>
     None
 }
 
-/// That what goes there, where this type is asked, is in its state.
+/// Checks that a payload is in the state that this type asks for.
 fn require_state(
     here: &Here<'_>,
     taker: Taker,
@@ -113,7 +113,7 @@ fn require_state(
     Err(Breach::at(mention.place, reason))
 }
 
-/// That what goes there is not lent, there, and in the state that is asked.
+/// Checks that a payload is not lent, has something, and is in the state that is asked for.
 pub(crate) fn require_payload(
     here: &Here<'_>,
     taker: Taker,
@@ -129,7 +129,7 @@ pub(crate) fn require_payload(
     require_state(here, taker, ty, mention)
 }
 
-/// The checks of all that goes there at once, where these types are asked.
+/// Checks all payloads that a taker takes at once, for these types.
 pub(crate) fn require_payloads(
     here: &Here<'_>,
     taker: Taker,
@@ -150,7 +150,7 @@ pub(crate) fn require_payloads(
     Ok(())
 }
 
-/// Takes away what goes there.
+/// Takes the payloads away from their variables.
 pub(crate) fn claim_payloads(row: &mut Row, payloads: &[Mention])
     ensures { row_model row.new ≡ after_claims (row_model row.old) (map payload payloads.now) }
 {

@@ -1,4 +1,4 @@
-//! What calls and starts give a second time. It asks no row, so it is found once, when a program is made.
+//! Repeated arguments of calls and starts. They depend on no row, so they are found once, when a program is made.
 
 ghost use Rattle.std.specs.Prelude.{◌≡◌, ◌==◌, ℕ, IfOk, None, OnOk, [], if◌then◌else◌, map};
 ghost use Rattle.flow.specs.Graphs.{graph_model, instruction_model};
@@ -10,7 +10,7 @@ use source::Memory;
 use std::alloc::Global;
 use std::collections::{BTreeMap, BTreeSet};
 
-/// The first argument whose variable an earlier one gives too.
+/// Returns the first argument whose variable an earlier one gives too.
 fn first_again(alloc: Global, arguments: &[Argument]) -> Result<Option<Mention>, Memory>
     ensures { IfOk result (λ again. again ≡ first_again [] arguments.now) }
 {
@@ -23,7 +23,7 @@ fn first_again(alloc: Global, arguments: &[Argument]) -> Result<Option<Mention>,
     Ok(None)
 }
 
-/// What a call or a start gives again first, if this is one and gives something again.
+/// Returns the first repeated argument of a call or a start, if the instruction is one and has one.
 fn given_again(alloc: Global, instruction: &Instr) -> Result<Option<Mention>, Memory>
     ensures { IfOk result (λ again. again ≡ given_again (instruction_model instruction.now)) }
 {
@@ -36,14 +36,14 @@ fn given_again(alloc: Global, instruction: &Instr) -> Result<Option<Mention>, Me
     }
 }
 
-/// What the calls and starts of a graph give again first, by point. Most give nothing again, and take no memory here.
+/// The first repeated argument of each call and start of a graph, by point. Most have none, and take no memory here.
 #[derive(Drop)]
 pub(crate) struct Repeats {
     firsts: BTreeMap<usize, Mention>,
 }
 
 impl Repeats {
-    /// Those of a graph.
+    /// Finds those of a graph.
     fn of(alloc: Global, graph: &Graph) -> Result<Repeats, Memory>
         ensures { IfOk result (λ repeats. repeated_in repeats ≡ again_in (graph_model graph.now)) }
     {
@@ -57,14 +57,14 @@ impl Repeats {
         Ok(repeats)
     }
 
-    /// What is given again first at a point, if anything is.
+    /// Returns the first repeated argument at a point, if there is one.
     pub(crate) fn at(&self, point: usize) -> Option<Mention>
         ensures { result ≡ repeated_in self.now point }
     {
         self.firsts.get(&point).copied()
     }
 
-    /// Keeps what is given again first at a point, if anything is. Nothing is kept there yet.
+    /// Keeps the first repeated argument at a point, if there is one. The point has none yet.
     fn keep(&mut self, point: usize, again: Option<Mention>) -> Result<(), Memory>
         requires { repeated_in self.old point ≡ None }
         ensures { OnOk result ((q : ℕ) → repeated_in self.new q ≡ (if point == q then again else repeated_in self.old q)) }
@@ -76,7 +76,7 @@ impl Repeats {
     }
 }
 
-/// What the calls and starts of each of these graphs give again first.
+/// Finds the repeated arguments of each of these graphs.
 pub(crate) fn repeats_of(alloc: Global, graphs: &[Graph]) -> Result<Vec<Repeats>, Memory>
     ensures { IfOk result (λ repeats. map repeated_in repeats.items ≡ map (λ g. again_in (graph_model g)) graphs.now) }
 {

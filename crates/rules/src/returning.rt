@@ -1,4 +1,4 @@
-//! The rule table's line of a return.
+//! The rule table's line for a return.
 
 ghost use Rattle.std.specs.Prelude.{◌≡◌, ◌&&◌, false};
 ghost use Rattle.std.specs.Option.{option_map_or};
@@ -24,8 +24,8 @@ use program::{Mention, Method, VarId};
 use rows::Leaf;
 use source::Place;
 
-/// The method ends. What it gives is its own and in the state of the result, of the other variables in scope those that are not lent
-/// have nothing, and each endpoint that is lent is back in its state.
+/// Applies a return. What is returned must be the method's own and in the state of the result, the other variables in scope that are
+/// not lent must have nothing, and each lent endpoint must be cut off or back in its state.
 pub(crate) fn return_(here: &Here<'_>, returning: Returning) -> Result<Onward, Breach>
     ensures { FollowsHere here.now
         (graphs.Return returning.place returning.value returning.scope) result }
@@ -41,7 +41,7 @@ pub(crate) fn return_(here: &Here<'_>, returning: Returning) -> Result<Onward, B
     Ok(Onward::Ends)
 }
 
-/// That what a method gives is in the state of its result.
+/// Checks that the returned value is in the state of the result.
 fn require_state(here: &Here<'_>, value: Mention) -> Result<(), Breach>
     ensures { AnswersCheck here.now result (refuse_if
         (option_map_or (λ ty. endpoints.is_wrong ty (leaf_at (row_of here.now) value.variable.0))
@@ -57,7 +57,7 @@ fn require_state(here: &Here<'_>, value: Mention) -> Result<(), Breach>
     Err(Breach::at(value.place, Reason::WrongForResult(value.variable)))
 }
 
-/// That what a method gives, if it is of the exchange heap, is not lent, there, and in the state of the result.
+/// Checks that the returned value, if it is of the exchange heap, is not lent, has something, and is in the state of the result.
 fn require_value(here: &Here<'_>, value: Option<Mention>) -> Result<(), Breach>
     ensures { AnswersChecks here.now result
         (value_checks (program_of here.now) (method_of here.now) (row_of here.now) value) }
@@ -70,7 +70,7 @@ fn require_value(here: &Here<'_>, value: Option<Mention>) -> Result<(), Breach>
     require_state(here, value)
 }
 
-/// Whether an endpoint was lent, and is neither cut off nor in its declared state. The variable is looked up only where it has an
+/// Returns whether an endpoint was lent and is neither cut off nor in its declared state. Looks up the variable only if it has an
 /// endpoint in some state.
 fn is_not_back(here: &Here<'_>, variable: VarId) -> bool
     ensures { result
@@ -82,7 +82,7 @@ fn is_not_back(here: &Here<'_>, variable: VarId) -> bool
     }
 }
 
-/// Whether a variable is a lent endpoint whose declared state is another than this.
+/// Returns whether a variable is a lent endpoint with another declared state than this.
 fn is_lent_elsewhere(method: &Method, variable: VarId, state: u32) -> bool
     ensures { result ≡ (mentions.is_lent (method_model method.now) variable.0
         && option_map_or (λ ty. endpoints.is_wrong ty (Leaf.State state))
@@ -94,7 +94,7 @@ fn is_lent_elsewhere(method: &Method, variable: VarId, state: u32) -> bool
     }
 }
 
-/// That each endpoint which was lent is cut off, or back in its state.
+/// Checks that each lent endpoint is cut off, or back in its state.
 fn require_back(here: &Here<'_>, place: Place) -> Result<(), Breach>
     ensures { AnswersChecks here.now result
         (back_checks (program_of here.now) (method_of here.now) (row_of here.now) place) }

@@ -1,4 +1,4 @@
-//! The check of variables that go out of scope: they have nothing, but for the one that is given.
+//! The check of variables that go out of scope: they have nothing, except the one that is given.
 
 ghost use Rattle.std.specs.Prelude.{◌≡◌, ◌<◌, ℕ, IfSome, None, false, option_map, true};
 ghost use Rattle.program.specs.Methods.{method_model};
@@ -16,7 +16,7 @@ use crate::here::Here;
 use program::{Mention, Method, VarId};
 use source::Place;
 
-/// Whether the mention is there and names this variable.
+/// Returns whether the mention names this variable; `false` if there is no mention.
 fn is_named(mention: Option<Mention>, variable: VarId) -> bool
     ensures { result ≡ table.is_named mention variable.0 }
 {
@@ -26,21 +26,21 @@ fn is_named(mention: Option<Mention>, variable: VarId) -> bool
     }
 }
 
-/// Whether a variable still has something that is not lent, but for the one that is given.
+/// Returns whether a variable still has something that is not lent, and is not the one that is given.
 fn is_kept(here: &Here<'_>, given: Option<Mention>, variable: VarId) -> bool
     ensures { result ≡ table.is_kept (method_of here.now) (row_of here.now) given variable.0 }
 {
     !is_named(given, variable) && !lends(here.site.method, variable) && here.row.owns(variable)
 }
 
-/// The variable of the exchange heap before this one in scope.
+/// Returns the variable of the exchange heap before this one in scope.
 fn outer_of(method: &Method, variable: VarId) -> Option<VarId>
     ensures { result ≡ outer_of (method_model method.now).variables variable }
 {
     method.variables.get(variable.0)?.outer
 }
 
-/// Whether the second is there and the same variable.
+/// Returns whether the other is the same variable; `false` if there is no other.
 fn is_this(variable: VarId, other: Option<VarId>) -> bool
     ensures { result ≡ is_this variable other }
 {
@@ -50,7 +50,7 @@ fn is_this(variable: VarId, other: Option<VarId>) -> bool
     }
 }
 
-/// This variable if it still has something, and else the one that was found before.
+/// Returns this variable if it still has something, else the one that was found before.
 fn kept_or(
     here: &Here<'_>,
     given: Option<Mention>,
@@ -68,8 +68,8 @@ fn kept_or(
     }
 }
 
-/// The first variable of all, whether it is in scope or not, that still has something which is not lent, but for the one that is given.
-/// It goes over the row, which is short, and looks up only the variables that have something.
+/// Returns the first of all variables, in scope or not, that still has something that is not lent, and is not the one that is given.
+/// Goes over the row, which is short, and looks up only the variables that have something.
 fn first_of_all(here: &Here<'_>, given: Option<Mention>) -> Option<VarId>
     ensures none { result ≡ None
         → (v : ℕ) → table.is_kept (method_of here.now) (row_of here.now) given v ≡ false }
@@ -84,7 +84,8 @@ fn first_of_all(here: &Here<'_>, given: Option<Mention>) -> Option<VarId>
     None
 }
 
-/// Whether the variable before this one in scope was declared before it, and not before the first one if this was declared behind that.
+/// Returns whether the variable before this one in scope was declared before it, and not before the first one if this one was declared
+/// after that. If there is none before this one in scope, this one was not declared after the first one.
 fn leads_to(method: &Method, first: VarId, variable: VarId) -> bool
     ensures { result ≡ true → LeadsTo first.0 variable.0
         (outer_of (method_model method.now).variables variable) }
@@ -95,7 +96,7 @@ fn leads_to(method: &Method, first: VarId, variable: VarId) -> bool
     }
 }
 
-/// Whether all variables up to the last one lead to the first one.
+/// Returns whether all variables up to the last one lead to the first one.
 fn all_lead_to(method: &Method, first: VarId, last: VarId) -> bool
     ensures { result ≡ true → AllLeadTo (method_model method.now).variables first.0 last.0 }
 {
@@ -110,7 +111,7 @@ fn all_lead_to(method: &Method, first: VarId, last: VarId) -> bool
     last.0 < method.variables.len()
 }
 
-/// Whether a variable stands behind the outer one, if there is one.
+/// Returns whether a variable was declared after the outer one, if there is one.
 fn is_behind(variable: VarId, outer: Option<VarId>) -> bool
     ensures { result ≡ true → IfSome outer (λ o. o.0 < variable.0) }
 {
@@ -120,8 +121,8 @@ fn is_behind(variable: VarId, outer: Option<VarId>) -> bool
     }
 }
 
-/// Whether the first one is plainly in scope where `last` is the last one, and not where `outer` is. To look at each variable up to the
-/// last takes less than half as long as to go from each to the one before it in scope, since none waits for another.
+/// Returns whether `first` is plainly among the variables in scope up to `last`, without those in scope up to `outer`. Looking at each
+/// variable up to the last takes less than half as long as going outwards from variable to variable, since no look-up waits for another.
 fn is_in_scope(method: &Method, first: VarId, outer: Option<VarId>, last: Option<VarId>) -> bool
     ensures { result ≡ true → IsPlain (method_model method.now).variables first.0 outer last }
 {
@@ -131,8 +132,8 @@ fn is_in_scope(method: &Method, first: VarId, outer: Option<VarId>, last: Option
     is_behind(first, outer) && first.0 <= last.0 && all_lead_to(method, first, last)
 }
 
-/// The first variable, in order of declaration, that still has something: of those in scope where `last` is the last one,
-/// without those in scope where `outer` is. Mostly none has, which the row alone tells, or the first of all is in scope.
+/// Returns the first variable, in order of declaration, that still has something, of those in scope up to `last` without those in scope
+/// up to `outer`. Usually none has, which the row alone shows, or the first of all is in scope.
 fn first_kept(
     here: &Here<'_>,
     given: Option<Mention>,
@@ -152,7 +153,7 @@ fn first_kept(
     first_outwards(here, given, outer, last)
 }
 
-/// The same, found on the way from the last variable outwards.
+/// Finds the same variable on the way outwards from the last one.
 fn first_outwards(
     here: &Here<'_>,
     given: Option<Mention>,
@@ -178,8 +179,8 @@ fn first_outwards(
     first
 }
 
-/// That the variables which go out of scope at this place have nothing, but for the one that is given: those in scope where
-/// `last` is the last one, without those in scope where `outer` is.
+/// Checks that the variables that go out of scope at this place have nothing, except the one that is given. They are those in scope
+/// up to `last`, without those in scope up to `outer`.
 pub(crate) fn require_given_back(
     here: &Here<'_>,
     place: Place,

@@ -1,4 +1,4 @@
-//! The rule table's line of a send.
+//! The rule table's line for a send.
 
 ghost use Rattle.std.specs.Prelude.{◌≡◌, IfSome, MatchOption, true, false};
 ghost use Rattle.flow.specs.Graphs.{instruction_model};
@@ -21,7 +21,7 @@ use flow::Sending;
 use program::{HeapType, MessageId};
 use rows::{Leaf, Row};
 
-/// A message is sent. What it takes with it is gone, and its endpoint is in the next state, or still cut off.
+/// Applies a send. The payloads are gone, and the endpoint is in the next state, or still cut off.
 pub(crate) fn send(site: &Site<'_>, row: &mut Row, sending: &Sending) -> Result<Onward, Breach>
     ensures outcome { Follows site.now (instruction_model (Instr.Send sending.now)) row.old row.new
         result }
@@ -47,7 +47,7 @@ pub(crate) fn send(site: &Site<'_>, row: &mut Row, sending: &Sending) -> Result<
     Ok(Onward::Changed(sending.next))
 }
 
-/// What an endpoint has behind a send of the message: nothing is answered where it is in a state that does not send it.
+/// Returns what an endpoint has after it sends the message. `None` if it is in a state that does not send it.
 fn sent_leaf(
     program: &Program,
     ty: Option<HeapType>,

@@ -1,4 +1,4 @@
-//! Steps: from a point and a row to what comes of them.
+//! Steps: from a point and a row to the outcome.
 
 ghost use Rattle.std.specs.Prelude.{◌≡◌, ◌<◌, ◌≤◌, ◌∷◌, [], All, IfOk, IfSome, IsSomeAnd, List, length, map, slice_get};
 ghost use Rattle.source.specs.Findings.{FindingModel};
@@ -29,7 +29,7 @@ use rows::{Leaf, Row, Spare};
 use source::Memory;
 use std::alloc::Global;
 
-/// What a variable has where its method begins.
+/// Returns what a variable has when its method begins.
 fn first_leaf(role: Role, ty: HeapType) -> Leaf
     ensures { result ≡ entry_leaf role ty }
 {
@@ -39,7 +39,7 @@ fn first_leaf(role: Role, ty: HeapType) -> Leaf
     }
 }
 
-/// What each of these variables has where the method begins.
+/// Returns what each of these variables has when the method begins.
 fn first_leaves(alloc: Global, variables: &[Variable]) -> Result<Vec<Leaf>, Memory>
     ensures { IfOk result (λ leaves. leaves.items ≡ map (λ v. entry_leaf v.role v.ty) variables.now) }
 {
@@ -50,7 +50,7 @@ fn first_leaves(alloc: Global, variables: &[Variable]) -> Result<Vec<Leaf>, Memo
     Ok(leaves)
 }
 
-/// The row with which a method of these variables begins.
+/// Returns the row with which a method of these variables begins.
 fn first_row(alloc: Global, variables: &[Variable]) -> Result<Row, Memory>
     requires few { length variables.now ≤ MOST_VARIABLES }
     requires numbered { All (λ v. IsNumbered (declared_leaf v.ty)) variables.now }
@@ -60,10 +60,11 @@ fn first_row(alloc: Global, variables: &[Variable]) -> Result<Row, Memory>
     Ok(Row::from_leaves(leaves))
 }
 
-/// Where a method begins: its first point, and the row in which each parameter has what it is declared to have, a block or an endpoint in
-/// its state, and every other variable nothing.
+/// Returns the pair with which a method begins: its first point, and the row in which each parameter has what it is declared to have, a
+/// block or an endpoint in its state, and every other variable has nothing.
 ///
-/// `Memory` is answered where a growth was refused.
+/// # Errors
+/// `Memory` if out of memory.
 pub fn entry_pair(
     alloc: Global,
     program: &Program,
@@ -76,10 +77,11 @@ pub fn entry_pair(
     Ok((program.graph(method).first, row))
 }
 
-/// What the instruction at a point of a method does to a row, by the rule table: the points at which the method goes on,
-/// each with its row, or the first check that fails, as a breach.
+/// Takes a step: applies the rule table to a row and the instruction at a point of a method. Returns the points at which the method
+/// continues, each with its row, or the first check that fails, as a breach.
 ///
-/// `Memory` is answered where a growth was refused.
+/// # Errors
+/// `Memory` if out of memory.
 pub fn step(
     alloc: Global,
     program: &Program,
@@ -97,11 +99,11 @@ pub fn step(
     apart(alloc, onward, after)
 }
 
-/// What the instruction at a point of a method does to a row, by the rule table, as `step` has it. It works on the row in place: that
-/// is the row where the answer is `Changed`, and as it was where it is `Ends`, `Same`, `Both` or `Ways`. It takes no memory, but for the
-/// rows of a switch that are not there to spare.
+/// Takes the same step as `step`, but on the row in place. The row is then the row after the step for `Changed`, and unchanged for
+/// `Ends`, `Same`, `Both` and `Ways`. Allocates nothing except rows of a switch for which there are no spare ones.
 ///
-/// `Memory` is answered where a growth was refused. The row may have any leaves then, and also where something is wrong.
+/// # Errors
+/// `Memory` if out of memory. The row may then have any leaves, as it may for `Found`.
 pub fn step_in_place(
     program: &Program,
     method: MethodId,
@@ -126,7 +128,7 @@ pub fn step_in_place(
     }
 }
 
-/// Where a method goes on from a point, whatever row comes there, if a condition stands there.
+/// Returns where a method continues from a point, with any row, if the instruction there is a condition.
 pub fn condition(program: &Program, method: MethodId, point: usize) -> Option<Branches>
     requires there { method.0 < length (model_of program.now).methods }
     ensures goes { IfSome result (λ branches. (row : List LeafModel)
@@ -140,7 +142,7 @@ pub fn condition(program: &Program, method: MethodId, point: usize) -> Option<Br
     }
 }
 
-/// Where a condition goes on, if this is one.
+/// Returns where a condition continues, if the instruction is one.
 fn branches_of(instruction: &Instr) -> Option<Branches>
     ensures { result ≡ condition_at (Some (instruction_model instruction.now)) }
 {
@@ -152,7 +154,7 @@ fn branches_of(instruction: &Instr) -> Option<Branches>
     }
 }
 
-/// An answer of a step in place as an outcome with rows of its own.
+/// Turns the outcome of a step in place into one with rows of its own.
 fn apart(alloc: Global, onward: Onward, row: Row) -> Result<StepOutcome, Memory>
     ensures { IfOk result (λ o. (says : BreachModel → FindingModel) → outcome_model says o ≡ onward_model says onward (row_model row)) }
 {
@@ -165,7 +167,7 @@ fn apart(alloc: Global, onward: Onward, row: Row) -> Result<StepOutcome, Memory>
     }
 }
 
-/// The method goes on at one point, with this row.
+/// Returns the outcome that the method continues at one point, with this row.
 fn goes(alloc: Global, point: usize, row: Row) -> Result<StepOutcome, Memory>
     ensures { IfOk result (λ o. (says : BreachModel → FindingModel) → outcome_model says o ≡ Goes ((point, row_model row) ∷ [])) }
 {
@@ -174,7 +176,7 @@ fn goes(alloc: Global, point: usize, row: Row) -> Result<StepOutcome, Memory>
     Ok(StepOutcome::Next(pairs))
 }
 
-/// The method goes on at one of two points, with this row.
+/// Returns the outcome that the method continues at one of two points, with this row.
 fn goes_both(alloc: Global, first: usize, second: usize, row: Row) -> Result<StepOutcome, Memory>
     ensures { IfOk result (λ o. (says : BreachModel → FindingModel)
         → outcome_model says o ≡ Goes ((first, row_model row) ∷ (second, row_model row) ∷ [])) }

@@ -1,4 +1,4 @@
-//! The rule table's line of a switch.
+//! The rule table's line for a switch.
 
 ghost use Rattle.std.specs.Prelude.{◌≡◌, [], ◌++◌, ◌<◌, All, IfOk, Ok, OnOk, flat_map, map};
 ghost use Rattle.std.specs.List.{list_all};
@@ -25,9 +25,11 @@ use program::{Edge, HeapType, Mention, VarId};
 use rows::{Leaf, Row, Spare};
 use source::{Memory, Place};
 
-/// A switch waits. It goes on at a case for each message that may come at one of its endpoints, and for the close of each.
+/// Applies a switch, which waits. It continues at a case for each message that may arrive at one of its endpoints, and for the close of
+/// each.
 ///
-/// `Memory` is returned if a growth for its rows was refused.
+/// # Errors
+/// `Memory` if out of memory for its rows.
 pub(crate) fn switch(
     here: &Here<'_>,
     place: Place,
@@ -43,7 +45,7 @@ pub(crate) fn switch(
     }
 }
 
-/// That each endpoint is there, that they are not all to send, and that each message which may come has a case.
+/// Checks that each endpoint has something, that they are not all to send, and that each message that may arrive has a case.
 fn require_cases(here: &Here<'_>, place: Place, cases: &Cases) -> Result<(), Breach>
     ensures { AnswersChecks here.now result
         (table.switch_checks (program_of here.now) (method_of here.now) (row_of here.now) place
@@ -56,7 +58,7 @@ fn require_cases(here: &Here<'_>, place: Place, cases: &Cases) -> Result<(), Bre
     require_all_covered(here, cases)
 }
 
-/// That each endpoint has something.
+/// Checks that each endpoint has something.
 fn require_all_owned(here: &Here<'_>, endpoints: &[Mention]) -> Result<(), Breach>
     ensures { AnswersChecks here.now result
         (map (require_owned (method_of here.now) (row_of here.now)) endpoints.now) }
@@ -67,7 +69,7 @@ fn require_all_owned(here: &Here<'_>, endpoints: &[Mention]) -> Result<(), Breac
     Ok(())
 }
 
-/// Whether an endpoint is in a state in which it sends.
+/// Returns whether an endpoint is in a state in which it sends.
 fn is_to_send(here: &Here<'_>, endpoint: Mention) -> bool
     ensures { result ≡ table.is_to_send (program_of here.now) (method_of here.now) (row_of here.now)
         endpoint }
@@ -81,7 +83,7 @@ fn is_to_send(here: &Here<'_>, endpoint: Mention) -> bool
     }
 }
 
-/// Whether all endpoints are to send.
+/// Returns whether all endpoints are in a state in which they send.
 fn are_to_send(here: &Here<'_>, endpoints: &[Mention]) -> bool
     ensures { result ≡ list_all
         (table.is_to_send (program_of here.now) (method_of here.now) (row_of here.now)) endpoints.now }
@@ -89,7 +91,7 @@ fn are_to_send(here: &Here<'_>, endpoints: &[Mention]) -> bool
     endpoints.iter().all(|endpoint| is_to_send(here, *endpoint))
 }
 
-/// The edges on which an endpoint may receive in its state, in order of the contract.
+/// Returns the edges along which an endpoint may receive in its state, in order of the contract.
 fn awaited_edges<'a>(here: &Here<'a>, endpoint: Mention) -> &'a [Edge]
     ensures edges { result.now ≡ table.awaited_edges (program_of here.now) (method_of here.now)
         (row_of here.now) endpoint }
@@ -104,7 +106,7 @@ fn awaited_edges<'a>(here: &Here<'a>, endpoint: Mention) -> &'a [Edge]
     }
 }
 
-/// That each message which may come at an endpoint has a case.
+/// Checks that each message that may arrive at an endpoint has a case.
 fn require_covered(here: &Here<'_>, cases: &Cases, endpoint: Mention) -> Result<(), Breach>
     ensures { AnswersChecks here.now result
         (table.cover_checks (program_of here.now) (method_of here.now) (row_of here.now)
@@ -122,7 +124,7 @@ fn require_covered(here: &Here<'_>, cases: &Cases, endpoint: Mention) -> Result<
     Ok(())
 }
 
-/// That each message which may come at one of the endpoints has a case.
+/// Checks that each message that may arrive at one of the endpoints has a case.
 fn require_all_covered(here: &Here<'_>, cases: &Cases) -> Result<(), Breach>
     ensures { AnswersChecks here.now result
         (flat_map (table.cover_checks (program_of here.now) (method_of here.now) (row_of here.now)
@@ -135,7 +137,7 @@ fn require_all_covered(here: &Here<'_>, cases: &Cases) -> Result<(), Breach>
     Ok(())
 }
 
-/// What the variables take that a case binds.
+/// Gives the variables that a case binds what the message brings.
 fn bind(row: &mut Row, targets: &[VarId], types: &[HeapType])
     requires numbered { All (λ ty. IsNumbered (declared_leaf ty)) types.now }
     ensures { row_model row.new ≡ bound_leaves (row_model row.old) targets.now types.now }
@@ -145,7 +147,7 @@ fn bind(row: &mut Row, targets: &[VarId], types: &[HeapType])
     }
 }
 
-/// Adds where a switch goes on with the message of an edge.
+/// Adds the pair with which a switch continues on the message of an edge.
 fn receive(
     here: &Here<'_>,
     cases: &Cases,
@@ -172,7 +174,7 @@ fn receive(
     Ok(())
 }
 
-/// Adds where a switch goes on with the close of an endpoint, which is cut off then.
+/// Adds the pair with which a switch continues on the close of an endpoint, which is then cut off.
 fn close(
     here: &Here<'_>,
     cases: &Cases,
@@ -192,7 +194,7 @@ fn close(
     Ok(())
 }
 
-/// Adds where a switch goes on with what may come at an endpoint.
+/// Adds the pairs with which a switch continues on what may arrive at an endpoint.
 fn come_at(
     here: &Here<'_>,
     cases: &Cases,
@@ -211,9 +213,10 @@ fn come_at(
     close(here, cases, endpoint.variable, spare, pairs)
 }
 
-/// Where a switch goes on, endpoint by endpoint.
+/// Returns the pairs with which a switch continues, endpoint by endpoint.
 ///
-/// `Memory` is returned if a growth was refused.
+/// # Errors
+/// `Memory` if out of memory.
 fn ways(here: &Here<'_>, cases: &Cases, spare: &mut Spare) -> Result<Vec<(usize, Row)>, Memory>
     ensures { IfOk result (λ pairs. map pair_model pairs.items
         ≡ table.switch_pairs (program_of here.now) (method_of here.now) (row_of here.now)

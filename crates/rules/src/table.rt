@@ -1,5 +1,5 @@
-//! The rule table: a function for each instruction, with its checks in order and the row after it. The first check that
-//! fails is what is found.
+//! The rule table: a function for each instruction, with its checks in order and the row after it. The first check that fails gives
+//! the breach.
 
 ghost use Rattle.std.specs.Prelude.{◌≡◌, IfOk, List, Ok, []};
 ghost use Rattle.program.specs.declared.statement.Action.TheVariants as does;
@@ -32,9 +32,10 @@ use program::{Action, Channel, Forget, Mention};
 use rows::{Leaf, Row, Spare};
 use source::{Memory, Place};
 
-/// What an instruction does to a row, in place. A switch makes its rows of what there is to spare.
+/// Applies an instruction to a row, in place. A switch makes its rows of spare ones.
 ///
-/// `Memory` is returned if a growth for the rows of a switch was refused.
+/// # Errors
+/// `Memory` if out of memory for the rows of a switch.
 pub(crate) fn apply(
     site: &Site<'_>,
     row: &mut Row,
@@ -66,7 +67,7 @@ pub(crate) fn apply(
     }
 }
 
-/// What a rule comes to, as a step answers it: a breach is an answer too.
+/// Turns the result of a rule into that of a step: a breach becomes `Onward::Found`.
 fn answer(told: Result<Onward, Breach>) -> Result<Onward, Memory>
     ensures { result ≡ Ok (onward_of told) }
 {
@@ -76,7 +77,7 @@ fn answer(told: Result<Onward, Breach>) -> Result<Onward, Memory>
     }
 }
 
-/// Something is done with what variables and fields have.
+/// Applies an action to what variables and fields have.
 fn act(site: &Site<'_>, row: &mut Row, action: Action, next: usize) -> Result<Onward, Breach>
     ensures outcome { Follows site.now (Act action next) row.old row.new result }
     ensures kept { KeepsRow (onward_of result) (row_model row.old) (row_model row.new) }
@@ -90,7 +91,7 @@ fn act(site: &Site<'_>, row: &mut Row, action: Action, next: usize) -> Result<On
     }
 }
 
-/// A read or a write of the block that a variable has. The row stays as it is.
+/// Applies a use, which reads or writes the block that a variable has. The row stays as it is.
 fn use_(here: &Here<'_>, at: Mention, next: usize) -> Result<Onward, Breach>
     ensures { FollowsHere here.now (Act (does.Use at) next) result }
 {
@@ -98,7 +99,7 @@ fn use_(here: &Here<'_>, at: Mention, next: usize) -> Result<Onward, Breach>
     Ok(Onward::Same(next))
 }
 
-/// Two variables take the two ends of a new channel, each in the first state of its contract.
+/// Applies a new channel: two variables take its two ends, each in the first state of its contract.
 fn new_channel(
     site: &Site<'_>,
     row: &mut Row,
@@ -119,7 +120,7 @@ fn new_channel(
     Ok(Onward::Changed(next))
 }
 
-/// The target takes what the source has, which then has nothing.
+/// Applies a move: the target takes what the source has, which then has nothing.
 fn move_(
     site: &Site<'_>,
     row: &mut Row,
@@ -142,7 +143,7 @@ fn move_(
     Ok(Onward::Changed(next))
 }
 
-/// Frees what a variable has.
+/// Applies a delete, which frees what a variable has.
 fn delete(site: &Site<'_>, row: &mut Row, freed: Mention, next: usize) -> Result<Onward, Breach>
     ensures outcome { Follows site.now (Act (does.Delete freed) next) row.old row.new result }
     ensures kept { KeepsRow (onward_of result) (row_model row.old) (row_model row.new) }
@@ -154,7 +155,7 @@ fn delete(site: &Site<'_>, row: &mut Row, freed: Mention, next: usize) -> Result
     Ok(Onward::Changed(next))
 }
 
-/// A call. What is claimed is gone, what is lent comes back as it was, and what takes something has it.
+/// Applies a call. Claimed arguments are gone, lent ones come back as they were, and the target has the result.
 fn call(site: &Site<'_>, row: &mut Row, calling: &Calling) -> Result<Onward, Breach>
     requires { repeated_in site.now.repeats.now site.now.point
         ≡ first_again [] calling.now.arguments.items }
@@ -173,7 +174,7 @@ fn call(site: &Site<'_>, row: &mut Row, calling: &Calling) -> Result<Onward, Bre
     Ok(Onward::Changed(calling.next))
 }
 
-/// The start of a method. What it claims is gone.
+/// Applies a start. Claimed arguments are gone.
 fn start(site: &Site<'_>, row: &mut Row, starting: &Starting) -> Result<Onward, Breach>
     requires { repeated_in site.now.repeats.now site.now.point
         ≡ first_again [] starting.now.arguments.items }
@@ -189,7 +190,7 @@ fn start(site: &Site<'_>, row: &mut Row, starting: &Starting) -> Result<Onward, 
     Ok(Onward::Changed(starting.next))
 }
 
-/// A condition. The row stays as it is, each way that it can go.
+/// Applies a condition. The row stays as it is on each way that the condition can go.
 fn branch(branches: Branches) -> Onward
     ensures outcome { (says : BreachModel → FindingModel) (row : List LeafModel)
         → onward_model says result row ≡ Goes (ways branches row) }
@@ -201,7 +202,7 @@ fn branch(branches: Branches) -> Onward
     }
 }
 
-/// Variables go out of scope; they have nothing.
+/// Applies a forget: variables go out of scope, and must have nothing.
 fn forget_(here: &Here<'_>, forget: Forget, next: usize) -> Result<Onward, Breach>
     ensures { FollowsHere here.now (graphs.Forget forget next) result }
 {
@@ -210,7 +211,7 @@ fn forget_(here: &Here<'_>, forget: Forget, next: usize) -> Result<Onward, Breac
     Ok(Onward::Same(next))
 }
 
-/// The end of a method that ought to have given something.
+/// Reports the end of a method that should have returned something.
 fn stop(place: Place) -> Onward
     ensures { (says : BreachModel → FindingModel) (row : List LeafModel)
         → onward_model says result row ≡ Fails

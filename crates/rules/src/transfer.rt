@@ -1,4 +1,4 @@
-//! Transfers: what an instruction does to a row by itself.
+//! Transfers: what an instruction by itself does to a row.
 
 ghost use Rattle.std.specs.Prelude.{◌≡◌, ◌<◌, ◌∷◌, [], IfSome, IsSomeAnd, List, Some, length, slice_get, true};
 ghost use Rattle.flow.specs.Graphs.{instruction_model};
@@ -18,22 +18,22 @@ use flow::Instr;
 use program::{Action, Method, MethodId, VarId};
 use rows::{Leaf, Row};
 
-/// What an instruction does to a row, where that depends on nothing but the leaves of a variable or two. The same transfer does the
-/// same at any point of any method, so what came of it is worth remembering.
+/// What an instruction does to a row, if that depends only on the leaves of one or two variables. The same transfer does the same at any
+/// point of any method, so its result is worth remembering.
 #[derive(Clone, Copy, PartialEq, Eq)]
 pub enum Transfer {
-    /// The block that a variable has is read or written.
+    /// Reads or writes the block that a variable has.
     Use(VarId),
-    /// A variable takes a new block.
+    /// Gives a variable a new block.
     New(VarId),
-    /// The target takes what the source has.
+    /// Gives the target what the source has.
     Move { target: VarId, source: VarId },
-    /// The block that a variable has is freed.
+    /// Frees the block that a variable has.
     Delete(VarId),
 }
 
 impl Transfer {
-    /// Whether a row passes the checks of the transfer.
+    /// Returns whether a row passes the checks of the transfer.
     pub fn allows(self, row: &Row) -> bool
         ensures { result ≡ allows self (row_model row.now) }
     {
@@ -60,7 +60,7 @@ impl Transfer {
         }
     }
 
-    /// Whether its checks pass that ask no row.
+    /// Returns whether those of its checks pass that do not depend on a row.
     fn fits(self, method: &Method) -> bool
         ensures { result ≡ table.fits (method_model method.now) self }
     {
@@ -74,7 +74,7 @@ impl Transfer {
     }
 }
 
-/// The transfer of an action, if it has one.
+/// Returns the transfer of an action, if it has one.
 fn transfer_of(action: Action) -> Option<Transfer>
     ensures { result ≡ table.transfer_of action }
 {
@@ -89,13 +89,13 @@ fn transfer_of(action: Action) -> Option<Transfer>
     }
 }
 
-/// The transfer of an instruction and the point behind it, if it has one.
+/// Returns the transfer of an instruction and the point after it, if it has one.
 fn transfer_in(instruction: &Instr) -> Option<(Transfer, usize)>
     ensures { result ≡ table.transfer_in (instruction_model instruction.now) }
 {
     match instruction {
         Instr::Act { action, next } => Some((transfer_of(*action)?, *next)),
-        // What is given for fields is checked by its state, so that is no transfer.
+        // What is given for fields is checked by its state, so a New with arguments is no transfer.
         Instr::New {
             target,
             arguments,
@@ -111,7 +111,7 @@ fn transfer_in(instruction: &Instr) -> Option<(Transfer, usize)>
     }
 }
 
-/// That transfer, where it fits.
+/// Returns that transfer, if it fits.
 fn transfer_for(method: &Method, instruction: &Instr) -> Option<(Transfer, usize)>
     ensures { result ≡ table.transfer_at (method_model method.now) (Some (instruction_model instruction.now)) }
 {
@@ -122,8 +122,8 @@ fn transfer_for(method: &Method, instruction: &Instr) -> Option<(Transfer, usize
     None
 }
 
-/// The transfer at a point of a method and the point behind it, where an instruction stands there that has one, and its checks pass
-/// that ask no row. Of a row that the transfer allows that is all that comes there.
+/// Returns the transfer at a point of a method and the point after it, if the instruction there has one and those of its checks pass that
+/// do not depend on a row. From any row that the transfer allows, the step then leads to that point alone, with the row after the transfer.
 pub fn transfer_at(program: &Program, method: MethodId, point: usize) -> Option<(Transfer, usize)>
     requires there { method.0 < length (model_of program.now).methods }
     ensures goes { IfSome result (λ t. (row : List LeafModel) → allows t.0 row ≡ true

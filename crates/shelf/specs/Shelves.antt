@@ -9,7 +9,7 @@ use Rattle.boxcar.specs.Table.{Shows}
 use Rattle.shelf.specs.declared.receipt.Receipt.{Receipt}
 use Rattle.shelf.specs.declared.shelf.Shelf.{Shelf}
 
--- the receipt is of this shelf: what it reads stands there
+-- the receipt is of this shelf, which has what it reads
 abbrev pub IsOf : Receipt → Shelf → Type 0
 IsOf receipt shelf = Shows shelf.verdicts receipt.pushed
 
@@ -17,7 +17,7 @@ IsOf receipt shelf = Shows shelf.verdicts receipt.pushed
 abbrev pub verdict_of : Receipt → Verdict
 verdict_of receipt = receipt.pushed.value
 
--- the index on the shelf of that verdict
+-- the index of that verdict on the shelf
 abbrev pub index_of : Receipt → ℕ
 index_of receipt = receipt.pushed.index
 

@@ -1,4 +1,4 @@
-//! Verdicts that any thread reads, each from where it was put.
+//! Verdicts that any thread can read, each from where it was put.
 #![tactic(auto)]
 
 pub mod laws;

@@ -19,18 +19,20 @@ impl Shelf {
     ghost use Rattle.shelf.specs.Shelves.{IsOf, verdict_of};
     ghost use Rattle.shelf.specs.SoFar.{last_of, next_index, shelf_of};
 
-    /// A shelf with nothing on it.
+    /// Makes an empty shelf.
     ///
-    /// `Memory` is answered where a growth was refused.
+    /// # Errors
+    /// `Memory` if out of memory.
     pub fn new(alloc: Global) -> Result<Shelf, Memory> {
         Ok(Shelf {
             verdicts: boxcar::Vec::new(alloc)?,
         })
     }
 
-    /// Puts a verdict on the shelf, and gives the receipt that reads it. It waits where another thread is making room for both.
+    /// Puts a verdict on the shelf and returns its receipt. Waits while another thread is making room for both.
     ///
-    /// The verdict comes back where a growth was refused. Each receipt reads as before.
+    /// # Errors
+    /// Gives the verdict back if out of memory. Each receipt reads as before.
     pub fn put<R: Wait>(&self, rt: &R, verdict: Verdict) -> Result<Receipt, Verdict>
         ensures shelf { IfOk result (λ receipt. IsOf receipt self.now) }
         ensures verdict { IfOk result (λ receipt. verdict_of receipt ≡ verdict) }
@@ -40,7 +42,7 @@ impl Shelf {
         Ok(Receipt { pushed })
     }
 
-    /// The verdict that was put for a receipt of this shelf, whatever was put since. It takes no memory.
+    /// Returns the verdict that was put for a receipt of this shelf, whatever was put since. Allocates nothing.
     pub fn read<'a>(&'a self, receipt: &Receipt) -> &'a Verdict
         requires { IsOf receipt.now self.now }
         ensures { result.now ≡ verdict_of receipt.now }
@@ -48,7 +50,7 @@ impl Shelf {
         self.verdicts.value(&receipt.pushed)
     }
 
-    /// The verdicts that were put so far. It takes no memory, and any thread may go over them while others put.
+    /// Returns an iterator over the verdicts that were put so far. Allocates nothing, and any thread may use it while others put.
     pub fn so_far(&self) -> SoFar<'_>
         ensures shelf { shelf_of result ≡ self.now }
         ensures first { next_index result ≡ 0 }

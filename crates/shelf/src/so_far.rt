@@ -8,9 +8,9 @@ use crate::shelf::Shelf;
 use analyse::Verdict;
 use boxcar::Iter;
 
-/// Goes over the verdicts that were put so far, each once, in order of their indices on the shelf.
+/// An iterator over the verdicts that were put so far, each once, in order of their indices on the shelf.
 ///
-/// A verdict whose `put` had not ended when this was made may come or not.
+/// A verdict whose `put` had not returned when the iterator was made may be included or not.
 #[derive(Drop)]
 pub struct SoFar<'a> {
     pub(crate) shelf: &'a Shelf,
@@ -21,7 +21,7 @@ pub struct SoFar<'a> {
 impl<'a> SoFar<'a> {
     ghost use Rattle.shelf.specs.SoFar.{last_of};
 
-    /// The receipt of the verdict that came last. There is none before the first came.
+    /// Returns the receipt of the latest verdict. `None` before the first one.
     pub fn receipt(&self) -> Option<&Receipt>
         ensures { option_map (λ receipt. receipt.now) result ≡ last_of self.now }
     {
@@ -39,7 +39,7 @@ impl<'a> Iterator for SoFar<'a> {
 
     ghost remaining = { λ so_far. at_most (indices_left so_far) };
 
-    /// A verdict that was put, from an index behind all those that were passed. There is none once no index is left.
+    /// Returns a verdict that was put, at an index after all those that were passed. `None` once no index is left.
     fn next(&mut self) -> Option<&'a Verdict> {
         while let Some((index, _)) = self.rest.next() {
             if let Some(pushed) = self.shelf.verdicts.witness(index) {

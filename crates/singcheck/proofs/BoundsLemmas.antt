@@ -13,7 +13,7 @@ use Rattle.singcheck.specs.Lines.{ok_line}
 use Rattle.singcheck.specs.Stages.{AddsLine, IsClean}
 use Rattle.singcheck.specs.declared.stages.Clean.{Clean}
 
--- the name of the one, and the parts of the other
+-- a contract with the name of the first and the parts of the second
 abbrev pub paired_with : Contract → Sound → ContractModel
 paired_with c s = record { name = string_bytes c.name; parts = sound_parts s }
 
@@ -22,7 +22,7 @@ paired [] ss = []
 paired (c ∷ cs) [] = []
 paired (c ∷ cs) (s ∷ ss) = paired_with c s ∷ paired cs ss
 
--- the first lines have been added
+-- the bytes are the lines of these contracts
 pub record AddsLines (contracts : List ContractModel) (answer : List ℕ) : Type 0 where
   pub lines : List (List ℕ)
   pub each : AllZip IsBoundsLine contracts lines
@@ -58,7 +58,7 @@ paired_is (c ∷ cs) (s ∷ ss) e =
     let first : paired_with c s ≡ contract_model c = ap (λ p. record { name = string_bytes c.name; parts = p }) one in
     ap (λ p. p ∷ paired cs ss) first ∙ ap (λ l. contract_model c ∷ l) (paired_is cs ss rest)
 
--- all lines have been added, and then the number of the contracts
+-- after all lines and the number of the contracts, the bytes are the report of `bounds`
 pub bounds_are : (text : List ℕ) (clean : Clean) (n : ℕ) (old new : List ℕ) → IsClean text clean → length clean.resolved.contracts.items ≤ n → AddsLines (take n (paired clean.resolved.contracts.items clean.sounds.items)) old → new ≡ old ++ ok_line (length clean.resolved.contracts.items) → IsBoundsReport text new
 bounds_are text clean n old new is end so_far e =
     let all = map contract_model clean.resolved.contracts.items in

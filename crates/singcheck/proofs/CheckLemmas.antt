@@ -23,25 +23,25 @@ use Rattle.singcheck.specs.declared.report.Report.{Report}
 use Rattle.singcheck.proofs.JudgeLemmas.{none_of}
 use Rattle.singcheck.proofs.StageLemmas.{unsound}
 
--- the report of the findings of a text
+-- the report of the findings of a text is what `check` returns for it
 pub reported_is : (text bytes : List ℕ) (status : Status) (found : List FindingModel) → AreCheckFindings text found → IsReport found bytes → status ≡ Found → Checks text bytes status
 reported_is text bytes status found are told is = subst (Checks text bytes) (sym is) (record { found = found; are = are; told = told })
 
--- the same of what a call answers
+-- the same for the result of a call
 pub reported_ok : (text : List ℕ) (found : List FindingModel) → AreCheckFindings text found → (result : Result Report Memory) → IfOk result (λ r. IsReport found r.bytes.items) → IfOk result (λ r. r.status ≡ Found)
     → IfOk result (λ r. Checks text r.bytes.items r.status)
 reported_ok text found are (Ok r) told is = reported_is text r.bytes.items r.status found are told is
 reported_ok text found are (Err fault) told is = tt
 
--- what is wrong with the contracts of a text
+-- the findings of the contracts of a program whose names are clean
 pub unsound_named : (text : List ℕ) (items : List ItemTree) (p : ProgramModel) (found : List FindingModel) → HasCleanNames text items p → AreBroken p.contracts found → AreFindings text found
 unsound_named text items p found names broken = unsound text p.contracts found (record { items = items; parsed = names.parsed; clean = names.clean; are = ap (λ (q : ProgramModel). q.contracts) names.is }) broken
 
--- what is wrong with the contracts of a text
+-- the findings of the contracts of a text
 pub broken_findings : (text : List ℕ) (contracts : List ContractModel) (found : List FindingModel) → AreBrokenOf text contracts found → AreFindings text found
 broken_findings text contracts found are = unsound text contracts found are.resolved are.broken
 
--- where they are sound, this is the program of the text
+-- if its contracts are sound, this is the program of the text
 abbrev pub has_program : (text : List ℕ) (items : List ItemTree) (p : ProgramModel) → HasCleanNames text items p → All (λ c. IsSound c.parts) p.contracts → HasProgram text p
 has_program text items p names sound = record {
   resolved = record { items = items; parsed = names.parsed; clean = names.clean; are = ap (λ (q : ProgramModel). q.contracts) names.is };
@@ -49,7 +49,7 @@ has_program text items p names sound = record {
   is = names.is;
 }
 
--- what is found in its methods
+-- the findings of its methods
 pub misowned : (text : List ℕ) (p : ProgramModel) (found : List Finding) → HasProgram text p → found ≢ [] → AreExactly (IsWrong p) (map finding_model found) → AreCheckFindings text (map finding_model found)
 misowned text p found has some are = OfMethods (record { program = p; has = has; some = none_mapped found some; are = are })
   where
@@ -57,7 +57,7 @@ misowned text p found has some are = OfMethods (record { program = p; has = has;
     none_mapped [] h = λ _. h refl
     none_mapped (x ∷ xs) h = λ e. absurd (cc)
 
--- the report of what is found in the methods is that of each text that comes to them
+-- the report of the findings of its methods is correct for each text with this program
 pub reported_methods : (p : ProgramModel) (found : List Finding) → found ≢ [] → AreExactly (IsWrong p) (map finding_model found) → (result : Result Report Memory) → IfOk result (λ r. IsReport (map finding_model found) r.bytes.items)
     → IfOk result (λ r. r.status ≡ Found) → IfOk result (λ r. (text : List ℕ) → HasProgram text p → Checks text r.bytes.items r.status)
 reported_methods p found some are (Ok r) told is = λ text has. reported_is text r.bytes.items r.status (map finding_model found) (misowned text p found has some are) told is
@@ -72,13 +72,13 @@ clear_is text bytes p found has none are is = record {
   are = is;
 }
 
--- what `clear` answers for such a program
+-- the result of `clear` is correct for each text with this program
 pub clear_ok : (p : ProgramModel) (found : List Finding) → found ≡ [] → AreExactly (IsWrong p) (map finding_model found) → (result : Result Report Memory) → IfOk result (λ r. r.bytes.items ≡ clear_line (length p.contracts) (length p.methods)) → IfOk result (λ r. r.status ≡ Empty)
     → IfOk result (λ r. (text : List ℕ) → HasProgram text p → Checks text r.bytes.items r.status)
 clear_ok p found none are (Ok r) bytes is = λ text has. subst (Checks text r.bytes.items) (sym is) (clear_is text r.bytes.items p found has none are bytes)
 clear_ok p found none are (Err fault) bytes is = tt
 
--- what a text comes to, from what its names and its contracts come to
+-- the result for a text, given the result for its names and its contracts
 pub built_of : (text : List ℕ) (items : List ItemTree) (p : ProgramModel) → AreNamed text items p → (b : Built) → IsBuilt p b → IsBuiltIn text b
 built_of text items p named (built.Broken methods findings) is = subst (λ l. AreBrokenOf text l (map finding_model findings.items)) (sym is.0) (record {
   resolved = record { items = items; parsed = named.names.parsed; clean = named.names.clean; are = ap (λ (q : ProgramModel). q.contracts) named.names.is };

@@ -1,4 +1,4 @@
--- Names that are compared piece by piece, and the first that is one.
+-- Names that are compared piece by piece, and the first one that matches.
 use Rattle.std.proofs.Common.{◌≡◌, ◌≢◌, ◌<◌, ◌≤◌, ◌+◌, ℕ, zero, suc, true, false, Option, Some, None, refl, List, [], ◌∷◌, ◌++◌, length, map, take, drop, get_or, ap, ap₂, sym, ◌∙◌, subst, arith, append_assoc, append-nil, length-append, take-append-drop, drop-cons}
 use Rattle.std.proofs.Math.Seq.{take-append_seam, drop-append_seam}
 use Rattle.std.proofs.lemmas.Grind.{flat_map-append}
@@ -14,7 +14,7 @@ use Rattle.tree.specs.Trees.{DefinitionTree, Contract, Struct, Class, ItemTree}
 use Rattle.singcheck.specs.Replays.{IsFirstAt, full_name, method_names, names_in}
 use Rattle.sound.proofs.Lists.{each_append}
 
--- what begins with a piece is that piece and the rest
+-- a list whose front matches a piece is that piece and the rest
 pub strip_there : (e a r : List ℕ) → pointwise nat_eq (take (length a) e) a ≡ true → r ≡ drop (length a) e → e ≡ a ++ r
 strip_there e a r h is = sym (take-append-drop (length a) e) ∙ ap₂ (λ x y. x ++ y) (same_text (take (length a) e) a (sym h)) (sym is)
 
@@ -24,13 +24,13 @@ strip_not e a r h is = other_text (take (length a) e) a (sym h) (ap (take (lengt
 pub strip_rest : (e a r x : List ℕ) → r ≡ drop (length a) e → a ++ x ≡ e → r ≡ x
 strip_rest e a r x is whole = is ∙ ap (drop (length a)) (sym whole) ∙ drop-append_seam a x
 
--- a list round the element at a place
+-- a list, split around the element at an index
 round : {A B : Type 0} (view : A → B) (xs : List A) (i : ℕ) (x : A) → i < length xs → x ≡ get_or xs i x → map view xs ≡ map view (take i xs) ++ view x ∷ map view (drop (suc i) xs)
 round view xs i x lt is = ap (map view) (sym (take-append-drop i xs) ∙ ap (λ l. take i xs ++ l) (drop-cons xs i x lt))
     ∙ map-append view (take i xs) (get_or xs i x ∷ drop (suc i) xs)
     ∙ ap (λ y. map view (take i xs) ++ view y ∷ map view (drop (suc i) xs)) (sym is)
 
--- the names round the first that is this one
+-- the names, split around the first one that is this name
 record Round (names : List (List ℕ)) (name : List ℕ) (n : ℕ) : Type 0 where
   before : List (List ℕ)
   behind : List (List ℕ)
@@ -59,7 +59,7 @@ round_of names name n f =
     let p = parts_at names n name f.0 in
     record { before = take n names; behind = drop (suc n) names; are = p.0; counted = p.1; others = f.1 }
 
--- the first of a name, where those before have others
+-- the name at an index is the first match if none before it matches
 pub first_here : {A : Type 0} (view : A → List ℕ) (xs : List A) (name : List ℕ) (i : ℕ) (x : A) → i < length xs → x ≡ get_or xs i x → view x ≡ name → length (map view (take i xs)) ≡ i → Each (λ y. y ≢ name) (map view (take i xs))
     → IsFirstAt (map view xs) name i
 first_here view xs name i x lt is same size others = first_of (map view xs) name i (record {
@@ -70,24 +70,24 @@ first_here view xs name i x lt is same size others = first_of (map view xs) name
   others = others;
 })
 
--- one name more
+-- one more name does not match
 pub others_more : {A : Type 0} (view : A → List ℕ) (xs : List A) (name : List ℕ) (i : ℕ) (x : A) → i < length xs → x ≡ get_or xs i x → view x ≢ name → Each (λ y. y ≢ name) (map view (take i xs)) → Each (λ y. y ≢ name) (map view (take (i + 1) xs))
 others_more view xs name i x lt is differ others =
     subst (Each (λ (y : List ℕ). y ≢ name)) (sym (ap (map view) (take_more xs i x lt) ∙ map-append view (take i xs) (get_or xs i x ∷ []) ∙ ap (λ y. map view (take i xs) ++ view y ∷ []) (sym is)))
     (each_append (λ (y : List ℕ). y ≢ name) (map view (take i xs)) (view x ∷ []) others (differ, tt))
 
--- one list more of those in a row
+-- one more list in a concatenation
 pub rows_more : {A B : Type 0} (row : A → List B) (xs : List A) (i : ℕ) (x : A) → i < length xs → x ≡ get_or xs i x → flat_map row (take (i + 1) xs) ≡ flat_map row (take i xs) ++ row x
 rows_more row xs i x lt is = ap (flat_map row) (take_more xs i x lt) ∙ flat_map-append row (take i xs) (get_or xs i x ∷ [])
     ∙ ap (λ l. flat_map row (take i xs) ++ l) (append-nil (row (get_or xs i x)) ∙ ap row (sym is))
 
--- all lists round the one at a place
+-- a concatenation of lists, split around the list at an index
 pub rows_round : {A B : Type 0} (row : A → List B) (xs : List A) (i : ℕ) (x : A) → i < length xs → x ≡ get_or xs i x → flat_map row xs ≡ flat_map row (take i xs) ++ (row x ++ flat_map row (drop (suc i) xs))
 rows_round row xs i x lt is = ap (flat_map row) (sym (take-append-drop i xs) ∙ ap (λ l. take i xs ++ l) (drop-cons xs i x lt))
     ∙ flat_map-append row (take i xs) (get_or xs i x ∷ drop (suc i) xs)
     ∙ ap (λ y. flat_map row (take i xs) ++ (row y ++ flat_map row (drop (suc i) xs))) (sym is)
 
--- the first of a name in one of the lists
+-- the first match within one of the lists is the first of all, if none before that list matches
 pub first_in : (names before inner rest : List (List ℕ)) (name : List ℕ) (n : ℕ) → names ≡ before ++ (inner ++ rest) → Each (λ y. y ≢ name) before → IsFirstAt inner name n → IsFirstAt names name (length before + n)
 first_in names before inner rest name n are others f =
     let r = round_of inner name n f in
@@ -99,13 +99,13 @@ first_in names before inner rest name n are others f =
       others = each_append (λ (y : List ℕ). y ≢ name) before r.before others r.others;
     })
 
--- it stands within the lists
+-- the index of the first match is within the list
 pub first_within : (names : List (List ℕ)) (name : List ℕ) (n : ℕ) → IsFirstAt names name n → n < length names
 first_within names name n f =
     let r = round_of names name n f in
     omega (arith, r.counted, ap (λ l. length l) r.are, length-append r.before (name ∷ r.behind))
 
--- no more names stand before it than there are
+-- the index of a match is less than the number of all names
 pub fits_first : {A : Type 0} (row : A → List (List ℕ)) (xs : List A) (i : ℕ) (x : A) (name : List ℕ) (n before : ℕ) → i < length xs → x ≡ get_or xs i x → before ≡ length (flat_map row (take i xs)) → IsFirstAt (row x) name n
     → before + n < length (flat_map row xs)
 fits_first row xs i x name n before lt is counted f =
@@ -117,7 +117,7 @@ fits_row row xs i x before lt is counted =
     let size = ap (λ l. length l) (rows_round row xs i x lt is) ∙ length-append (flat_map row (take i xs)) (row x ++ flat_map row (drop (suc i) xs)) in
     omega (arith, size, counted, length-append (row x) (flat_map row (drop (suc i) xs)))
 
--- a name that all others are not does not stand among them
+-- there is no first match if all names differ
 pub none_first : (names : List (List ℕ)) (name : List ℕ) (n : ℕ) → Each (λ y. y ≢ name) names → IsFirstAt names name n → ⊥
 none_first names name n others f = let r = round_of names name n f in at r.before r.behind (subst (Each (λ (y : List ℕ). y ≢ name)) r.are others)
   where
@@ -131,14 +131,14 @@ same_before [] (m ∷ b) x y name e h k = absurd (let s : m ≡ name = cc in k.0
 same_before (m ∷ a) [] x y name e h k = absurd (let s : m ≡ name = cc in h.0 s)
 same_before (m ∷ a) (n ∷ b) x y name e h k = let tails : a ++ name ∷ x ≡ b ++ name ∷ y = cc in ap suc (same_before a b x y name tails h.1 k.1)
 
--- a name stands first at one place
+-- the index of the first match is unique
 pub first_once : (names : List (List ℕ)) (name : List ℕ) (m n : ℕ) → IsFirstAt names name m → IsFirstAt names name n → m ≡ n
 first_once names name m n f g =
     let r = round_of names name m f in
     let s = round_of names name n g in
     r.counted ∙ same_before r.before s.before r.behind s.behind name (sym r.are ∙ s.are) r.others s.others ∙ sym s.counted
 
--- where the entry is looked for
+-- the result of looking for a name
 pub record IsLooked (names : List (List ℕ)) (name : List ℕ) (place : Option ℕ) : Type 0 where
   pub some : IfSome place (IsFirstAt names name)
   pub none : IfNone place (Each (λ y. y ≢ name) names)
@@ -151,7 +151,7 @@ pub looked_only : (names : List (List ℕ)) (name : List ℕ) (place : Option �
 looked_only names name None n l f = absurd (none_first names name n l.none f)
 looked_only names name (Some k) n l f = ap Some (first_once names name k n l.some f)
 
--- each method has a name
+-- each method has one name
 named_in : (p : ProgramText) (n : ℕ) (d : DefinitionTree) → length (names_in p.text d) ≡ length (map (method_told p n) (methods_in d))
 named_in p n (Contract c) = refl
 named_in p n (Struct s) = refl

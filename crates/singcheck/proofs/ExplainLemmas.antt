@@ -1,4 +1,4 @@
--- From the findings of methods, each with its trace, to what `why` answers.
+-- From the findings of methods, each with its trace, to the report of `why`.
 use Rattle.std.proofs.Common.{◌≡◌, ◌↔◌, ℕ, ◌+◌, ◌<◌, ◌≤◌, inl, inr, List, [], ◌∷◌, ◌++◌, Option, length, get_or, map, take, refl, sym, ap, subst, arith, append_assoc, append-nil, ◌∙◌}
 use Rattle.std.specs.Prelude.{◌≢◌, All, Contains, Err, IfOk, Ok, Result}
 use Rattle.std.specs.List.{flat_map}
@@ -50,7 +50,7 @@ bare_view (f ∷ fs) = ap (λ l. f ∷ l) (bare_view fs)
 bare_lines : (fs : List FindingModel) → flat_map explained_lines (map bare fs) ≡ flat_map finding_line fs
 bare_lines fs = flat_map-map explained_lines bare fs ∙ ap (λ (each : FindingModel → List ℕ). flat_map each fs) (λ i f. append-nil (finding_line f) i)
 
--- the report of what is wrong before the methods
+-- the report of findings before the methods
 pub explains_before : (named : Option Place) (text : List ℕ) (found : List FindingModel) → AreFindings text found → (result : Result Report Memory) → IfOk result (λ r. IsReport found r.bytes.items) → IfOk result (λ r. r.status ≡ Found)
     → IfOk result (λ r. Explains named text r.bytes.items r.status)
 explains_before named text found are (Ok r) told is = subst (Explains named text r.bytes.items) (sym is) (inl (record {
@@ -64,7 +64,7 @@ explains_before named text found are (Ok r) told is = subst (Explains named text
 }))
 explains_before named text found are (Err fault) told is = tt
 
--- all that the first stage with findings finds, in order
+-- all findings of the first stage with findings, in order
 pub explains_noted : (named : Option Place) (text bytes : List ℕ) (found listed : List Explained) → AreExplained named text (map explained_model found)
     → ((f : FindingModel) → Contains (map (λ e. finding_model e.finding) listed) f ↔ Contains (map (λ e. finding_model e.finding) found) f) → ((e : Explained) → Contains listed e → Contains found e) → IsStrictlySortedBy report_cmp (map (λ e. finding_model e.finding) listed)
     → bytes ≡ explained_bytes (map explained_model listed) → Explains named text bytes Found
@@ -79,7 +79,7 @@ explains_noted named text bytes found listed all same among ordered bytes_are = 
   is = bytes_are;
 })
 
--- a token that is not expected
+-- an unexpected token
 pub syntax_explained : (named : Option Place) (text : List ℕ) (e : Explained) → IsAskedUnexpected named text (explained_model e) → AreExplained named text (explained_model e ∷ [])
 syntax_explained named text e is =
     let u = is.unexpected in
@@ -112,7 +112,7 @@ names_explained named text items found parsed all each = λ some. record {
     no_view [] none = refl
     no_view (x ∷ xs) none = cc
 
--- what is wrong with contracts, with the edges that show it
+-- the findings of contracts, with the edges that show them
 pub contracts_explained : (named : Option Place) (text : List ℕ) (contracts : List ContractModel) (some : List FindingModel) (found : List Explained) → AreBrokenOf text contracts some → AreExactly (IsBroken contracts) (map (λ e. finding_model e.finding) found)
     → All (λ e. IsShownIn named contracts (explained_model e)) found → AreExplained named text (map explained_model found)
 contracts_explained named text contracts some found is are each = record {
@@ -135,7 +135,7 @@ explains_clear named p found none are (Ok r) bytes is = λ text has. subst (Expl
 })
 explains_clear named p found none are (Err fault) bytes is = tt
 
--- something is: all of it, in order, each with its trace
+-- something is found: the report has all findings in order, each with its trace
 pub explains_reasons : (named : Option Place) (text bytes : List ℕ) (p : ProgramModel) (found listed : List Explained) → HasProgram text p → found ≢ [] → AreExactly (IsWrong p) (map (λ e. finding_model e.finding) found) → All (λ e. IsExplainedIn named p (explained_model e)) found
     → ((f : FindingModel) → Contains (map (λ e. finding_model e.finding) listed) f ↔ Contains (map (λ e. finding_model e.finding) found) f) → ((e : Explained) → Contains listed e → Contains found e) → IsStrictlySortedBy report_cmp (map (λ e. finding_model e.finding) listed)
     → bytes ≡ explained_bytes (map explained_model listed) → Explains named text bytes Found
@@ -179,7 +179,7 @@ lines_end all items n old line new same over is =
     ∙ ap (λ b. (old ++ line) ++ b) (sym (flat_map-map trace_line line_model items))
     ∙ append_assoc old line (flat_map trace_line (map line_model items))
 
--- all findings, and their number
+-- the lines of all findings, and then their number
 pub report_end : (all : List Explained) (n : ℕ) (answer new : List ℕ) → length all ≤ n → answer ≡ flat_map (λ e. explained_lines (explained_model e)) (take n all) → new ≡ answer ++ count_line (length all) → new ≡ explained_bytes (map explained_model all)
 report_end all n answer new over is counted =
     counted

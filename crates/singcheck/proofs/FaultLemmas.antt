@@ -1,4 +1,4 @@
--- Why a run gives up, from what gave up in it.
+-- Why a run of `check` fails, given why one of its parts failed.
 use Rattle.std.proofs.Common.{◌≡◌, ℕ, true}
 use Rattle.devices.specs.RunFaults.{IsReadFault}
 use Rattle.devices.specs.declared.fault.Input.TheVariants.{Text, Schedule}

@@ -1,4 +1,4 @@
--- A program has no more contracts than symbols that spell it.
+-- A program has at most as many contracts as its spelling has symbols.
 use Rattle.std.proofs.Common.{◌≡◌, ℕ, ◌≤◌, List, [], ◌∷◌, ◌++◌, length, map, refl, ap, arith}
 use Rattle.std.proofs.lemmas.List.{length-append, length-map}
 use Rattle.tree.specs.Grammar.{access_word}
@@ -8,7 +8,7 @@ use Rattle.tree.specs.Trees.{ContractTree, DefinitionTree, Contract, Struct, Cla
 use Rattle.program.specs.Parts.{ContractModel}
 use Rattle.declarations.specs.Resolution.{each_behind, resolved_contracts}
 
--- a contract has a symbol of its own
+-- a definition has at least as many symbols as it declares contracts
 in_definition : (d : DefinitionTree) → length (contract_of d) ≤ length (definition d)
 in_definition (Contract c) = omega arith
 in_definition (Struct s) = omega arith
@@ -24,7 +24,7 @@ in_items (i ∷ items) =
     let spelled = length-append (item i) (program items) in
     omega (arith, here, rest, listed, front, spelled)
 
--- one is resolved for each
+-- one contract is resolved for each
 length_behind : (f : List ContractTree → ContractTree → ContractModel) (before contracts : List ContractTree) → length (each_behind (λ b c. f b c ∷ []) before contracts) ≡ length contracts
 length_behind f before [] = refl
 length_behind f before (c ∷ cs) = let rest = length_behind f (before ++ c ∷ []) cs in omega (arith, rest)

@@ -17,13 +17,13 @@ use Rattle.wellformed.specs.Bare.{IsBare}
 use Rattle.wellformed.specs.Told.{program_told}
 use Rattle.singcheck.specs.Checks.{HasProgram}
 
--- what the crates below say of programs with nothing wrong in their names
+-- laws of the crates below about programs without mistakes in their names
 pub record CleanPrograms : Type 0 where
   pub whole : (p : ProgramText) → program_mistakes p ≡ [] → All (λ (c : ContractModel). IsWhole c.parts) (resolved_contracts p.text (contracts_of p.items))
   pub formed : (p : ProgramText) → program_mistakes p ≡ [] → AreWellFormed (program_told p)
   pub bare : (p : ProgramText) → Each IsBare (methods_told p)
 
--- the items of a text whose program this is, with the text
+-- the text, and its items whose program this is
 abbrev of_items : (text : List ℕ) (p : ProgramModel) → HasProgram text p → ProgramText
 of_items text p has = record { text = text; items = has.resolved.items }
 
@@ -33,7 +33,7 @@ formed_of laws text p has = subst AreWellFormed (sym has.is) (laws.formed (of_it
 pub bare_of : CleanPrograms → (text : List ℕ) (p : ProgramModel) → HasProgram text p → Each IsBare p.methods
 bare_of laws text p has = subst (λ (q : ProgramModel). Each IsBare q.methods) (sym has.is) (laws.bare (of_items text p has))
 
--- what holds of all elements holds of the one at a place
+-- what holds of all elements holds of the one at an index
 all_there : {A : Type 0} (P : A → Type 0) (xs : List A) (n : ℕ) (x : A) → All P xs → slice_get xs n ≡ Some x → P x
 all_there P [] n x all at = absurd (cc)
 all_there P (y ∷ xs) zero x all at = let same : y ≡ x = cc in subst P same (All-head P y xs all)

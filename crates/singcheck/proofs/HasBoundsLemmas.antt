@@ -16,12 +16,12 @@ use Rattle.machine.specs.Outcomes.{QueueBounds}
 use Rattle.machine.specs.Runs.{AreBounds}
 use Rattle.singcheck.specs.Checks.{HasProgram}
 
--- what the crates below say of contracts
+-- laws of the crates below about contracts
 pub record Bounded : Type 0 where
   pub whole : (p : ProgramText) → program_mistakes p ≡ [] → All (λ (c : ContractModel). IsWhole c.parts) (resolved_contracts p.text (contracts_of p.items))
   pub bounded : (parts : Parts) → IsWhole parts → IsSound parts → (side : Side) → ((n : ℕ) → IsBound parts.edges parts.first (sign_to side) n → ⊥) → ⊥
 
--- these are the bounds of contracts, which stand in a row
+-- these are the bounds of the contracts, and 0 past their end
 record BoundsOf (contracts : List ContractModel) (bound : QueueBounds) : Type 0 where
   pub are : (n : ℕ) (c : ContractModel) (side : Side) → slice_get contracts n ≡ Some c → IsBound c.parts.edges c.parts.first (sign_to side) (bound n side)
   pub past : (n : ℕ) (side : Side) → length contracts ≤ n → bound n side ≡ 0
@@ -29,7 +29,7 @@ record BoundsOf (contracts : List ContractModel) (bound : QueueBounds) : Type 0 
 abbrev none_bounds : QueueBounds
 none_bounds n side = 0
 
--- the bounds of one contract more, in front of others
+-- the bounds of one more contract, before those of the others
 abbrev front : ℕ → ℕ → QueueBounds → QueueBounds
 front to_imp to_exp bound zero Imp = to_imp
 front to_imp to_exp bound zero Exp = to_exp

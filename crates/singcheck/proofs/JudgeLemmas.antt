@@ -1,4 +1,4 @@
--- Contracts that are judged one after another.
+-- Contracts are judged one after another.
 use Rattle.std.proofs.Common.{◌≡◌, ℕ, zero, suc, ◌+◌, ◌<◌, List, [], ◌∷◌, ◌++◌, length, map, take, Some, refl, sym, ap, ◌∙◌, subst, add-one, arith, ⊎_elim}
 use Rattle.std.specs.Prelude.{All, Contains, slice_get, ◌≢◌}
 use Rattle.std.proofs.lemmas.List.{map-append}
@@ -15,7 +15,7 @@ use Rattle.singcheck.specs.Answers.{IsBroken}
 use Rattle.singcheck.specs.Stages.{JudgesContract, Keeps, Adds, AddsAll, AreBroken, AreJudged}
 use Rattle.singcheck.specs.declared.soundness.Judging.{Judging}
 
--- the parts at a place are those of the contract there
+-- the parts at an index are those of the contract there
 pub parts_at : (contracts : List Contract) (i : ℕ) (parts : Parts) (c : ContractModel) → slice_get (map contract_parts contracts) i ≡ Some parts → slice_get (map contract_model contracts) i ≡ Some c → c.parts ≡ parts
 parts_at [] i parts c e f = absurd (cc)
 parts_at (x ∷ xs) zero parts c e f =
@@ -24,7 +24,7 @@ parts_at (x ∷ xs) zero parts c e f =
     sym (ap (λ s. s.parts) other) ∙ one
 parts_at (x ∷ xs) (suc i) parts c e f = parts_at xs i parts c e f
 
--- a sound contract's parts are those that it was made of
+-- a contract with sound parts was added to the sound ones
 pub keeps_is : (c : ContractModel) (parts : Parts) (old new : Judging) (sound : Sound) → c.parts ≡ parts → IsSound parts → sound_parts sound ≡ parts → new.sounds.items ≡ old.sounds.items ++ sound ∷ [] → new.findings.items ≡ old.findings.items → JudgesContract c old new
 keeps_is c parts old new sound same is its e f = Keeps (record {
   sound = subst IsSound (sym same) is;
@@ -32,7 +32,7 @@ keeps_is c parts old new sound same is its e f = Keeps (record {
   same = f;
 })
 
--- all that is wrong with a contract was added
+-- all findings of a contract were added
 pub adds_is : (c : ContractModel) (some parts : Parts) (old new : Judging) → c.parts ≡ some → c.parts ≡ parts → (f : FindingModel) × conditions.IsFlaw some f → AddsAll parts old.findings.items new.findings.items → JudgesContract c old new
 adds_is c some parts old new first same broken all = Adds (record {
   broken = (broken.0, subst (λ p. conditions.IsFlaw p broken.0) (sym first) broken.1);
@@ -42,7 +42,7 @@ adds_is c some parts old new first same broken all = Adds (record {
 pub none_of : (f : FindingModel) → Contains [] f → ⊥
 none_of f c = let below = c.1 in omega arith
 
--- what is wrong with some contracts, and with one more
+-- the findings of some contracts and of one more
 pub broken_more : (contracts : List ContractModel) (c : ContractModel) (old more new : List FindingModel) → AreExactly (IsBroken contracts) old → AreExactly (conditions.IsFlaw c.parts) more → new ≡ old ++ more → AreExactly (IsBroken (contracts ++ c ∷ [])) new
 broken_more contracts c old more new so_far here added = record {
   right = λ f h. ⊎_elim
@@ -55,7 +55,7 @@ broken_more contracts c old more new so_far here added = record {
       (Contains-push_cases contracts c b.0 b.1));
 }
 
--- one more contract has been judged
+-- one more contract was judged
 pub judged_more : (contracts : List ContractModel) (c : ContractModel) (old new : Judging) → AreJudged contracts old → JudgesContract c old new → AreJudged (contracts ++ c ∷ []) new
 judged_more contracts c old new so_far (Keeps k) = record {
   exactly = record {
@@ -76,7 +76,7 @@ judged_more contracts c old new so_far (Adds a) =
       kept = λ e. absurd (none_of a.broken.0 (subst (λ l. Contains (map finding_model l) a.broken.0) e (exactly.all a.broken.0 (c, Contains-push contracts c, a.broken.1))));
     }
 
--- what stands at a place, and the contracts up to it
+-- the contract at an index, and the contracts up to it
 pub at_turn : (all : List ContractModel) (n : ℕ) → n < length all → (c : ContractModel) × (slice_get all n ≡ Some c) × (take (suc n) all ≡ take n all ++ c ∷ [])
 at_turn [] n lt = absurd (omega (arith, lt))
 at_turn (x ∷ xs) zero lt = (x, refl, refl)
@@ -92,7 +92,7 @@ broken_turn all n old more new lt so_far here added =
     let r = at_turn all n lt in
     rw add-one (subst (λ l. AreExactly (IsBroken l) new) (sym r.2) (broken_more (take n all) r.0 old more new so_far (here r.0 r.1) added))
 
--- nothing is wrong with no contracts
+-- no contracts have no findings
 pub broken_none : AreExactly (IsBroken []) []
 broken_none = record { right = λ f h. absurd (none_of f h); all = λ f b. absurd (let below = b.1.1 in omega arith) }
 
@@ -100,7 +100,7 @@ pub no_items : (found : List Finding) → length found ≡ 0 → found ≡ []
 no_items [] e = refl
 no_items (x ∷ xs) e = absurd (omega (arith, e))
 
--- where something was found, that is all that is wrong
+-- if something was found, these are all findings of the contracts
 pub found_all : (contracts : List ContractModel) (judging : Judging) → AreJudged contracts judging → 0 < length judging.findings.items → AreBroken contracts (map finding_model judging.findings.items)
 found_all contracts judging judged some = record { some = none_mapped judging.findings.items some; are = judged.exactly }
   where
@@ -108,6 +108,6 @@ found_all contracts judging judged some = record { some = none_mapped judging.fi
     none_mapped [] h = λ _. absurd (omega (arith, h))
     none_mapped (x ∷ xs) h = λ e. absurd (cc)
 
--- where nothing was found, each is sound
+-- if nothing was found, each contract is sound
 pub clean_all : (contracts : List ContractModel) (judging : Judging) → AreJudged contracts judging → judging.findings.items ≡ [] → All (λ c. IsSound c.parts) contracts
 clean_all contracts judging judged none = λ k d lt f broken. none_of f (subst (λ l. Contains (map finding_model l) f) none (judged.exactly.all f (_, Contains-get_or contracts k d lt, broken)))

@@ -1,4 +1,5 @@
--- A text has the answers of as much of it as is read: one that is too long has the fault of its length and no other.
+-- What holds of the bytes that are read holds of the whole text: a text that is too long has the fault of its
+-- length and no other.
 use Rattle.std.proofs.Common.{◌≡◌, ℕ, ◌+◌, ◌<◌, ◌≤◌, inl, inr, List, Option, length, take, refl, subst, arith, ⊎_elim, length-take}
 use Rattle.std.proofs.lemmas.Bool.{cases_lt}
 use Rattle.std.proofs.lemmas.List.{take_all}
@@ -19,7 +20,7 @@ use Rattle.singcheck.specs.Checks.{AreCheckFindings, Before, OfMethods, Checks}
 use Rattle.traces.specs.Explained.{ExplainedModel}
 use Rattle.singcheck.specs.Explains.{Bare, ByContract, ByFault, ByMistake, ByTokens, Explains, IsExplainedFinding}
 
--- these texts are too long, and so is each front of them that is read
+-- both texts are too long
 pub record AreLong (text other : List ℕ) : Type 0 where
   pub one : MAX_TEXT < length text
   pub two : MAX_TEXT < length other
@@ -81,14 +82,14 @@ explains_long named text other bytes Found long told = elim told [
   | inr reasons ↦ no_program text long.one reasons.has.resolved.parsed.tokens reasons.has.resolved.parsed.lexed
 ]
 
--- what holds of the bytes that are read holds of the text, where it holds of all texts too long if of one
+-- what holds of the bytes that are read holds of the text, if it carries over from a front that is too long to the text
 pub of_front : (P : List ℕ → Type 0) (limit most : ℕ) → most ≡ limit + 1 → ((front text : List ℕ) → limit < length front → limit < length text → P front → P text) → (text : List ℕ) → P (take most text) → P text
 of_front P limit most one_more long text told = ⊎_elim
     (λ short. subst P (take_all most text (omega (arith, short))) told)
     (λ full. let size = length-take most text in long (take most text) text (omega (arith, full, one_more, size)) (omega (arith, full, one_more)) told)
     (cases_lt (length text) most)
 
--- an answer to the bytes that are read is one to the text
+-- what a run returns for the bytes that are read, it may return for the text
 pub record IsOfFront (answer : List ℕ → List ℕ → Status → Type 0) (most : ℕ) : Type 0 where
   pub whole : (text bytes : List ℕ) (status : Status) → answer (take most text) bytes status → answer text bytes status
 

@@ -1,4 +1,4 @@
--- Bytes that are added one part after another.
+-- Bytes that are appended one part after another.
 use Rattle.std.proofs.Common.{◌≡◌, ℕ, List, ◌++◌, ap, ◌∙◌}
 use Rattle.std.proofs.lemmas.List.{append_assoc}
 

@@ -15,7 +15,7 @@ use Rattle.traces.specs.Lines.{line_model}
 use Rattle.traces.specs.declared.line.Explained.{Explained}
 use Rattle.singcheck.specs.Remarked.{IsMistake, remark_lines, remark_within}
 
--- the first so many mistakes are explained
+-- this many of the first mistakes are explained
 pub record Remarked (named : Option Place) (p : ProgramText) (mistakes : List Mistake) (n : ℕ) (found : List Explained) : Type 0 where
   pub view : map (λ e. finding_model e.finding) found ≡ map (finding_in p.text) (take n mistakes)
   pub each : All (λ e. IsMistake named p (explained_model e)) found

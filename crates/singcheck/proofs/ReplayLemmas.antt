@@ -1,4 +1,4 @@
--- A replay, from what is read to what is written; and why it meets no fault where nothing is found.
+-- A replay, from what is read to what is written; and why it meets no fault if nothing is found.
 use Rattle.std.proofs.Common.{◌≡◌, ℕ, zero, suc, Bool, true, false, List, [], ◌∷◌, take, Option, Some, None, refl, subst}
 use Rattle.std.specs.Prelude.{◌&&◌, IfSome, IsSomeAnd, not, slice_get}
 use Rattle.std.specs.Io.KnownBytes.{Appends}
@@ -36,7 +36,7 @@ use Rattle.singcheck.proofs.LongLemmas.{AreLong, IsOfFront, answers_long, no_pro
 use Rattle.singcheck.proofs.SafetyLemmas.{empty_verdict}
 use Rattle.singcheck.proofs.Texts.{begins_is, writes_is}
 
--- the answer to the bytes of a text that are read is the answer to the text
+-- the result for the bytes of a text that are read is the result for the text
 replays_long : (entry lines text other bytes : List ℕ) (status : Status) → AreLong text other → Replays entry lines text bytes status
     → Replays entry lines other bytes status
 replays_long entry lines text other bytes status long (OfFindings told is) = OfFindings (answers_long text other bytes Found long told) is
@@ -121,7 +121,7 @@ line_lacks entry n None q text is lacks = tt
 line_lacks entry n (Some x) None text is lacks = tt
 line_lacks entry n (Some x) (Some l) text is lacks = line_front entry l x n (subst (λ t. LacksSchedule t entry l n) is lacks)
 
--- an entry of the text is one of the bytes that are read
+-- an entry of the text is an entry of the bytes that are read
 entry_back : {A : Type 0} (entry text : List ℕ) → (HasSomeEntry (take MAX_READ text) entry → A) → HasSomeEntry text entry → A
 entry_back {A} entry text = of_front (λ t. HasSomeEntry t entry → A) MAX_TEXT MAX_READ refl
     (λ a b y z front has. no_program b z has.2.has.resolved.parsed.tokens has.2.has.resolved.parsed.lexed) text
@@ -131,7 +131,7 @@ pub where_entry : {A : Type 0} (entry : List ℕ) (a : Option (List ℕ)) (text 
 where_entry entry None text is known = tt
 where_entry {A} entry (Some x) text is known = entry_back entry x (subst (λ t. HasSomeEntry t entry → A) is known)
 
--- what is known of the bytes of a schedule that are read is known of the schedule
+-- what holds of the bytes of a schedule that are read holds of the schedule
 pub of_read : (P : List ℕ → Type 0) (q : Option (List ℕ)) (bytes : List ℕ) → ((xs : List ℕ) → P (take MAX_SCHEDULE_READ xs) → P xs)
     → IfSome q (λ xs. bytes ≡ take MAX_SCHEDULE_READ xs) → P bytes → IfSome q P
 of_read P None bytes front is told = tt
@@ -141,18 +141,18 @@ pub some_map : (q : Option (List ℕ)) (P Q : List ℕ → Type 0) → ((xs : Li
 some_map None P Q more told = tt
 some_map (Some x) P Q more told = more x told
 
--- what holds whatever a schedule has
+-- what holds of every schedule
 pub some_always : (q : Option (List ℕ)) (P : List ℕ → Type 0) → ((xs : List ℕ) → P xs) → IfSome q P
 some_always None P all = tt
 some_always (Some x) P all = all x
 
--- a world to which events lead is one of a run
+-- a world to which events lead is that of a run
 run_of : (p : ProgramModel) (bound : QueueBounds) (n : ℕ) (events : List Event) (w : World) → RunsTo p bound (start_of p n) events w
     → Run p bound n w
 run_of p bound n events w stays = begins
 run_of p bound n events w (moves before v u e led moved) = goes_on v u e (run_of p bound n before v led) moved
 
--- a method with which a run may begin gives nothing and has no parameter
+-- a method with which a run may begin returns nothing and has no parameter
 each_there : {A : Type 0} (P : A → Type 0) (xs : List A) (n : ℕ) (x : A) → Each P xs → slice_get xs n ≡ Some x → P x
 each_there P [] n x all at = absurd (cc)
 each_there P (y ∷ xs) zero x all at = let same : y ≡ x = cc in subst P same all.0
@@ -181,7 +181,7 @@ pub entry_is : (p : ProgramModel) → AreWellFormed p → Each IsBare p.methods 
     → IsEntry p n
 entry_is p formed bare n is = entry_at p n (slice_get p.methods n) formed bare refl is
 
--- the laws of runs: those of a program in which nothing is found, and those of every program
+-- the laws of runs: for a program in which nothing is found, and for every program
 abbrev pub AreSafeAlways : Type 0
 AreSafeAlways = (p : ProgramModel) (bound : QueueBounds) → AreWellFormed p → AreSound p → AreBounds p bound
     → NothingIsFound p → (n : ℕ) (w : World) → IsEntry p n → Run p bound n w → IsSafe p bound w
@@ -200,14 +200,14 @@ pub record KnownOf (text : List ℕ) : Type 0 where
   pub safe : AreSafeAlways
   pub bounded : AreBoundedAlways
 
--- where a check finds nothing, nothing is found in the methods
+-- if `check` finds nothing, nothing is found in the methods
 none_found : (text : List ℕ) (p : ProgramModel) → KnownOf text → HasProgram text p → HasEmptyReport text → NothingIsFound p
 none_found text p known has empty =
     let none = subst (λ (q : ProgramModel). (f : FindingModel) → IsWrong q f → ⊥)
     (known.one empty.1.program p empty.1.has has) empty.1.none in
     λ n lt. empty_verdict p n (λ f w. none f (n, lt, w))
 
--- a run of a program whose entry the text has keeps the bounds, also one that begins with so many events of a replay
+-- the world after this many events of a replay keeps the bounds
 bounded_run : (entry lines text bytes : List ℕ) (status : Status) → KnownOf text → (ran : IsRan entry lines text bytes status)
     → (bound : QueueBounds) → AreBounds ran.program bound → (k : ℕ) (w : World)
     → RunsTo ran.program bound (start_of ran.program ran.n) (take k ran.events) w → IsBounded ran.program bound w
@@ -216,7 +216,7 @@ bounded_run entry lines text bytes status known ran bound are k w led =
     let has = ran.entered.has in
     known.bounded p bound (known.formed p has) (known.sound p has) are ran.n w (run_of p bound ran.n (take k ran.events) w led)
 
--- what ends a replay is what an event comes to in its last world
+-- the replay ends with the outcome of the next event in its last world
 ends_at : (entry lines text bytes : List ℕ) (status : Status) (ran : IsRan entry lines text bytes status) (fault : Fault) (at : Place)
     → ran.replayed.halt ≡ Some (halt.Fault fault at) → (bound : QueueBounds) → AreBounds ran.program bound
     → EndsWith ran.program bound ran.replayed.world ran.events ran.replayed.steps (Some (halt.Fault fault at))

@@ -1,4 +1,4 @@
--- Findings that are listed are a report's.
+-- Listed findings are those of a report.
 use Rattle.std.proofs.Common.{◌≡◌, ℕ, ◌≤◌, List, ◌++◌, length, take, map, sym, ap, ◌∙◌}
 use Rattle.std.specs.Prelude.{◌↔◌, Contains}
 use Rattle.std.specs.List.{flat_map}
@@ -17,7 +17,7 @@ written_is all n count answer new end is many e =
     let size : count ≡ length (map finding_model all) = many ∙ sym (length-map all finding_model) in
     e ∙ ap (λ l. l ++ count_line count) lines ∙ ap (λ k. flat_map finding_line (map finding_model all) ++ count_line k) size
 
--- the same findings in order, and their bytes
+-- the listed findings are the same, in order, and the bytes are their lines
 pub report_is : (all listed : List FindingModel) (bytes : List ℕ) → ((f : FindingModel) → Contains listed f ↔ Contains all f)
     → IsStrictlySortedBy report_cmp listed → bytes ≡ report_bytes listed → IsReport all bytes
 report_is all listed bytes same ordered is = record {

@@ -22,18 +22,18 @@ use Rattle.singcheck.specs.declared.report.Report.{Report}
 use Rattle.singcheck.proofs.JudgeLemmas.{none_of}
 use Rattle.singcheck.proofs.LongLemmas.{no_program, of_front}
 
--- where no finding is found in a method, that is its verdict
+-- if a method has no finding, its verdict is empty
 pub empty_verdict : (p : ProgramModel) (n : ℕ) → ((f : FindingModel) → IsFoundIn p n f → ⊥) → IsMethodVerdict p n []
 empty_verdict p n none = record {
   exactly = λ f. (λ h. absurd (none_of f h), λ w. absurd (none f w));
   once = λ many. absurd (none (too_many_pairs (place_of_method p n)) (inl (many, refl)));
 }
 
--- where all that is wrong is nothing, nothing is found in any method
+-- if a program has no finding, no method has one
 pub nothing_found : (p : ProgramModel) (found : List Finding) → found ≡ [] → AreExactly (IsWrong p) (map finding_model found) → NothingIsFound p
 nothing_found p found none are = λ n lt. empty_verdict p n (λ f w. none_of f (subst (λ l. Contains (map finding_model l) f) none (are.all f (n, lt, w))))
 
--- the text of a program in which nothing is wrong is safe
+-- a text whose program has no finding is safe
 pub safe_text : (text : List ℕ) (p : ProgramModel)
     → ((items : List ItemTree) → IsProgram text items → p ≡ program_told (record { text = text; items = items }))
     → NothingIsFound p → AreCleanSafe p → IsSafeText text
@@ -41,7 +41,7 @@ safe_text text p told nothing safe = λ items parsed. subst RunsAreSafe (told it
   each = λ bound bounds n w entry run. safe bound bounds nothing n w entry run;
 })
 
--- what is known of the bytes that are read is known of the text
+-- what is known of the bytes that are read holds of the text
 pub safe_front : (status : Status) (text : List ℕ) → (status ≡ Empty → IsSafeText (take MAX_READ text)) → status ≡ Empty → IsSafeText text
 safe_front status text told = of_front (λ t. status ≡ Empty → IsSafeText t) MAX_TEXT MAX_READ refl
     (λ a b x y front e items parsed. no_program b y parsed.tokens parsed.lexed) text told

@@ -13,11 +13,11 @@ use Rattle.names.specs.declared.fault.NameFaults.TheVariants as faults
 use Rattle.singcheck.specs.Answers.{AreFindings, OfContracts, OfNames, IsProgram, IsResolved}
 use Rattle.singcheck.specs.Stages.{AreBroken}
 
--- what a fault tells
+-- the findings of a fault are all those of the names
 pub explained : (p : ProgramText) (fault : NameFaults) (found : Vec Finding Global) → fault ≡ faults.Found found → TellsMistakes p fault → AreAll p found.items
 explained p fault found e told = subst (TellsMistakes p) e told
 
--- what is wrong with its names
+-- the findings of its names
 pub misnamed : (text : List ℕ) (items : List ItemTree) (found : List Finding) → IsProgram text items → AreAll (record { text = text; items = items }) found → AreFindings text (map finding_model found)
 misnamed text items found parsed all = OfNames (record {
   items = items;
@@ -33,6 +33,6 @@ misnamed text items found parsed all = OfNames (record {
     none_mapped [] h = λ _. h refl
     none_mapped (x ∷ xs) h = λ e. absurd (cc)
 
--- what is wrong with its contracts
+-- the findings of its contracts
 pub unsound : (text : List ℕ) (contracts : List ContractModel) (found : List FindingModel) → IsResolved text contracts → AreBroken contracts found → AreFindings text found
 unsound text contracts found resolved broken = OfContracts (record { contracts = contracts; resolved = resolved; some = broken.some; are = broken.are })

@@ -1,4 +1,4 @@
--- The verdicts of methods, in whatever order they came.
+-- The verdicts of methods, in whatever order they arrived.
 use Rattle.std.proofs.Common.{◌≡◌, ℕ, zero, suc, ◌+◌, ◌<◌, ◌==◌, Bool, true, false, cond, List, [], ◌∷◌, ◌++◌, length, map, refl, sym, subst, arith, ⊎_elim}
 use Rattle.std.specs.Prelude.{Contains, Ok, Result}
 use Rattle.std.proofs.Math.Nat.{eq-or-lt_of_le}
@@ -20,7 +20,7 @@ use Rattle.singcheck.specs.Checks.{IsWrong}
 use Rattle.singcheck.specs.Verdicts.{AddsVerdict, AreOfMethods, HasVerdict, IsPut, IsWrongAmong}
 use Rattle.singcheck.proofs.one_answer.SameLemmas.{nothing_in}
 
--- a verdict is all that is found in its method
+-- a verdict has exactly the findings of its method
 pub verdict_exactly : (p : ProgramModel) (n : ℕ) (found : List FindingModel) → IsMethodVerdict p n found → AreExactly (IsFoundIn p n) found
 verdict_exactly p n found verdict = record { right = λ f h. (verdict.exactly f).0 h; all = λ f w. (verdict.exactly f).1 w }
 
@@ -47,7 +47,7 @@ of_methods_more p methods n old new so_far adds = of_methods_then p methods n (m
 pub of_no_methods : (p : ProgramModel) → AreOfMethods p [] []
 of_no_methods p = record { right = λ f h. absurd (nothing_in f h); all = λ f w. absurd (nothing_in w.0 w.1) }
 
--- what stands in a list stands there so often, and the other way round
+-- a number is in a list exactly if it occurs at least once
 pub of_times : (n : ℕ) (xs : List ℕ) → 0 < times n xs → Contains xs n
 of_times n [] h = absurd (omega (arith, h))
 of_times n (x ∷ xs) h = by (of_times n xs) (x == n) refl (subst (λ k. 0 < k) (sum_by-cons (λ y. cond (y == n) 1 0) x xs) h)
@@ -71,7 +71,7 @@ times_of n (x ∷ xs) h = subst (λ k. 0 < k) (sym (sum_by-cons (λ y. cond (y =
         (λ later. let some = rest later in omega (arith, some))
         (Contains-append_cases (x ∷ []) xs n h)
 
--- the numbers below one
+-- exactly the numbers less than this one
 pub stands_below : (n k : ℕ) → k < n → Contains (numbers_below n) k
 stands_below zero k lt = absurd (omega (arith, lt))
 stands_below (suc n) k lt = ⊎_elim
@@ -86,7 +86,7 @@ below_of (suc n) k h = ⊎_elim
     (λ (same : n ≡ k). omega (arith, same))
     (Contains-push_cases (numbers_below n) n k h)
 
--- all methods, each as often as there is a task for it
+-- the verdicts of all methods, if each has as many tasks as it occurs among the numbers of methods
 pub of_all_methods : (p : ProgramModel) (methods : List ℕ) (found : List FindingModel) → ((n : ℕ) → times n methods ≡ times n (numbers_below (length p.methods))) → AreOfMethods p methods found → AreExactly (IsWrong p) found
 of_all_methods p methods found each of = record {
   right = λ f h. let r = of.right f h in
@@ -99,6 +99,6 @@ of_all_methods p methods found each of = record {
       of.all f (w.0, of_times w.0 methods (omega (arith, some, same)), w.2);
 }
 
--- what a receipt reads
+-- the verdict that a receipt names
 pub put_of : (p : Program) (shelf : Shelf) (n : ℕ) (out : Result Receipt Verdict) (receipt : Receipt) → HasVerdict p shelf n out → out ≡ Ok receipt → IsPut p shelf n receipt
 put_of p shelf n out receipt has is = subst (HasVerdict p shelf n) is has

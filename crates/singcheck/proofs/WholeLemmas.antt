@@ -1,4 +1,4 @@
--- The contracts of a program are whole, each by its place.
+-- The contracts of a program are whole, each by its index.
 use Rattle.std.proofs.Common.{◌≡◌, ℕ, zero, suc, List, [], ◌∷◌, map, Some, subst, arith}
 use Rattle.std.specs.Prelude.{All, slice_get}
 use Rattle.program.specs.Parts.{Parts, IsWhole, contract_parts, contract_model}

@@ -1,5 +1,5 @@
--- What is written for a text. The stages go in their order: the text, its tokens, its names, its contracts. Each has
--- findings only where those before it have none.
+-- What is printed for a text. The stages come in order: the text, its tokens, its names, its
+-- contracts. A stage has findings only if those before it have none.
 use Rattle.std.specs.Prelude.{◌≡◌, ◌≢◌, ℕ, List, [], ◌∷◌, ◌++◌, length, All, Contains, Option, Some, None, slice_get, codes}
 use Rattle.std.specs.List.{AllZip, concat}
 use Rattle.source.specs.Faults.{IsFault}
@@ -26,18 +26,18 @@ use Rattle.devices.specs.declared.fault.Status.TheVariants.{Empty, Found}
 use Rattle.singcheck.specs.Lines.{bounds_line, ok_line}
 use Rattle.singcheck.specs.Reports.{IsReportOf}
 
--- the text has a fault: its finding
+-- the text has a fault, and this is its finding
 pub record IsFaulty (text : List ℕ) (found : List FindingModel) : Type 0 where
   pub fault : TextFault
   pub first : IsFault text fault
   pub are : found ≡ fault_findings fault
 
--- the finding of a wrong token, or of the end where there is none
+-- the finding for a wrong token, or for the end if there is none
 abbrev pub wrong_token : List ℕ → Option Token → FindingModel
 wrong_token text (Some token) = record { place = token.span.place; code = S05; text = codes "unexpected token" }
 wrong_token text None = record { place = place_of (body_of text); code = S05; text = codes "unexpected end" }
 
--- the tokens of the text are no program: the first wrong one, or the end
+-- the tokens of the text are no program, and this is the finding for the first wrong one, or the end
 pub record IsNoProgram (text : List ℕ) (found : List FindingModel) : Type 0 where
   pub tokens : List Token
   pub lexed : AreTokens text tokens
@@ -51,39 +51,39 @@ pub record IsProgram (text : List ℕ) (items : List ItemTree) : Type 0 where
   pub lexed : AreTokens text tokens
   pub spelled : Spells program items tokens
 
--- something is wrong with the names of the program: all of it
+-- there are mistakes with the names of the program, and these are all their findings
 pub record IsMisnamed (text : List ℕ) (found : List FindingModel) : Type 0 where
   pub items : List ItemTree
   pub parsed : IsProgram text items
   pub some : found ≢ []
   pub are : AreExactly (Contains (program_findings (record { text = text; items = items }))) found
 
--- nothing is wrong with the names of the program, and these are its contracts with a number for each name
+-- there are no mistakes with the names of the program, and these are its contracts, with each name resolved to a number
 pub record IsResolved (text : List ℕ) (contracts : List ContractModel) : Type 0 where
   pub items : List ItemTree
   pub parsed : IsProgram text items
   pub clean : program_mistakes (record { text = text; items = items }) ≡ []
   pub are : contracts ≡ resolved_contracts text (contracts_of items)
 
--- a condition is broken in one of the contracts, which is this finding
+-- a condition is broken in one of the contracts, and this is the finding
 abbrev pub IsBroken : List ContractModel → FindingModel → Type 0
 IsBroken contracts f = (c : ContractModel) × Contains contracts c × conditions.IsFlaw c.parts f
 
--- conditions are broken in contracts of the program: all that is so
+-- conditions are broken in contracts of the program, and these are all their findings
 pub record IsUnsound (text : List ℕ) (found : List FindingModel) : Type 0 where
   pub contracts : List ContractModel
   pub resolved : IsResolved text contracts
   pub some : found ≢ []
   pub are : AreExactly (IsBroken contracts) found
 
--- these are the findings of the first stage of the text that has some
+-- these are the findings of the first stage of the text that has any, its contracts the last stage
 pub data AreFindings (text : List ℕ) (found : List FindingModel) : Type 0 where
   OfText : IsFaulty text found → AreFindings text found
   OfSyntax : IsNoProgram text found → AreFindings text found
   OfNames : IsMisnamed text found → AreFindings text found
   OfContracts : IsUnsound text found → AreFindings text found
 
--- the line of a contract, with the greatest length of each of its queues
+-- the line of a contract, with the greatest length of each of its two queues
 pub record IsBoundsLine (c : ContractModel) (line : List ℕ) : Type 0 where
   pub to_exp : ℕ
   pub to_imp : ℕ
@@ -100,7 +100,7 @@ pub record IsBoundsReport (text bytes : List ℕ) : Type 0 where
   pub each : AllZip IsBoundsLine contracts lines
   pub are : bytes ≡ concat lines ++ ok_line (length contracts)
 
--- what is written for a text, and the status of the run
+-- what `bounds` prints for a text, and its status
 abbrev pub Answers : List ℕ → List ℕ → Status → Type 0
 Answers text bytes Empty = IsBoundsReport text bytes
 Answers text bytes Found = IsReportOf (AreFindings text) bytes

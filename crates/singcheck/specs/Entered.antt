@@ -1,4 +1,4 @@
--- For proofs within the crate: what a text and an entry come to.
+-- For proofs within the crate: the lookup of an entry in a text.
 use Rattle.std.specs.Prelude.{◌≡◌, ℕ, List, Option, None, Some, IsSomeAnd, map, slice_get, string_bytes, true}
 use Rattle.program.specs.Programs.{ProgramModel}
 use Rattle.rules.specs.Programs.{is_entry, model_of}
@@ -19,33 +19,33 @@ use Rattle.singcheck.specs.declared.stage.Stage.{Stage}
 abbrev pub MayBegin : ProgramModel → ℕ → Type 0
 MayBegin p n = IsSomeAnd (slice_get p.methods n) (λ m. is_entry m ≡ true)
 
--- where nothing is found in the methods of a program, its runs are safe
+-- if nothing is found in the methods of a program, its runs are safe
 abbrev pub AreCleanSafe : ProgramModel → Type 0
 AreCleanSafe p =
     (bound : QueueBounds) → AreBounds p bound → NothingIsFound p → (n : ℕ) (w : World) → IsEntry p n → Run p bound n w → IsSafe p bound w
 
--- this is what the text comes to, and the entry is its method
+-- this is the program of the text, and the entry is this method of it
 pub record IsBegun (text entry : List ℕ) (b : Begun) : Type 0 where
   pub entered : HasEntry text entry (model_of b.program) b.method.0
   pub structs : map string_bytes b.structs.items ≡ struct_names text entered.has.resolved.items
 
--- or the text has no such entry
+-- the run may begin; or the text has no such entry
 abbrev pub ComesIn : List ℕ → List ℕ → Option Begun → Type 0
 ComesIn text entry None = LacksEntry text entry
 ComesIn text entry (Some b) = IsBegun text entry b
 
--- or findings before its methods
+-- the same, or the findings before the methods of the text
 abbrev pub IsEntered : List ℕ → List ℕ → Stage (Option Begun) → Type 0
 IsEntered text entry entered = IsStage text (ComesIn text entry) entered
 
--- what a schedule comes to is not known where it cannot be read, where a line is malformed, or for want of memory
+-- the errors of a replay of a schedule: it cannot be read, a line is malformed, or out of memory
 abbrev pub IsScheduledFault : RunFault → Type 0
 IsScheduledFault (Read input.Schedule) = Unit {0}
 IsScheduledFault (Schedule line) = Unit {0}
 IsScheduledFault Memory = Unit {0}
 IsScheduledFault _ = ⊥
 
--- or there is no entry
+-- the same errors, or there is no entry
 abbrev pub IsAnswerFault : RunFault → Type 0
 IsAnswerFault Entry = Unit {0}
 IsAnswerFault fault = IsScheduledFault fault

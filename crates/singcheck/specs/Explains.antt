@@ -1,4 +1,4 @@
--- What `why` answers for a text: the report of `check`, and under findings of contracts and methods why they are.
+-- What `why` returns for a text: the report of `check`, with lines that explain the findings.
 use Rattle.std.specs.Prelude.{◌≡◌, ◌≢◌, ◌<◌, ◌⊎◌, ◌++◌, ℕ, List, [], Option, length, map, All, Contains}
 use Rattle.std.specs.List.{flat_map}
 use Rattle.std.specs.List.Sorted.{IsStrictlySortedBy}
@@ -18,7 +18,7 @@ use Rattle.singcheck.specs.Remarked.{HasFault, HasMistake}
 use Rattle.singcheck.specs.Unexpected.{IsAskedUnexpected}
 use Rattle.singcheck.specs.Lines.{count_line, finding_line, trace_line}
 
--- it is found in one of the methods, and this is why, if that is asked for
+-- a finding of one of the methods, with its trace if no other place is named
 abbrev pub IsExplainedIn : Option Place → ProgramModel → ExplainedModel → Type 0
 IsExplainedIn named p e = (n : ℕ) × (n < length p.methods) × IsExplainedIf named p n e
 
@@ -26,12 +26,12 @@ IsExplainedIn named p e = (n : ℕ) × (n < length p.methods) × IsExplainedIf n
 abbrev pub explained_lines : ExplainedModel → List ℕ
 explained_lines e = finding_line e.finding ++ flat_map trace_line e.lines
 
--- so for each, and then their number
+-- these lines for each finding, and then their number
 abbrev pub explained_bytes : List ExplainedModel → List ℕ
 explained_bytes listed = flat_map explained_lines listed ++ count_line (length listed)
 
--- something is wrong in the methods of the text: all of it is listed in the order of a report, each finding once, and why it is one,
--- or why those at the named place are
+-- There are findings in the methods of the text: the bytes list all of them in the order of a report, each once, with
+-- their traces, or with the traces of those at the named place.
 pub record AreReasons (named : Option Place) (text bytes : List ℕ) : Type 0 where
   pub program : ProgramModel
   pub has : HasProgram text program
@@ -42,12 +42,12 @@ pub record AreReasons (named : Option Place) (text bytes : List ℕ) : Type 0 wh
   pub ordered : IsStrictlySortedBy report_cmp (map (λ e. e.finding) listed)
   pub is : bytes ≡ explained_bytes listed
 
--- it has no lines, or those of edges of one of the contracts that show it
+-- the finding has no lines, or those of edges of one of the contracts that show it
 abbrev pub IsShownIn : Option Place → List ContractModel → ExplainedModel → Type 0
 IsShownIn named contracts e = (c : ContractModel) × Contains contracts c × IsShown named c.parts e
 
--- It is found before the methods. It has no lines; or it is asked for, and is a token that is not expected; or it is a fault of the text
--- or a mistake in its names, with what more is said of that; or edges of contracts of the text show it.
+-- A finding before the methods. It has no lines; or it is an unexpected token, and no other place is named; or it is
+-- a fault of the text or a mistake in its names, with its remark; or edges of contracts of the text show it.
 pub data IsExplainedFinding (named : Option Place) (text : List ℕ) (e : ExplainedModel) : Type 0 where
   Bare : e.lines ≡ [] → IsExplainedFinding named text e
   ByTokens : IsAskedUnexpected named text e → IsExplainedFinding named text e
@@ -55,7 +55,8 @@ pub data IsExplainedFinding (named : Option Place) (text : List ℕ) (e : Explai
   ByMistake : HasMistake named text e → IsExplainedFinding named text e
   ByContract : (contracts : List ContractModel) → IsResolved text contracts → IsShownIn named contracts e → IsExplainedFinding named text e
 
--- something is wrong before the methods: all that the first stage with findings finds, in the order of a report, each finding once
+-- There are findings before the methods: the bytes list all those of the first stage with findings, in the order of a
+-- report, each once.
 pub record IsStageExplained (named : Option Place) (text bytes : List ℕ) : Type 0 where
   pub found : List FindingModel
   pub are : AreFindings text found
@@ -65,16 +66,16 @@ pub record IsStageExplained (named : Option Place) (text bytes : List ℕ) : Typ
   pub ordered : IsStrictlySortedBy report_cmp (map (λ e. e.finding) listed)
   pub is : bytes ≡ explained_bytes listed
 
--- what `why` answers for a text, and the status
+-- what `why` returns for a text, and the status
 abbrev pub Explains : Option Place → List ℕ → List ℕ → Status → Type 0
 Explains named text bytes Empty = IsClear text bytes
 Explains named text bytes Found = IsStageExplained named text bytes ⊎ AreReasons named text bytes
 
--- For proofs within the crate: these are all findings of the first stage with some, each with its lines, in no order.
+-- For proofs within the crate: these are all findings of the first stage with findings, each with its lines, in no order.
 pub record AreExplained (named : Option Place) (text : List ℕ) (es : List ExplainedModel) : Type 0 where
   pub are : AreFindings text (map (λ e. e.finding) es)
   pub each : All (IsExplainedFinding named text) es
 
--- and so where there are some
+-- if there are any, they are those findings
 abbrev pub IsExplainedText : Option Place → List ℕ → List ExplainedModel → Type 0
 IsExplainedText named text es = es ≢ [] → AreExplained named text es

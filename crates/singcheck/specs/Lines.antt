@@ -1,4 +1,4 @@
--- The lines that are written, each with its end.
+-- The lines that are printed, each with its end.
 use Rattle.std.specs.Prelude.{ℕ, List, ◌++◌, codes}
 use Rattle.std.specs.Fmt.{decimal}
 use Rattle.source.specs.Findings.{FindingModel, code_name}

@@ -1,4 +1,4 @@
--- For proofs within the crate: what a text comes to before its contracts are judged, and then.
+-- For proofs within the crate: the program of a text before its contracts are judged, and after that.
 use Rattle.std.specs.Prelude.{◌≡◌, ◌<◌, ◌≤◌, ◌^◌, ℕ, List, [], length, map, All}
 use Rattle.source.specs.Findings.{FindingModel, finding_model}
 use Rattle.tree.specs.Trees.{ItemTree, program_tree}
@@ -20,52 +20,52 @@ use Rattle.singcheck.specs.declared.programs.Built.TheVariants as built
 use Rattle.singcheck.specs.declared.programs.Named.{Named}
 use Rattle.singcheck.specs.declared.stage.Stage.{Stage}
 
--- the text is a program of these items, nothing is wrong with its names, and this is what it comes to
+-- the text is a program of these items, there are no mistakes in its names, and this is what it yields
 pub record HasCleanNames (text : List ℕ) (items : List ItemTree) (p : ProgramModel) : Type 0 where
   pub parsed : IsProgram text items
   pub clean : program_mistakes (record { text = text; items = items }) ≡ []
   pub is : p ≡ program_told (record { text = text; items = items })
 
--- and this is known of it
+-- the same, with what is known of the program
 pub record AreNamed (text : List ℕ) (items : List ItemTree) (p : ProgramModel) : Type 0 where
   pub names : HasCleanNames text items p
   pub whole : All (λ c. IsWhole c.parts) p.contracts
   pub room : length p.contracts < 2 ^ 32
   pub few : length p.methods ≤ MOST_METHODS
 
--- the findings of the names of a tree, or the methods where there are none, and the tree
+-- the findings of the names of a tree, or, if there are none, the methods and the tree
 abbrev pub IsNamed : List ℕ → Tree → Stage Named → Type 0
 IsNamed text tree named = IsStage text (λ (n : Named). (n.tree ≡ tree) × AreNamed text (program_tree tree) (program_model n.methods)) named
 
--- the program whose contracts are sound, and what is known of it
+-- a program with sound contracts, and what is known of it
 pub record IsSoundOne (p : ProgramModel) (program : Program) : Type 0 where
   pub same : model_of program ≡ p
   pub sound : All (λ c. IsSound c.parts) (model_of program).contracts
   pub safe : AreCleanSafe (model_of program)
 
--- the program of a text, with which nothing is wrong before its methods, and what is known of it
+-- the program of a text without findings before its methods, and what is known of it
 pub record IsProgramBefore (text : List ℕ) (program : Program) : Type 0 where
   pub has : HasProgram text (model_of program)
   pub few : length (model_of program).methods ≤ MOST_METHODS
   pub safe : AreCleanSafe (model_of program)
 
--- the text is resolved, and this is wrong with its contracts
+-- the names of the text are resolved, and these are the findings of its contracts
 pub record AreBrokenOf (text : List ℕ) (contracts : List ContractModel) (found : List FindingModel) : Type 0 where
   pub resolved : IsResolved text contracts
   pub whole : All (λ c. IsWhole c.parts) contracts
   pub room : length contracts < 2 ^ 32
   pub broken : AreBroken contracts found
 
--- what is wrong with the contracts of a text, or its program where nothing is
+-- the findings of the contracts of a text, or its program if there are none
 abbrev pub IsBuiltIn : List ℕ → Built → Type 0
 IsBuiltIn text (built.Broken methods findings) = AreBrokenOf text (contracts_model methods) (map finding_model findings.items)
 IsBuiltIn text (built.Program program) = IsProgramBefore text program
 
--- the same, or what is wrong with the text or its names
+-- the same, or the findings of the text or its names
 abbrev pub IsBuiltOf : List ℕ → Stage Built → Type 0
 IsBuiltOf text b = IsStage text (IsBuiltIn text) b
 
--- the methods of a program and what is wrong with its contracts, or the program where nothing is
+-- the methods of a program and the findings of its contracts, or the program if there are none
 abbrev pub IsBuilt : ProgramModel → Built → Type 0
 IsBuilt p (built.Broken methods findings) =
     (contracts_model methods ≡ p.contracts) × AreBroken p.contracts (map finding_model findings.items)

@@ -1,4 +1,4 @@
--- What more is said of what is wrong with a text or its names.
+-- Findings of a text or its names with their remarks.
 use Rattle.std.specs.Prelude.{◌≡◌, ℕ, Bool, false, List, [], ◌∷◌, Option, None, Contains, if◌then◌else◌}
 use Rattle.std.specs.Option.{option_map_or}
 use Rattle.source.specs.Faults.{IsFault}
@@ -17,19 +17,19 @@ use Rattle.traces.specs.Explained.{ExplainedModel, is_asked}
 use Rattle.traces.specs.Lines.{LineModel, line}
 use Rattle.singcheck.specs.Answers.{IsProgram}
 
--- the line of a remark, if there is one, and if lines are asked for of what is found there
+-- the line of a remark, if there is one
 abbrev pub said_lines : Option RemarkModel → List LineModel
 said_lines r = option_map_or (λ said. line said.place said.text ∷ []) r []
 
 abbrev pub remark_lines : Option Place → Place → Option RemarkModel → List LineModel
 remark_lines named place r = if is_asked named place then said_lines r else []
 
--- what more is said of a mistake; of a name that nothing declares only where its nearest name is looked for
+-- the remark of a mistake; a name that nothing declares has one only if its nearest name is searched
 abbrev pub remark_within : Bool → ProgramText → Mistake → Option RemarkModel
 remark_within false p (mistake.Unknown name sort) = None
 remark_within within p m = remark_of p m
 
--- one of all the mistakes in the names of the text: its finding, with what more is said of it
+-- a mistake in the names of the text: its finding, with its remark
 pub record IsMistake (named : Option Place) (p : ProgramText) (e : ExplainedModel) : Type 0 where
   pub mistake : Mistake
   pub within : Bool
@@ -42,7 +42,7 @@ pub record HasMistake (named : Option Place) (text : List ℕ) (e : ExplainedMod
   pub parsed : IsProgram text items
   pub is : IsMistake named (record { text = text; items = items }) e
 
--- the first fault of the text: its finding, with what more is said of it
+-- the first fault of the text: its finding, with its remark
 pub record HasFault (named : Option Place) (text : List ℕ) (e : ExplainedModel) : Type 0 where
   pub fault : TextFault
   pub first : IsFault text fault

@@ -1,4 +1,4 @@
--- What `replay` answers for a text, an entry and a schedule.
+-- What `replay` returns for a text, an entry and a schedule.
 use Rattle.std.specs.Prelude.{◌≡◌, ◌≢◌, ℕ, List, [], ◌∷◌, ◌++◌, map, take, Option, Some, IsSomeAnd, slice_get, true, codes}
 use Rattle.std.specs.List.{flat_map}
 use Rattle.std.specs.Option.{option_map_or}
@@ -26,7 +26,7 @@ use Rattle.singcheck.specs.Checks.{HasProgram}
 abbrev pub full_name : List ℕ → Span → MethodTree → List ℕ
 full_name text class m = word_at text class ++ (codes "." ++ word_at text m.name)
 
--- the names of the methods of a class, if it is one
+-- the names of the methods of a class; none for any other item
 abbrev pub names_in : List ℕ → DefinitionTree → List (List ℕ)
 names_in text (Class c) = map (full_name text c.name) c.methods
 names_in text _ = []
@@ -35,16 +35,16 @@ names_in text _ = []
 abbrev pub method_names : List ℕ → List ItemTree → List (List ℕ)
 method_names text items = flat_map (λ i. names_in text i.definition) items
 
--- the name of a struct, if it is one
+-- the name of a struct; none for any other item
 abbrev pub struct_in : List ℕ → DefinitionTree → List (List ℕ)
 struct_in text (Struct s) = printed_name text s.name ∷ []
 struct_in text _ = []
 
--- how all structs are printed, in order of the text
+-- the names of all structs, in order of the text
 abbrev pub struct_names : List ℕ → List ItemTree → List (List ℕ)
 struct_names text items = flat_map (λ i. struct_in text i.definition) items
 
--- so many of these stand before the first that is this one
+-- the first of these names that is this one has the index `n`
 abbrev pub IsFirstAt : List (List ℕ) → List ℕ → ℕ → Type 0
 IsFirstAt names name n = (slice_get names n ≡ Some name) × Each (λ x. x ≢ name) (take n names)
 
@@ -53,16 +53,16 @@ pub record IsEntryAt (text entry : List ℕ) (items : List ItemTree) (p : Progra
   pub named : IsFirstAt (method_names text items) entry n
   pub begins : IsSomeAnd (slice_get p.methods n) (λ m. is_entry m ≡ true)
 
--- nothing is wrong with the text but in its methods, and a run may begin with this one, whose name the entry is
+-- there are no findings before the methods, and the entry is the name of this method, with which a run may begin
 pub record HasEntry (text entry : List ℕ) (p : ProgramModel) (n : ℕ) : Type 0 where
   pub has : HasProgram text p
   pub at : IsEntryAt text entry has.resolved.items p n
 
--- nothing is wrong with the text but in its methods, and a run may begin with one whose name the entry is
+-- there are no findings before the methods, and the entry is the name of a method with which a run may begin
 abbrev pub HasSomeEntry : (text entry : List ℕ) → Type 0
 HasSomeEntry text entry = (p : ProgramModel) × (n : ℕ) × HasEntry text entry p n
 
--- nothing is wrong with the text but in its methods, and the entry is the name of none with which a run may begin
+-- there are no findings before the methods, and the entry is the name of no method with which a run may begin
 pub record LacksEntry (text entry : List ℕ) : Type 0 where
   pub program : ProgramModel
   pub has : HasProgram text program
@@ -75,11 +75,11 @@ pub record LacksSchedule (text entry schedule : List ℕ) (line : ℕ) : Type 0 
   pub entered : HasEntry text entry program n
   pub malformed : IsFirstMalformed schedule line
 
--- the status of a run: whether an event was no step
+-- the status of a replay: `Found` if it stopped at an event that is no step
 abbrev pub stop_status : Option Halt → Status
 stop_status halt = option_map_or (λ why. Found) halt Empty
 
--- the events of the schedule lead from the entry to what is printed
+-- the events of the schedule were replayed from the entry, and the bytes are what is printed of that
 pub record IsRan (entry schedule text bytes : List ℕ) (status : Status) : Type 0 where
   pub program : ProgramModel
   pub n : ℕ
@@ -93,12 +93,12 @@ pub record IsRan (entry schedule text bytes : List ℕ) (status : Status) : Type
       events replayed.steps replayed.halt replayed.world
   pub is : status ≡ stop_status replayed.halt
 
--- what `replay` answers: the findings of the text before its methods, or what the events of the schedule come to
+-- what `replay` returns: the findings before the methods, or the replay of the schedule
 pub data Replays (entry schedule text bytes : List ℕ) (status : Status) : Type 0 where
   OfFindings : IsReportOf (AreFindings text) bytes → status ≡ Found → Replays entry schedule text bytes status
   OfRun : IsRan entry schedule text bytes status → Replays entry schedule text bytes status
 
--- what a run of `replay` comes to where no device fails and no growth of memory is refused: its answer, no entry, or a malformed line
+-- the outcome of a run of `replay` if no device fails and memory suffices: an answer, no entry, or a malformed line
 pub data ComesTo (entry schedule text : List ℕ) : Type 0 where
   Answered : (bytes : List ℕ) (status : Status) → Replays entry schedule text bytes status → ComesTo entry schedule text
   NoEntry : LacksEntry text entry → ComesTo entry schedule text

@@ -1,4 +1,4 @@
--- What an empty report of a text promises of its program, and what holds of a replay whatever is found in the methods.
+-- What an empty report promises of the program of a text, and what holds of every replay, whatever is found in the methods.
 use Rattle.std.specs.Prelude.{◌≡◌, ◌≢◌, ℕ, List, Some, take}
 use Rattle.source.specs.declared.place.Place.{Place}
 use Rattle.tree.specs.Trees.{ItemTree}
@@ -20,33 +20,34 @@ use Rattle.singcheck.specs.Reports.{IsReportOf}
 use Rattle.singcheck.specs.Checks.{Checks}
 use Rattle.singcheck.specs.Replays.{IsRan}
 
--- Every run of a program is safe, with whatever method it begins, and in whatever order its processes take turns. The queues have the
--- bounds of their contracts.
+-- Every run that begins with an entry method is safe, in whatever order its processes take their
+-- turns, if the queues have the bounds of their contracts.
 pub record RunsAreSafe (p : ProgramModel) : Type 0 where
   pub each : (bound : QueueBounds) → AreBounds p bound → (n : ℕ) (w : World) → IsEntry p n → Run p bound n w → IsSafe p bound w
 
--- what the text comes to, if it is a program, is safe in every run
+-- the program that the text yields, if it is one, is safe in every run
 abbrev pub IsSafeText : List ℕ → Type 0
 IsSafeText text = (items : List ItemTree) → IsProgram text items → RunsAreSafe (program_told (record { text = text; items = items }))
 
--- a check finds nothing in the text
+-- `check` finds nothing in the text
 abbrev pub HasEmptyReport : List ℕ → Type 0
 HasEmptyReport text = (bytes : List ℕ) × Checks text bytes Empty
 
--- what is printed of a replay that does not stop with a fault
+-- a replay was printed that does not stop with a fault
 pub record RunsSafely (entry schedule text bytes : List ℕ) (status : Status) : Type 0 where
   pub ran : IsRan entry schedule text bytes status
   pub no_fault : (fault : Fault) (at : Place) → ran.replayed.halt ≢ Some (halt.Fault fault at)
 
--- What is printed of a replay that keeps the bounds of its contracts: it does not stop at a send past a bound, and in each world that a
--- beginning of its events leads to, each queue is a walk of its contract and within its bound.
+-- A replay was printed that keeps the bounds of its contracts: it does not stop at a send past a
+-- bound, and in each world on its way each queue is a walk of its contract and no longer than its
+-- bound.
 pub record KeepsBounds (entry schedule text bytes : List ℕ) (status : Status) : Type 0 where
   pub ran : IsRan entry schedule text bytes status
   pub no_overflow : (at : Place) → ran.replayed.halt ≢ Some (halt.Fault F6 at)
   pub bounded : (bound : QueueBounds) → AreBounds ran.program bound → (k : ℕ) (w : World)
       → RunsTo ran.program bound (start_of ran.program ran.n) (take k ran.events) w → IsBounded ran.program bound w
 
--- what `replay` answers, whatever `check` finds: the findings of the text before its methods, or a replay that keeps the bounds
+-- what `replay` returns, whatever `check` finds: the findings before the methods, or a replay that keeps the bounds
 pub data ReplaysWithinBounds (entry schedule text bytes : List ℕ) (status : Status) : Type 0 where
   Reported : IsReportOf (AreFindings text) bytes → status ≡ Found → ReplaysWithinBounds entry schedule text bytes status
   Kept : KeepsBounds entry schedule text bytes status → ReplaysWithinBounds entry schedule text bytes status

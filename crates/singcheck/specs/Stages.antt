@@ -1,4 +1,4 @@
--- For proofs within the crate: what the stages answer each other.
+-- For proofs within the crate: what the stages return.
 use Rattle.std.specs.Prelude.{◌≡◌, ◌≢◌, ◌<◌, ◌^◌, ℕ, List, [], ◌∷◌, ◌++◌, length, map, All, Vec}
 use Rattle.std.specs.Global.{Global}
 use Rattle.source.specs.Findings.{FindingModel, finding_model}
@@ -29,7 +29,7 @@ pub record IsProgramOf (text : List ℕ) (tree : Tree) : Type 0 where
   pub parsed : IsProgram text (program_tree tree)
   pub few : length (program (program_tree tree)) < 2 ^ 32
 
--- a stage answers the findings of the text, or that with which it goes on
+-- a stage returns the findings of the text, or that with which it goes on
 abbrev pub IsStage : {T : Type 0} → List ℕ → (T → Type 0) → Stage T → Type 0
 IsStage text GoesOn (stage.Found findings) = AreFindings text (map finding_model findings.items)
 IsStage text GoesOn (stage.Clean t) = GoesOn t
@@ -38,21 +38,21 @@ IsStage text GoesOn (stage.Clean t) = GoesOn t
 abbrev pub IsParsed : List ℕ → Stage Tree → Type 0
 IsParsed text parsed = IsStage text (IsProgramOf text) parsed
 
--- the findings of the text, or its contracts where there are none
+-- the findings of the text, or its contracts if there are none
 abbrev pub IsStaged : List ℕ → Stage Clean → Type 0
 IsStaged text staged = IsStage text (IsClean text) staged
 
--- something is wrong with these contracts: all of it
+-- these are the findings of these contracts, and there are some
 pub record AreBroken (contracts : List ContractModel) (found : List FindingModel) : Type 0 where
   pub some : found ≢ []
   pub are : AreExactly (IsBroken contracts) found
 
--- these contracts are sound, each with its parts
+-- these contracts are sound, and these are their parts
 pub record AreSounds (contracts : List ContractModel) (sounds : List Sound) : Type 0 where
   pub kept : map sound_parts sounds ≡ map (λ c. c.parts) contracts
   pub sound : All (λ c. IsSound c.parts) contracts
 
--- what is wrong with these contracts, or the sound ones where nothing is
+-- the findings of these contracts, or the sound ones if there are none
 abbrev pub IsJudgement : List ContractModel → Stage (Vec Sound Global) → Type 0
 IsJudgement contracts (stage.Found findings) = AreBroken contracts (map finding_model findings.items)
 IsJudgement contracts (stage.Clean sounds) = AreSounds contracts sounds.items
@@ -63,13 +63,13 @@ pub record KeepsSound (c : ContractModel) (old new : Judging) : Type 0 where
   pub kept : map sound_parts new.sounds.items ≡ map sound_parts old.sounds.items ++ c.parts ∷ []
   pub same : new.findings.items ≡ old.findings.items
 
--- all that is wrong with a contract of these parts is added
+-- all findings of a contract with these parts are added
 pub record AddsAll (parts : Parts) (old new : List Finding) : Type 0 where
   pub more : List FindingModel
   pub exactly : AreExactly (conditions.IsFlaw parts) more
   pub added : map finding_model new ≡ map finding_model old ++ more
 
--- something is wrong with a contract, and all of it is added
+-- a contract has findings, and all of them are added
 pub record AddsFaults (c : ContractModel) (old new : Judging) : Type 0 where
   pub broken : (f : FindingModel) × conditions.IsFlaw c.parts f
   pub all : AddsAll c.parts old.findings.items new.findings.items

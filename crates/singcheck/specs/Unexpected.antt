@@ -1,4 +1,4 @@
--- Why a text is no program: with which tokens it could have gone on.
+-- Why a text is no program: the tokens with which it could have gone on.
 use Rattle.std.specs.Prelude.{◌≡◌, ◌↔◌, ◌∷◌, [], ℕ, Bool, true, false, List, Option, Some, None, Contains, take, slice_get, codes}
 use Rattle.std.specs.Prelude.{if◌then◌else◌}
 use Rattle.std.specs.Option.{option_map_or}
@@ -20,7 +20,7 @@ use Rattle.traces.specs.Explained.{ExplainedModel, is_asked}
 use Rattle.traces.specs.Lines.{LineModel, line}
 use Rattle.singcheck.specs.Answers.{wrong_token}
 
--- where a wrong token is, or the end of the text
+-- the span of a wrong token, or the end of the text
 abbrev pub wrong_span : Place → Option Token → Span
 wrong_span end (Some token) = token.span
 wrong_span end None = record { start = 0; end = 0; place = end }
@@ -40,14 +40,15 @@ abbrev pub begins_item : Option Token → Bool
 begins_item None = true
 begins_item (Some token) = begins_definition token.kind
 
--- If a definition, a method or the end comes too early, a brace is likely not closed: the innermost one that is open.
+-- If a definition, a method or the end comes too early, the innermost open brace is likely not closed.
 abbrev pub likely_brace : List Token → ℕ → Option Span
 likely_brace tokens number = if begins_item (slice_get tokens number) then slice_get (open_braces [] (take number tokens)) 0 else None
 
 abbrev pub brace_lines : List Token → ℕ → List LineModel
 brace_lines tokens number = option_map_or (λ brace. line brace.place (codes "{ is not closed") ∷ []) (likely_brace tokens number) []
 
--- The tokens of the text are no program: the first wrong one, or the end; what could have stood there, exactly, and a brace.
+-- The tokens of the text are no program. The finding is that of the first wrong token, or of the end, and the lines
+-- list exactly the kinds of tokens that could have been there, and a brace.
 pub record IsUnexpected (text : List ℕ) (e : ExplainedModel) : Type 0 where
   pub tokens : List Token
   pub lexed : AreTokens text tokens
@@ -60,7 +61,7 @@ pub record IsUnexpected (text : List ℕ) (e : ExplainedModel) : Type 0 where
   pub order : IsSublist kinds ALL_KINDS
   pub lines : e.lines ≡ line e.finding.place (expectation_of kinds) ∷ brace_lines tokens number
 
--- and it is asked for
+-- the same, and no other place is named
 pub record IsAskedUnexpected (named : Option Place) (text : List ℕ) (e : ExplainedModel) : Type 0 where
   pub asked : is_asked named e.finding.place ≡ true
   pub unexpected : IsUnexpected text e

@@ -13,7 +13,7 @@ use Rattle.shelf.specs.Shelves.{IsOf, verdict_of}
 use Rattle.shelf.specs.declared.receipt.Receipt.{Receipt}
 use Rattle.shelf.specs.declared.shelf.Shelf.{Shelf}
 
--- the receipt is of the shelf, and what it reads is the verdict of a method
+-- the receipt is of the shelf and names the verdict of a method
 pub record IsPut (p : Program) (shelf : Shelf) (n : ℕ) (receipt : Receipt) : Type 0 where
   pub of_shelf : IsOf receipt shelf
   pub found : IsMethodVerdict (model_of p) n (map finding_model (findings_of (verdict_of receipt)))
@@ -23,16 +23,16 @@ abbrev pub HasVerdict : Program → Shelf → ℕ → Result Receipt Verdict →
 HasVerdict p shelf n (Ok receipt) = IsPut p shelf n receipt
 HasVerdict p shelf n (Err verdict) = Unit {0}
 
--- all that is found in a method is added
+-- all findings of a method are added
 pub record AddsVerdict (p : ProgramModel) (n : ℕ) (old new : List Finding) : Type 0 where
   pub more : List FindingModel
   pub exactly : AreExactly (IsFoundIn p n) more
   pub added : map finding_model new ≡ map finding_model old ++ more
 
--- this is found in one of these methods
+-- a finding of one of these methods
 abbrev pub IsWrongAmong : ProgramModel → List ℕ → FindingModel → Type 0
 IsWrongAmong p methods f = (n : ℕ) × Contains methods n × IsFoundIn p n f
 
--- the findings are all that is found in these methods
+-- these are all findings of these methods
 abbrev pub AreOfMethods : ProgramModel → List ℕ → List FindingModel → Type 0
 AreOfMethods p methods found = AreExactly (IsWrongAmong p methods) found

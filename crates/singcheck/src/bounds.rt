@@ -18,13 +18,16 @@ use program::{Contract, Side};
 use source::Memory;
 use std::alloc::Global;
 
-/// Reads a program text, and writes the greatest length of each queue of its contracts, or its findings.
+/// Reads a program text and writes the greatest length of each queue of its contracts, or its findings.
 ///
-/// A line `NAME: to Exp N, to Imp N` a contract in order of the text and a line `ok: C contracts`, with status `Empty`;
-/// or the report of the first stage that has findings (the text, its names, its contracts), with status `Found`. At most
-/// `MAX_READ` bytes are read, and the rest is left unread. `Read` and `Write` are answered only where that device failed,
-/// and `Memory` only where a growth was refused; nothing is written before the answer is known whole, and after `Write` a
-/// beginning of it went out. That queues have bounds at all is a condition of Fähndrich et al., EuroSys 2006.
+/// If there are no findings, it writes a line `NAME: to Exp N, to Imp N` for each contract in order of the text and
+/// then a line `ok: C contracts`, with status `Empty`; otherwise the report of the first stage that has findings (the
+/// text, its names, its contracts), with status `Found`. At most `MAX_READ` bytes are read, and the rest is left
+/// unread. That queues have bounds at all is a condition of Fähndrich et al., EuroSys 2006.
+///
+/// # Errors
+/// `Read` and `Write` only if that device failed, `Memory` only if out of memory. Nothing is written before the whole
+/// answer is known. After `Write`, a beginning of it was written.
 pub fn run_bounds<R: Source, W: Sink>(
     alloc: Global,
     reader: &mut R,
@@ -47,7 +50,7 @@ pub fn run_bounds<R: Source, W: Sink>(
     Ok(answer.status)
 }
 
-/// The answer to a text.
+/// Returns the answer to a text.
 fn bounds_report(alloc: Global, text: &[u8]) -> Result<Report, Memory>
     ensures { IfOk result (λ answer. Answers text.now answer.bytes.items answer.status) }
 {
@@ -63,7 +66,7 @@ fn bounds_report(alloc: Global, text: &[u8]) -> Result<Report, Memory>
     }
 }
 
-/// A line for each contract, and then their number.
+/// Returns a line for each contract, and then their number.
 fn bounds_lines(alloc: Global, clean: &Clean) -> Result<Vec<u8>, Memory>
     ensures { IfOk result (λ bytes. (text : List ℕ) → IsClean text clean.now → IsBoundsReport text bytes.items) }
 {

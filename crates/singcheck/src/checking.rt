@@ -1,4 +1,4 @@
-//! The check of a text, its methods too.
+//! The check of a text with its methods.
 
 ghost use Rattle.std.specs.Prelude.{◌≡◌, ◌<◌, ◌^◌, true, ℕ, map, length, List, IfOk, IfErr, OnOk};
 ghost use Rattle.rules.specs.Programs.{model_of};
@@ -22,17 +22,21 @@ use source::Memory;
 use std::sync::Wait;
 use std::thread::Threads;
 
-/// Checks a text: the report of the first stage that has findings (the text, its names, its contracts, its methods), with
-/// status `Found`, or the line `ok: C contracts, M methods`, with status `Empty`.
+/// Checks a text. Returns the report of the first stage that has findings (the text, its names, its contracts, its
+/// methods), with status `Found`, or the line `ok: C contracts, M methods`, with status `Empty`.
 ///
-/// Workers share the methods out. Each method is checked once, by one of them, and the gate is entered before it with the number of
-/// methods that stand before it in the text. The first worker works in the calling thread and each other one in a thread of its own;
-/// there are never more than methods, and none begins before the stages in front of the methods have found nothing. The report is the
-/// same for every number of `workers` and `slots`, whoever took which method. Where it is empty, every run of the text's program is safe:
-/// no process uses a block that is not its own, sends out of state, meets a message that its switch lacks, overfills a queue or ends
-/// owning anything. `Workers` is answered where there are not 1 to
-/// `MOST_WORKERS`, then `Slots` where there are not 1 to `MOST_SLOTS`, before the text is looked at; `Memory` where a growth or a
-/// thread was refused.
+/// Workers share the methods. One of them checks each method, once, and enters the gate before it with the index of
+/// the method in the text. The first worker runs in the calling thread, each other one in its own thread. There are
+/// never more workers than methods, and they start only if the earlier stages found nothing. The report does not
+/// depend on `workers`, `slots` or which worker took which method.
+///
+/// If the status is `Empty`, every run of the program is safe: no process uses a block that it does not own, sends
+/// what its state does not send, receives a message that its switch has no case for, overflows a queue, or ends while
+/// it owns a block.
+///
+/// # Errors
+/// `Workers` if `workers` is not 1 to `MOST_WORKERS`, then `Slots` if `slots` is not 1 to `MOST_SLOTS`, both before
+/// the text is read. `Memory` if out of memory or if a thread could not be started.
 pub fn check<R: Threads + Wait + AllocGlobal + Sync, G: Gate>(
     rt: &R,
     text: &[u8],
@@ -51,9 +55,9 @@ pub fn check<R: Threads + Wait + AllocGlobal + Sync, G: Gate>(
     check_onto(rt, text, workers, slots, gate, &shelf)
 }
 
-/// Checks a text as `check` does, and puts the verdict of each method on the caller's shelf, as soon as it is found.
+/// Checks a text as `check` does, and puts the verdict of each method on the caller's shelf as soon as it is found.
 ///
-/// Other threads may read what was put so far at any time. Verdicts that were put before a refusal stay.
+/// Other threads may read the verdicts on the shelf at any time. Verdicts that were put there before an error stay.
 pub fn check_onto<R: Threads + Wait + AllocGlobal + Sync, G: Gate>(
     rt: &R,
     text: &[u8],
@@ -81,7 +85,7 @@ pub fn check_onto<R: Threads + Wait + AllocGlobal + Sync, G: Gate>(
     Ok(report)
 }
 
-/// Whether there may be so many workers and slots.
+/// Tests the numbers of workers and slots, in this order. `Workers` or `Slots` if one is out of range.
 pub(crate) fn judge_numbers(workers: usize, slots: usize) -> Result<(), CheckFault>
     ensures workers { OnOk result (workers_fit workers ≡ true) }
     ensures slots { OnOk result (slots_fit slots ≡ true) }
@@ -96,7 +100,7 @@ pub(crate) fn judge_numbers(workers: usize, slots: usize) -> Result<(), CheckFau
     Ok(())
 }
 
-/// The report of a text.
+/// Returns the report of a text.
 pub(crate) fn check_text<R: Threads + Wait + Sync, G: Gate>(
     tools: &Tools<'_, R, G>,
     text: &[u8],
@@ -108,14 +112,14 @@ pub(crate) fn check_text<R: Threads + Wait + Sync, G: Gate>(
     match program_of(tools.alloc, text)? {
         Stage::Found(findings) => finding_report(tools.alloc, findings),
         Stage::Clean(Built::Broken(methods, findings)) => {
-            drop(methods); // the report is made without them, which spares their memory
+            drop(methods); // frees their memory before the report is made
             finding_report(tools.alloc, findings)
         }
         Stage::Clean(Built::Program(program)) => check_methods(tools, &program),
     }
 }
 
-/// The report of the methods of a program, with which nothing else is wrong.
+/// Returns the report of the methods of a program without earlier findings.
 fn check_methods<R: Threads + Wait + Sync, G: Gate>(
     tools: &Tools<'_, R, G>,
     program: &Program,

@@ -1,4 +1,4 @@
-//! A text and an entry.
+//! Entries: the method with which a run of a text begins.
 
 ghost use Rattle.std.specs.Prelude.{◌≡◌, ◌<◌, ◌≤◌, ◌^◌, ℕ, All, IfNone, IfOk, IfSome, Some, length};
 ghost use Rattle.tree.specs.Trees.{program_tree};
@@ -27,7 +27,8 @@ pub(crate) struct Begun {
     pub(crate) structs: Vec<String>,
 }
 
-/// The text, up to its methods, and then the entry. None where the text has no such method, or a run may not begin with it.
+/// Runs the stages of a text before its methods, and then looks up the entry. `None` if the text has no such method,
+/// or a run may not begin with it.
 pub(crate) fn enter(
     alloc: Global,
     text: &[u8],
@@ -41,7 +42,7 @@ pub(crate) fn enter(
     }
 }
 
-/// The names and the contracts of a program, and then the entry.
+/// Runs the stages of names and contracts, and then looks up the entry.
 fn enter_program(
     alloc: Global,
     text: &[u8],
@@ -64,7 +65,7 @@ fn enter_program(
     }
 }
 
-/// The entry in a program with which nothing is wrong but in its methods.
+/// Looks up the entry in a program without findings before its methods.
 fn enter_method(
     alloc: Global,
     text: &[u8],
@@ -88,7 +89,7 @@ fn enter_method(
     }))
 }
 
-/// The method at a place, if there is one and a run may begin with it.
+/// Returns the method with this index, if there is one and a run may begin with it.
 fn entry_of(program: &Program, index: Option<usize>) -> Option<MethodId>
     requires few { length (model_of program.now).methods < 2 ^ 32 }
     ensures some { IfSome result (λ id. (index ≡ Some id.0) × MayBegin (model_of program.now) id.0) }

@@ -23,7 +23,7 @@ fn is_named(text: &[u8], class: Span, method: &Method, entry: &[u8]) -> bool
     name == method.name.slice(text)
 }
 
-/// How many methods of a class stand before the first that has this name.
+/// Returns the index, among the methods of a class, of the first that has this name.
 fn index_among(text: &[u8], class: Span, methods: &[Method], entry: &[u8]) -> Option<usize>
     ensures some { IfSome result (IsFirstAt (map (full_name text.now class) (map method_tree methods.now)) entry.now) }
     ensures none { IfNone result (Each (λ x. x ≢ entry.now) (map (full_name text.now class) (map method_tree methods.now))) }
@@ -36,7 +36,7 @@ fn index_among(text: &[u8], class: Span, methods: &[Method], entry: &[u8]) -> Op
     None
 }
 
-/// How many methods of an item stand before the first that has this name; none where it is no class.
+/// Returns the index, among the methods of an item, of the first that has this name. `None` if the item is no class.
 fn index_in(text: &[u8], definition: &Definition, entry: &[u8]) -> Option<usize>
     ensures some { IfSome result (IsFirstAt (names_in text.now (definition_tree definition.now)) entry.now) }
     ensures none { IfNone result (Each (λ x. x ≢ entry.now) (names_in text.now (definition_tree definition.now))) }
@@ -47,7 +47,7 @@ fn index_in(text: &[u8], definition: &Definition, entry: &[u8]) -> Option<usize>
     }
 }
 
-/// How many methods an item has.
+/// Returns the number of methods of an item.
 fn methods_of(definition: &Definition) -> usize
     ensures { (text : List ℕ) → result ≡ length (names_in text (definition_tree definition.now)) }
 {
@@ -57,7 +57,7 @@ fn methods_of(definition: &Definition) -> usize
     }
 }
 
-/// How many methods stand before the first that has this name.
+/// Returns the index, among all methods of the text, of the first that has this name.
 pub(crate) fn entry_index(text: &[u8], tree: &Tree, entry: &[u8]) -> Option<usize>
     requires few { length (method_names text.now (program_tree tree.now)) < 2 ^ 32 }
     ensures some { IfSome result (IsFirstAt (method_names text.now (program_tree tree.now)) entry.now) }
@@ -73,7 +73,7 @@ pub(crate) fn entry_index(text: &[u8], tree: &Tree, entry: &[u8]) -> Option<usiz
     None
 }
 
-/// How an item is printed, if it is a struct.
+/// Adds the printed name of an item, if it is a struct.
 fn add_struct(
     alloc: Global,
     text: &[u8],
@@ -89,7 +89,7 @@ fn add_struct(
     Ok(())
 }
 
-/// How the structs of a text are printed, in order.
+/// Returns the printed names of the structs of a text, in order.
 pub(crate) fn struct_names(alloc: Global, text: &[u8], tree: &Tree) -> Result<Vec<String>, Memory>
     ensures { IfOk result (λ names. map string_bytes names.items ≡ struct_names text.now (program_tree tree.now)) }
 {

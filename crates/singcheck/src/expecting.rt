@@ -1,4 +1,4 @@
-//! Why a text is no program: with what it could have gone on.
+//! Why a text is no program: the tokens with which it could have gone on.
 
 ghost use Rattle.std.specs.Prelude.{◌≡◌, ◌++◌, ◌≤◌, IfOk, IfSome, OnOk, List, ℕ, codes, length, map, slice_get};
 ghost use Rattle.source.specs.Marks.{body_of};
@@ -17,10 +17,13 @@ use source::{Kind, Memory, Place, Span, Token, Tokens};
 use std::alloc::Global;
 use traces::{Explained, Line, is_asked};
 
-/// The first wrong token, which has this number, or the end, with the tokens that could have stood there and a brace that is likely not
-/// closed. None if another place is named.
+/// Explains the first wrong token, which has this number, or the end: lists the tokens that could have been there,
+/// and a brace that is likely not closed. `None` if another place is named.
 ///
-/// It takes the time of some 65 parses of the text. `Memory` is answered where a growth was refused.
+/// It takes the time of about 65 parses of the text.
+///
+/// # Errors
+/// `Memory` if out of memory.
 pub(crate) fn explain_at(
     alloc: Global,
     tokens: &Tokens,
@@ -43,7 +46,7 @@ pub(crate) fn explain_at(
     Ok(Some(Explained { finding, lines }))
 }
 
-/// The line that says that tokens of these kinds are expected there.
+/// Returns the line that lists the expected kinds of tokens at a place.
 fn expectation_line(alloc: Global, place: Place, kinds: &[Kind]) -> Result<Line, Memory>
     ensures { IfOk result (λ shown. line_model shown ≡ line place (expectation_of kinds.now)) }
 {
@@ -51,7 +54,7 @@ fn expectation_line(alloc: Global, place: Place, kinds: &[Kind]) -> Result<Line,
     Ok(Line { place, text })
 }
 
-/// Where the token with this number is, or the end.
+/// Returns the span of the token with this number. If there is none, it is an empty span at the end.
 fn span_at(tokens: &Tokens, number: usize) -> Span
     ensures { result ≡ wrong_span tokens.now.end (slice_get tokens.now.list.items number) }
 {
@@ -82,7 +85,7 @@ fn add_brace(
     Ok(())
 }
 
-/// The line that says that the brace there is not closed.
+/// Returns the line for a brace that is not closed.
 fn brace_line(alloc: Global, place: Place) -> Result<Line, Memory>
     ensures { IfOk result (λ shown. line_model shown ≡ line place (codes "{ is not closed")) }
 {
@@ -91,7 +94,8 @@ fn brace_line(alloc: Global, place: Place) -> Result<Line, Memory>
     Ok(Line { place, text })
 }
 
-/// The innermost brace that is open before the token with this number, if that begins a definition or a method, or is the end.
+/// Returns the innermost brace that is open before the token with this number, if that token begins a definition or a
+/// method or there is no such token.
 fn likely_brace(tokens: &Tokens, number: usize) -> Option<Span>
     requires within { number ≤ length tokens.now.list.items }
     ensures { result ≡ likely_brace tokens.now.list.items number }

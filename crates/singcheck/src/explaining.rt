@@ -23,12 +23,14 @@ use source::{Memory, Place, compare};
 use std::alloc::Global;
 use traces::{Explained, explain, show_faults};
 
-/// How many slots the table of rows has.
+/// The number of slots of the table of rows.
 const SLOTS: usize = 65_536;
 
-/// What is found in all methods, and why, in no order. If a place is named, only what is found there has a trace.
+/// Returns the findings of all methods with their traces, in no order. If a place is named, only findings there have
+/// a trace.
 ///
-/// `Memory` is answered where a growth was refused.
+/// # Errors
+/// `Memory` if out of memory.
 pub(crate) fn explain_methods(
     alloc: Global,
     program: &Program,
@@ -49,9 +51,10 @@ pub(crate) fn explain_methods(
     Ok(found)
 }
 
-/// What is found in all contracts, and edges that show it. If a place is named, only what is found there has lines.
+/// Returns the findings of all contracts with edges that show them. If a place is named, only findings there have lines.
 ///
-/// `Memory` is answered where a growth was refused.
+/// # Errors
+/// `Memory` if out of memory.
 pub(crate) fn explain_contracts(
     alloc: Global,
     resolved: &Resolved,
@@ -74,9 +77,10 @@ pub(crate) fn explain_contracts(
     Ok(found)
 }
 
-/// Findings with their lines in the order of a report, each finding once.
+/// Sorts findings with their lines in the order of a report and keeps each finding once.
 ///
-/// `Memory` is answered where a growth was refused.
+/// # Errors
+/// `Memory` if out of memory.
 pub(crate) fn explained_in_order(explained: Vec<Explained>) -> Result<Vec<Explained>, Memory>
     ensures same { IfOk result (λ listed. (f : FindingModel) → Contains (map (λ e. finding_model e.finding) listed.items) f
         ↔ Contains (map (λ e. finding_model e.finding) explained.items) f) }
@@ -89,7 +93,7 @@ pub(crate) fn explained_in_order(explained: Vec<Explained>) -> Result<Vec<Explai
     Ok(listed)
 }
 
-/// A line a finding with its trace under it, as they stand, and then their number.
+/// Returns a line for each finding with its trace below, in the given order, and then their number.
 pub(crate) fn explained_report(alloc: Global, listed: &[Explained]) -> Result<Vec<u8>, Memory>
     ensures { IfOk result (λ bytes. bytes.items ≡ explained_bytes (map explained_model listed.now)) }
 {

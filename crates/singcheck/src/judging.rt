@@ -1,4 +1,4 @@
-//! What a worker does with a method.
+//! The job of a worker.
 
 ghost use Rattle.std.specs.Prelude.{◌≡◌};
 ghost use Rattle.tasks.specs.Tasks.{task_program};
@@ -14,8 +14,8 @@ use source::Memory;
 use std::alloc::Global;
 use std::sync::Wait;
 
-/// What a worker does with a method: it judges it, and puts the verdict on the shelf. What comes of it is the verdict's receipt, or the
-/// verdict itself where the shelf has no room for it.
+/// A job on methods: it judges a method and puts the verdict on the shelf. Its result is the receipt, or the verdict
+/// itself if the shelf has no room for it.
 #[derive(Drop)]
 pub(crate) struct Judging<'a, R> {
     pub(crate) rt: &'a R,

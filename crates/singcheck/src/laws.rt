@@ -1,4 +1,4 @@
-//! Laws of the answers: they hold of every text, whatever a run does.
+//! Laws of the answers. They hold for every text, whatever a run does.
 
 ghost use Rattle.std.specs.Prelude.{◌≡◌, ℕ, List};
 ghost use Rattle.machine.specs.Outcomes.{QueueBounds};
@@ -29,7 +29,7 @@ use source::laws::{each_text_is_cut, one_cutting, one_fault};
 use syntax::{one_tree_a_spelling, tokens_are_parsed};
 use wellformed::laws::clean_methods_are_well_formed;
 
-/// A text has one answer of `bounds`, and one status.
+/// A text has at most one answer of `bounds`, with one status.
 pub fn one_answer()
     ensures bytes { (text a b : List ℕ) (s t : Status)
         → Answers text a s → Answers text b t → a ≡ b }
@@ -41,7 +41,7 @@ pub fn one_answer()
     one_tree_a_spelling();
 }
 
-/// A text has one answer of `check`, and one status, whatever workers and slots there are.
+/// A text has at most one answer of `check`, with one status, whatever the numbers of workers and slots.
 pub fn one_check()
     ensures bytes { (text a b : List ℕ) (s t : Status)
         → Checks text a s → Checks text b t → a ≡ b }
@@ -53,8 +53,8 @@ pub fn one_check()
     one_tree_a_spelling();
 }
 
-/// A text, an entry and a schedule have one answer of `replay`, and one status. They have none where there is no such entry, or where a
-/// line of the schedule is malformed.
+/// A text, an entry and a schedule have at most one answer of `replay`, with one status. They have none if there is
+/// no such entry or a line of the schedule is malformed.
 pub fn one_replay()
     ensures bytes { (entry lines text a b : List ℕ) (s t : Status)
         → Replays entry lines text a s → Replays entry lines text b t → a ≡ b }
@@ -73,7 +73,7 @@ pub fn one_replay()
     machine::laws::one_replay();
 }
 
-/// A text comes to one program, or to none (`one`), and that is what its items come to (`told`).
+/// A text yields at most one program (`one`), the one that its items yield (`told`).
 pub fn one_program()
     ensures one { (text : List ℕ) (p q : ProgramModel) → HasProgram text p → HasProgram text q → p ≡ q }
     ensures told { (text : List ℕ) (items : List ItemTree) (p : ProgramModel) → HasProgram text p → IsProgram text items
@@ -84,7 +84,7 @@ pub fn one_program()
     one_tree_a_spelling();
 }
 
-/// A text in whose text, names or contracts something is found comes to no program.
+/// A text with findings in its text, its names or its contracts yields no program.
 pub fn findings_or_program()
     ensures { (text : List ℕ) (found : List FindingModel) (p : ProgramModel) → AreFindings text found → HasProgram text p → ⊥ }
 {
@@ -93,8 +93,8 @@ pub fn findings_or_program()
     one_tree_a_spelling();
 }
 
-/// The program of a text is well formed (`formed`), each of its contracts is sound (`sound`), and a method of it that takes nothing has
-/// no parameter of the exchange heap (`bare`), whatever is found in its methods.
+/// Whatever is found in its methods, the program of a text is well formed (`formed`), each of its contracts is sound
+/// (`sound`), and none of its methods that takes nothing has a parameter of the exchange heap (`bare`).
 pub fn each_program_is_well_formed()
     ensures formed { (text : List ℕ) (p : ProgramModel) → HasProgram text p
         → AreWellFormed p }
@@ -105,7 +105,7 @@ pub fn each_program_is_well_formed()
     clean_methods_are_well_formed();
 }
 
-/// The contracts of what a text comes to have bounds: it is refuted that no bounds are theirs.
+/// The contracts of the program of a text have bounds, as a double negation.
 pub fn each_program_has_bounds()
     ensures { (text : List ℕ) (p : ProgramModel) → HasProgram text p → ((bound : QueueBounds) → AreBounds p bound → ⊥) → ⊥ }
 {
@@ -113,7 +113,8 @@ pub fn each_program_has_bounds()
     each_contract_is_judged();
 }
 
-/// Each text has an answer of `bounds` and one of `check`, so `Memory` is never the only one allowed.
+/// Each text has an answer of `bounds` and one of `check`, as a double negation, so `Memory` is never the only result
+/// allowed.
 pub fn each_text_is_answered()
     ensures bounds { (text : List ℕ)
         → ((bytes : List ℕ) (status : Status) → Answers text bytes status → ⊥) → ⊥ }
@@ -127,8 +128,9 @@ pub fn each_text_is_answered()
     each_method_has_a_verdict();
 }
 
-/// Each text, entry and schedule has an answer of `replay`, or there is no such entry, or a line of the schedule is malformed (`comes`).
-/// Where the entry and the events are there, the events come to something, which is printed (`ran`).
+/// Each text, entry and schedule has an answer of `replay`, or there is no such entry, or a line of the schedule is
+/// malformed (`comes`). If the entry exists and the schedule has events, these have a replay, which is printed
+/// (`ran`). Both are double negations.
 pub fn each_replay_is_answered()
     ensures comes { (entry lines text : List ℕ) → (ComesTo entry lines text → ⊥) → ⊥ }
     ensures ran { (entry lines text : List ℕ) (p : ProgramModel) (n : ℕ) (events : List Event)
@@ -145,7 +147,7 @@ pub fn each_replay_is_answered()
     machine::laws::events_have_a_replay();
 }
 
-/// The limits in digits.
+/// The limits, in digits.
 pub fn limits()
     ensures workers { MOST_WORKERS ≡ 64 }
     ensures slots { MOST_SLOTS ≡ 16777216 }

@@ -1,4 +1,4 @@
-//! What a call may ask for, and how much it reads.
+//! Limits of calls.
 
 use replays::MOST_SCHEDULE;
 
@@ -8,5 +8,5 @@ pub const MOST_WORKERS: usize = pool::MOST_WORKERS;
 /// The most slots of the table of rows that the workers share.
 pub const MOST_SLOTS: usize = intern::MOST_SLOTS;
 
-/// How many bytes of a schedule are read at most: one more than it may have.
+/// The most bytes of a schedule that are read: one more than it may have.
 pub const MAX_SCHEDULE_READ: usize = MOST_SCHEDULE + 1;

@@ -1,4 +1,4 @@
-//! The program of a text: the stage of its names, which gives its methods, and then that of its contracts.
+//! The program of a text: the stage of its names, which yields its methods, and then that of its contracts.
 
 ghost use Rattle.std.specs.Prelude.{◌<◌, ◌^◌, All, IfOk, length};
 ghost use Rattle.program.specs.Parts.{IsWhole};
@@ -18,23 +18,23 @@ use std::alloc::Global;
 use tree::Tree;
 use wellformed::well_formed_methods;
 
-/// A program whose names are resolved: its methods, and with them the contracts, which are not judged yet; and its tree.
+/// A program whose names are resolved: its methods, which include the contracts, not judged yet; and its tree.
 #[derive(Drop)]
 pub(crate) struct Named {
     pub(crate) methods: Methods,
     pub(crate) tree: Tree,
 }
 
-/// What the methods come to, once their contracts are judged.
+/// The methods after their contracts are judged.
 #[derive(Drop)]
 pub(crate) enum Built {
-    /// The methods, and what is wrong with the contracts.
+    /// The methods, and the findings of the contracts.
     Broken(Methods, Vec<Finding>),
-    /// Nothing is: the program.
+    /// No findings: the program.
     Program(Program),
 }
 
-/// The stages of a text before its methods.
+/// Runs the stages of a text before its methods.
 pub(crate) fn program_of(alloc: Global, text: &[u8]) -> Result<Stage<Built>, Memory>
     ensures { IfOk result (IsBuiltOf text.now) }
 {
@@ -46,11 +46,11 @@ pub(crate) fn program_of(alloc: Global, text: &[u8]) -> Result<Stage<Built>, Mem
         Stage::Found(findings) => return Ok(Stage::Found(findings)),
         Stage::Clean(named) => named,
     };
-    drop(tree); // the contracts are judged without it, which spares its memory
+    drop(tree); // frees its memory before the contracts are judged
     Ok(Stage::Clean(judged_program(alloc, methods)?))
 }
 
-/// The stage of the names. The methods need the tree no more, and it comes back with them.
+/// Runs the stage of the names. The tree is returned with the methods, which do not need it any more.
 pub(crate) fn named_methods(alloc: Global, tree: Tree, text: &[u8]) -> Result<Stage<Named>, Memory>
     requires { IsProgramOf text.now tree }
     ensures { IfOk result (IsNamed text.now tree) }
@@ -65,7 +65,7 @@ pub(crate) fn named_methods(alloc: Global, tree: Tree, text: &[u8]) -> Result<St
     }
 }
 
-/// The stage of the contracts, of a program whose methods are resolved.
+/// Runs the stage of the contracts for a program whose methods are resolved.
 pub(crate) fn judged_program(alloc: Global, methods: Methods) -> Result<Built, Memory>
     requires whole { All (λ c. IsWhole c.parts) (contracts_model methods) }
     requires few { length (contracts_model methods) < 2 ^ 32 }

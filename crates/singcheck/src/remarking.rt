@@ -1,4 +1,4 @@
-//! What is wrong with a text or its names, with what more is said of it.
+//! Findings of a text and its names, with their remarks.
 
 ghost use Rattle.std.specs.Prelude.{◌≡◌, ◌≢◌, ◌++◌, IfOk, OnOk, List, ℕ, map, option_map};
 ghost use Rattle.source.specs.Faults.{IsFault};
@@ -28,13 +28,14 @@ use syntax::{SyntaxFault, parse};
 use traces::{Explained, Line, is_asked};
 use tree::Tree;
 
-/// How many bytes of a text are looked through at most for all its nearest names.
+/// The most bytes of a text that are searched for all its nearest names together.
 const MOST_LOOKED_THROUGH: usize = 1 << 26;
 
-/// What is wrong with a text, its tokens or its names, each finding with what more is said of it, in no order. If a place is named, only
-/// what is found there has lines; a token that is not expected is left out then, if it stands elsewhere.
+/// Returns the findings of a text, its tokens or its names, each with its remark, in no order. If a place is named,
+/// only findings there have lines, and an unexpected token at another place is left out.
 ///
-/// `Memory` is answered where a growth was refused.
+/// # Errors
+/// `Memory` if out of memory.
 pub(crate) fn explain_text(
     alloc: Global,
     text: &[u8],
@@ -48,7 +49,7 @@ pub(crate) fn explain_text(
     }
 }
 
-/// The same, where these are the tokens of the text.
+/// Does the same, given the tokens of the text.
 fn explain_tokens(
     alloc: Global,
     text: &[u8],
@@ -61,7 +62,7 @@ fn explain_tokens(
 {
     match parse(alloc, &tokens) {
         Ok(tree) => {
-            drop(tokens); // the names are judged without them, which spares their memory
+            drop(tokens); // frees their memory before the names are judged
             explain_names(alloc, text, &tree, named)
         }
         Err(SyntaxFault::At(number)) => explain_wrong(alloc, &tokens, number, named),
@@ -69,7 +70,7 @@ fn explain_tokens(
     }
 }
 
-/// The first wrong token, which has this number, or the end, if it is asked for.
+/// Explains the first wrong token, which has this number, or the end. The list is empty if another place is named.
 fn explain_wrong(
     alloc: Global,
     tokens: &Tokens,
@@ -88,7 +89,7 @@ fn explain_wrong(
     Ok(found)
 }
 
-/// All mistakes in the names of a text.
+/// Explains all mistakes in the names of a text.
 fn explain_names(
     alloc: Global,
     text: &[u8],
@@ -108,14 +109,14 @@ fn explain_names(
     Ok(found)
 }
 
-/// For how many mistakes in the names of a text a nearest name is looked for. Each may take a way through the whole text, so these are
-/// fewer in a longer one.
+/// Returns for how many mistakes in the names of a text the nearest name is searched. Each search may go through the
+/// whole text, so a longer text has fewer.
 fn most_looked_for(text: &[u8]) -> usize {
     MOST_LOOKED_THROUGH / text.len().max(1)
 }
 
-/// A mistake in the names of a text, with what more is said of it if that is asked for: of a name that nothing declares only within the
-/// number for which a nearest name is looked for.
+/// Explains a mistake in the names of a text, with its remark if no other place is named. If `within` is false, a
+/// name that nothing declares has no remark, since its nearest name is not searched.
 fn explain_mistake(
     alloc: Global,
     text: &[u8],
@@ -140,7 +141,7 @@ fn explain_mistake(
     Ok(Explained { finding, lines })
 }
 
-/// What more is said of a mistake; of a name that nothing declares only if it is within the number for which a nearest name is looked for.
+/// Returns the remark of a mistake. If `within` is false, a name that nothing declares has none.
 fn remark_within(
     alloc: Global,
     text: &[u8],
@@ -157,7 +158,7 @@ fn remark_within(
     }
 }
 
-/// The first fault of a text.
+/// Explains the first fault of a text.
 fn explain_fault(
     alloc: Global,
     fault: TextFault,
@@ -173,7 +174,7 @@ fn explain_fault(
     Ok(found)
 }
 
-/// A finding with this remark, if there is one and it is asked for.
+/// Returns a finding with its remark, if there is one and no other place is named.
 fn explained_by(
     alloc: Global,
     finding: Finding,

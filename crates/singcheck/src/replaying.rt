@@ -25,22 +25,25 @@ use sound::laws::{empty_report_is_safe, runs_are_bounded};
 use source::Memory;
 use std::alloc::Global;
 
-/// Reads a program text and a schedule, and writes what the events of the schedule come to from an entry.
+/// Reads a program text and a schedule, and writes the replay of the schedule from an entry.
 ///
-/// The text is read first. Where its text, its names or its contracts have findings, the report of the first of these stages that has
-/// some is written, with status `Found`, and nothing is read of the schedule; what is found in methods is no bar. Else `Entry` is
-/// answered where no method is called `entry` (`Class.Method`), or where the first that is gives something or takes something, numbers
-/// included. Then the schedule is read, and `Schedule` names its first malformed line. Then the events are taken one after the other,
-/// from the beginning of the method, until one is no step. How many were steps, why it stopped and the world behind them are
-/// written, with status `Empty` where each event was a step, and `Found` where one was not.
+/// The text is read first. If its text, names or contracts have findings, the report of the first of these stages
+/// with findings is written, with status `Found`, and nothing is read of the schedule; findings in methods do not
+/// matter. Otherwise the entry is looked up, then the schedule is read, and then its events are taken one by one,
+/// from the beginning of the method, until one is no step. The number of steps, why the replay stopped, and the world
+/// after the last step are written, with status `Empty` if every event was a step, else `Found`.
 ///
-/// At most `MAX_READ` bytes of the text and `MAX_SCHEDULE_READ` of the schedule are read. The schedule is not touched unless the text has
-/// the entry, so a schedule that cannot be read takes the place of no report. `Read` and `Write` are answered only where that
-/// device failed, and `Memory` only where a growth was refused; nothing is written before the answer is known whole, and after `Write` a
-/// beginning of it went out.
+/// At most `MAX_READ` bytes of the text and `MAX_SCHEDULE_READ` of the schedule are read. The schedule is read only
+/// if the text has the entry, so an unreadable schedule never replaces a report.
 ///
-/// If `check` finds nothing in the text, no schedule ends with a fault. Whatever it finds in methods, no schedule ends with a send past a
-/// bound, and each queue is a walk of its contract.
+/// If `check` finds nothing in the text, no replay stops with a fault. Whatever it finds in methods, no replay stops
+/// with a send past a bound, and each queue is a walk of its contract.
+///
+/// # Errors
+/// `Entry` if no method is called `entry` (`Class.Method`), or if the first one that is gives something or takes
+/// something, numbers included. `Schedule` names the first malformed line. `Read` and `Write` only if that device
+/// failed, `Memory` only if out of memory. Nothing is written before the whole answer is known. After `Write`, a
+/// beginning of it was written.
 pub fn run_replay<R: Source, Q: Source, W: Sink>(
     alloc: Global,
     reader: &mut R,
@@ -78,7 +81,7 @@ pub fn run_replay<R: Source, Q: Source, W: Sink>(
     Ok(answer.status)
 }
 
-/// The answer to a text, an entry and a schedule.
+/// Returns the answer to a text, an entry and a schedule.
 fn answer_to<Q: Source>(
     alloc: Global,
     text: &[u8],
@@ -118,7 +121,7 @@ fn answer_to<Q: Source>(
     }
 }
 
-/// What a schedule comes to from there.
+/// Reads a schedule and replays it from an entry.
 fn run_schedule<Q: Source>(
     alloc: Global,
     begun: &Begun,
@@ -142,7 +145,7 @@ fn run_schedule<Q: Source>(
     }
 }
 
-/// What these events come to from there, line by line.
+/// Replays events from an entry and returns the lines of the replay.
 fn replay_events(alloc: Global, begun: &Begun, events: &[Event]) -> Result<Report, Memory>
     requires there { begun.now.method.0 < length (model_of begun.now.program).methods }
     ensures { IfOk result (λ r. (text entry schedule : List ℕ) → IsBegun text entry begun.now → IsSchedule schedule events.now
@@ -156,7 +159,7 @@ fn replay_events(alloc: Global, begun: &Begun, events: &[Event]) -> Result<Repor
     })
 }
 
-/// The status of a run that stopped so.
+/// Returns the status of a replay that stopped for this reason: `Found`, or `Empty` if there is none.
 fn status_of(halt: Option<Halt>) -> Status
     ensures { result ≡ stop_status halt }
 {

@@ -13,14 +13,14 @@ use rules::Program;
 use source::{Finding, Memory};
 use std::alloc::Global;
 
-/// What is answered for a text: the bytes of the report, and whether it has findings.
+/// The report of a text: its bytes, and whether it has findings.
 #[derive(Debug, Drop)]
 pub struct Report {
     pub bytes: Vec<u8>,
     pub status: Status,
 }
 
-/// The report of findings.
+/// Returns the report of findings, with status `Found`.
 pub(crate) fn finding_report(alloc: Global, findings: Vec<Finding>) -> Result<Report, Memory>
     ensures bytes { IfOk result (λ r. IsReport (map finding_model findings.items) r.bytes.items) }
     ensures status { IfOk result (λ r. r.status ≡ Status.Found) }
@@ -31,7 +31,7 @@ pub(crate) fn finding_report(alloc: Global, findings: Vec<Finding>) -> Result<Re
     })
 }
 
-/// The answer to a program in which nothing is found.
+/// Returns the report of a program without findings: `ok: C contracts, M methods`, with status `Empty`.
 pub(crate) fn clear(alloc: Global, program: &Program) -> Result<Report, Memory>
     ensures bytes { IfOk result (λ r. r.bytes.items
         ≡ clear_line (length (model_of program.now).contracts) (length (model_of program.now).methods)) }
@@ -47,7 +47,8 @@ pub(crate) fn clear(alloc: Global, program: &Program) -> Result<Report, Memory>
     })
 }
 
-/// The report: a line a finding, sorted by line, column, code and text, each once, and then their number.
+/// Returns the bytes of a report: a line for each finding, sorted by line, column, code and text, each once, and then
+/// their number.
 pub(crate) fn report_of(alloc: Global, findings: Vec<Finding>) -> Result<Vec<u8>, Memory>
     ensures { IfOk result (λ bytes. IsReport (map finding_model findings.items) bytes.items) }
 {
@@ -55,7 +56,7 @@ pub(crate) fn report_of(alloc: Global, findings: Vec<Finding>) -> Result<Vec<u8>
     report_bytes(alloc, &listed)
 }
 
-/// A line a finding, as they stand, and then their number.
+/// Returns a line for each finding, in the given order, and then their number.
 fn report_bytes(alloc: Global, findings: &[Finding]) -> Result<Vec<u8>, Memory>
     ensures { IfOk result (λ bytes. bytes.items ≡ report_bytes (map finding_model findings.now)) }
 {

@@ -17,11 +17,14 @@ use std::thread::Threads;
 
 /// Reads a program text, checks it, and writes its report.
 ///
-/// What `check` answers for the text is written: the report of the first stage that has findings, with status `Found`, or
-/// the line `ok: C contracts, M methods`, with status `Empty`. `Workers` and `Slots` are answered before anything is read. At
-/// most `MAX_READ` bytes are read, and the rest is left unread. `Read` and `Write` are answered only where that device failed,
-/// and `Memory` only where a growth or a thread was refused; nothing is written before the answer is known whole, and after `Write` a
-/// beginning of it went out.
+/// The bytes written are those that `check` returns: the report of the first stage that has findings, with status
+/// `Found`, or the line `ok: C contracts, M methods`, with status `Empty`. At most `MAX_READ` bytes are read, and the
+/// rest is left unread.
+///
+/// # Errors
+/// `Workers` or `Slots` if that number is out of range, before anything is read. `Read` and `Write` only if that
+/// device failed, `Memory` only if out of memory or if a thread could not be started. Nothing is written before the
+/// whole answer is known. After `Write`, a beginning of it was written.
 pub fn run_check<R: Threads + Wait + AllocGlobal + Sync, I: Source, O: Sink, G: Gate>(
     rt: &R,
     reader: &mut I,

@@ -9,9 +9,10 @@ use intern::{Rows, Seat};
 use source::Memory;
 use std::alloc::Global;
 
-/// A table of so many slots, and its first seat.
+/// Returns a table of `slots` slots and its first seat.
 ///
-/// `Memory` is answered where a growth was refused.
+/// # Errors
+/// `Memory` if out of memory.
 pub(crate) fn table(alloc: Global, slots: usize) -> Result<(Rows, Seat), Memory>
     ensures { IfOk result (λ made. IsSeatOf made.0 made.1) }
 {
@@ -21,9 +22,10 @@ pub(crate) fn table(alloc: Global, slots: usize) -> Result<(Rows, Seat), Memory>
     }
 }
 
-/// So many workers with seats at this table, and one more: each seat is split off the first.
+/// Returns `others + 1` workers with seats at this table. Each further seat is split off the first.
 ///
-/// `Memory` is answered where a growth was refused.
+/// # Errors
+/// `Memory` if out of memory.
 pub(crate) fn workers_at(
     alloc: Global,
     rows: &Rows,

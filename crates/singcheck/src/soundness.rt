@@ -1,4 +1,4 @@
-//! The stage of the contracts: each is sound, or something is wrong with it.
+//! The stage of the contracts.
 
 ghost use Rattle.std.specs.Prelude.{◌≡◌, ◌++◌, ◌<◌, ◌^◌, All, IfOk, OnOk, Some, length, map, slice_get};
 ghost use Rattle.program.specs.Parts.{ContractModel, IsWhole, contract_model};
@@ -10,7 +10,7 @@ use program::{ContractId, Resolved};
 use source::{Finding, Memory};
 use std::alloc::Global;
 
-/// The contracts that are sound, or what is wrong with the others.
+/// Returns the contracts as sound ones, or the findings of those that are not sound.
 pub(crate) fn judge_contracts(
     alloc: Global,
     resolved: &Resolved,
@@ -41,7 +41,7 @@ struct Judging {
     findings: Vec<Finding>,
 }
 
-/// Adds findings behind the others. The first ones stay where they are, which spares a copy of them.
+/// Appends findings. If there are none yet, the new ones are moved, which saves a copy.
 fn add_found(findings: &mut Vec<Finding>, mut found: Vec<Finding>) -> Result<(), Memory>
     ensures { OnOk result (findings.new.items ≡ findings.old.items ++ found.items) }
 {
@@ -53,7 +53,7 @@ fn add_found(findings: &mut Vec<Finding>, mut found: Vec<Finding>) -> Result<(),
     Ok(())
 }
 
-/// Adds a contract where it is sound, and else what is wrong with it.
+/// Adds a contract if it is sound, else its findings.
 fn judge(
     alloc: Global,
     resolved: &Resolved,

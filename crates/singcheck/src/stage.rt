@@ -1,12 +1,12 @@
-//! What a stage answers.
+//! Results of stages.
 
 use source::Finding;
 
-/// What a stage of a text answers. A later one only looks where the earlier ones found nothing.
+/// The result of the stages of a text so far. A later stage runs only if the earlier ones found nothing.
 #[derive(Drop)]
 pub(crate) enum Stage<T> {
-    /// The findings of the first stage that has some.
+    /// The findings of the first stage that has any.
     Found(Vec<Finding>),
-    /// None of them found anything: what the text comes to.
+    /// No stage found anything: what the text yields.
     Clean(T),
 }

@@ -19,14 +19,14 @@ use std::alloc::Global;
 use syntax::{SyntaxFault, parse};
 use tree::Tree;
 
-/// A resolved program, and its contracts, which are sound, in order of the text.
+/// A resolved program, and its sound contracts, in order of the text.
 #[derive(Drop)]
 pub(crate) struct Clean {
     pub(crate) resolved: Resolved,
     pub(crate) sounds: Vec<Sound>,
 }
 
-/// The stages of a text, its names and its contracts.
+/// Runs the stages of the text, its names and its contracts.
 pub(crate) fn run_stages(alloc: Global, text: &[u8]) -> Result<Stage<Clean>, Memory>
     ensures { IfOk result (IsStaged text.now) }
 {
@@ -36,7 +36,7 @@ pub(crate) fn run_stages(alloc: Global, text: &[u8]) -> Result<Stage<Clean>, Mem
     }
 }
 
-/// The first stage: the text and its tokens, which go with the end of it.
+/// Runs the first stage: lexes the text and parses its tokens, which are dropped at the end of it.
 pub(crate) fn parse_text(alloc: Global, text: &[u8]) -> Result<Stage<Tree>, Memory>
     ensures { IfOk result (IsParsed text.now) }
 {
@@ -49,7 +49,7 @@ pub(crate) fn parse_text(alloc: Global, text: &[u8]) -> Result<Stage<Tree>, Memo
     }
 }
 
-/// The finding of a fault.
+/// Returns the finding of a fault.
 pub(crate) fn fault_finding(alloc: Global, fault: TextFault) -> Result<Finding, Memory>
     ensures fault { OnOk result (fault ≢ TextFault.Memory) }
     ensures told { IfOk result (λ finding. finding_model finding ∷ [] ≡ fault_findings fault) }
@@ -60,7 +60,7 @@ pub(crate) fn fault_finding(alloc: Global, fault: TextFault) -> Result<Finding, 
     }
 }
 
-/// What the text of these tokens is.
+/// Parses tokens to a tree, or to the finding of the first wrong one.
 fn parse_tokens(alloc: Global, tokens: Tokens) -> Result<Stage<Tree>, Memory>
     requires few { length tokens.list.items < 2 ^ 32 }
     ensures { (text : List ℕ) → AreTokens text tokens.list.items → tokens.end ≡ place_of (body_of text)
@@ -73,7 +73,7 @@ fn parse_tokens(alloc: Global, tokens: Tokens) -> Result<Stage<Tree>, Memory>
     }
 }
 
-/// The finding of the token of that number, or of the end where there is none, as a list.
+/// Returns the finding of the token of that number, or of the end if there is none, as a list.
 fn wrong_at(alloc: Global, tokens: &Tokens, number: usize) -> Result<Vec<Finding>, Memory>
     ensures { (text : List ℕ) → tokens.now.end ≡ place_of (body_of text) → IfOk result (λ found. map finding_model found.items
         ≡ wrong_token text (slice_get tokens.now.list.items number) ∷ []) }
@@ -82,7 +82,7 @@ fn wrong_at(alloc: Global, tokens: &Tokens, number: usize) -> Result<Vec<Finding
     one(alloc, finding)
 }
 
-/// The finding of the token of that number, or of the end where there is none.
+/// Returns the finding of the token of that number, or of the end if there is none.
 pub(crate) fn finding_at(alloc: Global, tokens: &Tokens, number: usize) -> Result<Finding, Memory>
     ensures { (text : List ℕ) → tokens.now.end ≡ place_of (body_of text) → IfOk result (λ finding. finding_model finding
         ≡ wrong_token text (slice_get tokens.now.list.items number)) }
@@ -93,15 +93,15 @@ pub(crate) fn finding_at(alloc: Global, tokens: &Tokens, number: usize) -> Resul
     }
 }
 
-/// The token of that number, if there is one.
+/// Returns the token of that number, if there is one.
 pub(crate) fn token_at(tokens: &Tokens, number: usize) -> Option<Token>
     ensures { result ≡ slice_get tokens.now.list.items number }
 {
     tokens.list.get(number).copied()
 }
 
-/// The stages of names and contracts. The tree goes before the contracts are judged, or the findings of names are written: these can
-/// have its memory.
+/// Runs the stages of names and contracts. The tree is dropped before the contracts are judged or the findings of
+/// names are written, so these can reuse its memory.
 fn stage_names(alloc: Global, text: &[u8], tree: Tree) -> Result<Stage<Clean>, Memory>
     requires { IsProgramOf text.now tree }
     ensures { IfOk result (IsStaged text.now) }
@@ -116,7 +116,7 @@ fn stage_names(alloc: Global, text: &[u8], tree: Tree) -> Result<Stage<Clean>, M
     }
 }
 
-/// The stage of the contracts.
+/// Runs the stage of the contracts.
 fn stage_contracts(alloc: Global, resolved: Resolved) -> Result<Stage<Clean>, Memory>
     requires whole { All (λ c. IsWhole c.parts) (map contract_model resolved.contracts.items) }
     requires few { length resolved.contracts.items < 2 ^ 32 }
@@ -129,7 +129,7 @@ fn stage_contracts(alloc: Global, resolved: Resolved) -> Result<Stage<Clean>, Me
     }
 }
 
-/// A list of one finding.
+/// Returns a list of one finding.
 fn one(alloc: Global, finding: Finding) -> Result<Vec<Finding>, Memory>
     ensures { IfOk result (λ found. map finding_model found.items ≡ finding_model finding ∷ []) }
 {

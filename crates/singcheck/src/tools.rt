@@ -1,10 +1,10 @@
-//! What methods are judged with.
+//! What the check of methods needs.
 
 use shelf::Shelf;
 use std::alloc::Global;
 
-/// What methods are judged with: who starts threads and waits for them, memory, how many workers and slots are asked for, the gate that
-/// is entered before each method, and the shelf for the verdicts.
+/// What the check of methods needs: the runtime that starts threads and waits for them, the allocator, the requested
+/// numbers of workers and slots, the gate that is entered before each method, and the shelf for the verdicts.
 #[derive(Drop)]
 pub(crate) struct Tools<'a, R, G> {
     pub(crate) rt: &'a R,

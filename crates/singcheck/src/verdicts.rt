@@ -1,4 +1,4 @@
-//! What is found in the methods of a program.
+//! Findings in the methods of a program.
 
 ghost use Rattle.std.specs.Prelude.{◌≡◌, ◌<◌, ◌^◌, ◌++◌, All, IfOk, OnOk, length, map};
 ghost use Rattle.source.specs.Findings.{finding_model};
@@ -23,10 +23,11 @@ use std::alloc::Global;
 use std::sync::Wait;
 use std::thread::Threads;
 
-/// What is found in all methods, in no order. Workers share them out, and put their verdicts on the shelf. No thread is started for one
-/// method, nor for one worker.
+/// Returns the findings of all methods, in no order. Workers share the methods and put their verdicts on the shelf.
+/// With one method or one worker, no thread is started.
 ///
-/// `Memory` is answered where a growth or a thread was refused.
+/// # Errors
+/// `Memory` if out of memory or if a thread could not be started.
 pub(crate) fn analyse_methods<R: Threads + Wait + Sync, G: Gate>(
     tools: &Tools<'_, R, G>,
     program: &Program,
@@ -55,9 +56,10 @@ pub(crate) fn analyse_methods<R: Threads + Wait + Sync, G: Gate>(
     }
 }
 
-/// What is found in the methods of which these are the verdicts.
+/// Returns the findings of the methods that these workers are done with.
 ///
-/// `Memory` is answered where a growth was refused, also where the shelf had no room for a verdict.
+/// # Errors
+/// `Memory` if out of memory, or if the shelf had no room for a verdict.
 fn found_in(
     alloc: Global,
     shelf: &Shelf,

@@ -1,4 +1,4 @@
-//! Why something is found in a text.
+//! Explains the findings of a text.
 
 ghost use Rattle.std.specs.Prelude.{◌≡◌, ◌≢◌, ◌<◌, ◌^◌, ℕ, All, List, Option, IfErr, IfOk, IfSome, IsErrOf, OnOk, OnErr, length, map};
 ghost use Rattle.std.specs.Io.KnownBytes.{Keeps};
@@ -26,15 +26,18 @@ use source::{Finding, Memory, Place};
 use std::alloc::Global;
 use traces::Explained;
 
-/// Reads a program text, and writes what `check` reports of it, with a trace under each finding in a method: the choices of a shortest
-/// path through the method to where the finding is, and what the path does to the variables that the finding is about. Under a finding
-/// in a contract are edges that show it (`traces::show_faults`), under one of names or types what was asked and what was given, or the
-/// like (`remarks::remark`). If a place is named, only the findings at that place have lines.
+/// Reads a program text and writes the report of `check`, with lines that explain the findings.
 ///
-/// The lines of a trace are `  LINE:COL text`. The status is that of `check`. Methods are looked at one after another, by the calling
-/// thread. At most `MAX_READ` bytes are read, and the rest is left unread. `Read` and `Write` are answered only where that device failed,
-/// and `Memory` only where a growth was refused; nothing is written before the answer is known whole, and after `Write` a beginning of it
-/// went out.
+/// A finding in a method has a trace: the choices of a shortest path through the method to the finding, and what the
+/// path does to the variables that the finding is about. A finding in a contract has edges that show it
+/// (`traces::show_faults`), one of names or types has its remark (`remarks::remark`), such as what was asked for and
+/// what was given. If a place is named, only the findings at that place have lines. The lines are `  LINE:COL text`,
+/// and the status is that of `check`. The calling thread analyses the methods one by one. At most `MAX_READ` bytes
+/// are read, and the rest is left unread.
+///
+/// # Errors
+/// `Read` and `Write` only if that device failed, `Memory` only if out of memory. Nothing is written before the whole
+/// answer is known. After `Write`, a beginning of it was written.
 pub fn run_why<R: Source, W: Sink>(
     alloc: Global,
     reader: &mut R,
@@ -58,7 +61,7 @@ pub fn run_why<R: Source, W: Sink>(
     Ok(answer.status)
 }
 
-/// The answer to a text.
+/// Returns the answer to a text.
 fn why_of(alloc: Global, text: &[u8], named: Option<Place>) -> Result<Report, Memory>
     ensures { IfOk result (λ answer. Explains named text.now answer.bytes.items answer.status) }
 {
@@ -71,7 +74,7 @@ fn why_of(alloc: Global, text: &[u8], named: Option<Place>) -> Result<Report, Me
     }
 }
 
-/// The answer to a text with these findings before its contracts.
+/// Returns the answer to a text with these findings before its contracts.
 fn why_text(
     alloc: Global,
     text: &[u8],
@@ -83,13 +86,13 @@ fn why_text(
 {
     let explained = explain_text(alloc, text, named)?;
     if explained.is_empty() {
-        // a token that is not expected, at another place than the named one
+        // an unexpected token at another place than the named one
         return finding_report(alloc, findings);
     }
     why_noted(alloc, explained)
 }
 
-/// The answer to a text with these findings, which are all that its first stage with some has, each with its lines.
+/// Returns the answer to a text with these findings, which are all of its first stage with findings, each with its lines.
 fn why_noted(alloc: Global, explained: Vec<Explained>) -> Result<Report, Memory>
     ensures { IfOk result (λ answer. (named : Option PlaceModel) (text : List ℕ)
         → AreExplained named text (map explained_model explained.items) → Explains named text answer.bytes.items answer.status) }
@@ -101,7 +104,7 @@ fn why_noted(alloc: Global, explained: Vec<Explained>) -> Result<Report, Memory>
     })
 }
 
-/// The answer to a text whose contracts break conditions.
+/// Returns the answer to a text whose contracts break conditions.
 fn report_of_contracts(
     alloc: Global,
     resolved: &Resolved,
@@ -116,7 +119,7 @@ fn report_of_contracts(
     why_noted(alloc, explained)
 }
 
-/// The answer to a program with which nothing is wrong before its methods.
+/// Returns the answer to a program without findings before its methods.
 fn why_methods(alloc: Global, program: &Program, named: Option<Place>) -> Result<Report, Memory>
     requires few { length (model_of program.now).methods < 2 ^ 32 }
     ensures { IfOk result (λ answer. (text : List ℕ) → HasProgram text (model_of program.now)

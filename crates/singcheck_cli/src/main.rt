@@ -20,7 +20,7 @@ fn main(rt: HostRuntime) -> ExitCode {
     ExitCode::from(run(&rt, &mut output, &mut errors))
 }
 
-/// Does what the command line asks for, and answers the exit status.
+/// Does what the command line asks for and returns the exit status.
 fn run<R: AllocGlobal + Env + Files + Print + Eprint + Threads + Wait + Sync, O: Sink, E: Sink>(
     rt: &R,
     output: &mut O,
@@ -160,7 +160,7 @@ fn answer_why<R: AllocGlobal + Files, O: Sink, E: Sink>(
     status(answered, file, errors)
 }
 
-/// The exit status of a run.
+/// Returns the exit status of a run, after writing the line of its fault, if it failed.
 fn status<E: Sink>(answered: Result<Status, RunFault>, file: &str, errors: &mut E) -> u8 {
     match answered {
         Ok(Status::Empty) => 0,

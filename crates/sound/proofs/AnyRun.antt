@@ -55,7 +55,7 @@ use Rattle.sound.proofs.Trees.{graphs_fit}
 use Rattle.machine.specs.Instructions.{value_tests, returns, outcome_from, exchanges}
 use Rattle.machine.proofs.ChangeLemmas.{eqb_same, true≢false}
 
--- What is asked of an instruction, whatever is found: a new block is no endpoint, and the contract of a new channel is there.
+-- required of an instruction, whatever is found: a new block is no endpoint, and the contract of a new channel exists
 abbrev pub IsMadeWell : ProgramModel → MethodModel → Instruction → Type 0
 IsMadeWell p m (New v arguments next) = is_end (type_at m.variables v.variable.0) ≡ false
 IsMadeWell p m (Act (NewChannel c) next) = (x : ContractModel) × (slice_get p.contracts c.contract.0 ≡ Some x)
@@ -223,7 +223,7 @@ short longer p bound sound bs channels a c side live =
     let l2 = length-map (block_at bs a).queue (λ (m : MessageHeld). m.message) in
     omega arith
 
--- a graph that fits makes well
+-- an instruction that fits makes well
 fit_made : (p : ProgramModel) (m : MethodModel) (scope : ScopeAt) (point : ℕ) (i : Instruction) → IsFit p m scope point i → IsMadeWell p m i
 fit_made p m scope point (New v arguments next) fit =
     ap (λ (o : Option VariableModel). is_end (option_map_or (λ x. x.ty) o no_type)) fit.there ∙ fit.block
@@ -237,7 +237,7 @@ made_well p graphs = record {
       fit_made p m g.scope point i (g.fits point i at);
 }
 
--- in every run queues are walks, and no send passes the bound of a queue
+-- in every run queues are walks, and no send exceeds the bound of a queue
 pub runs_are_bounded : HeldAlways → NeverLonger → (p : ProgramModel) (bound : QueueBounds)
     → AreWellFormed p → AreSound p → AreBounds p bound
     → (n : ℕ) (w : World) → Run p bound n w → IsBounded p bound w

@@ -1,4 +1,4 @@
--- The contracts of a program, from contracts that are sound by their type.
+-- The contracts of a program are whole and sound: they have the parts of contracts whose type keeps them sound.
 use Rattle.std.proofs.Common.{◌≡◌, ℕ, zero, suc, ◌<◌, List, [], ◌∷◌, Some, length, map, sym, ap, ◌∙◌, subst, arith, inl, inr, ⊎_elim}
 use Rattle.std.specs.Prelude.{◌⊎◌, Contains, get_or, slice_get}
 use Rattle.std.specs.Coded.{le_prop}
@@ -29,7 +29,7 @@ once_more xs x y other none c = by c.0 c.1 c.2
     by zero short is = other is
     by (suc k) short is = none (k, omega arith, is)
 
--- whether a list has an element, where it is known of two whether they are the same
+-- whether a list contains an element, if equality of elements is decidable
 has : {X : Type 0} → ((a b : X) → Decided (a ≡ b)) → (xs : List X) (x : X) → Decided (Contains xs x)
 has same [] x = inr (λ c. let short = c.1 in omega arith)
 has same (y ∷ xs) x =
@@ -51,7 +51,7 @@ is_so : {A : Type 0} → Decided A → ((A → ⊥) → ⊥) → A
 is_so (inl a) twice = a
 is_so (inr never) twice = absurd (twice never)
 
--- What is whole, and not known how, is whole: each of its facts can be looked up.
+-- From the bare fact that parts are whole, the proof is found again: each part of it can be looked up.
 pub whole_of : (parts : Parts) → ∥ IsWhole parts ∥₁ → IsWhole parts
 whole_of parts t = record {
   first = is_so (has same_state (state_ids parts) parts.first) (λ no. ∥∥₁_elim t no_two (λ w. no w.first));
@@ -65,7 +65,7 @@ whole_of parts t = record {
   numbered = λ k d short. ∥∥₁_elim t le_prop (λ w. w.numbered k d short);
 }
 
--- a contract of a program, where each has a sound one of its parts
+-- a contract is whole and sound if all contracts have the parts of sound ones
 sound_at : (sounds : List Sound) (contracts : List ContractModel) (n : ℕ) (c : ContractModel)
     → map sound_parts sounds ≡ map (λ (x : ContractModel). x.parts) contracts → slice_get contracts n ≡ Some c
     → ∥ IsWhole c.parts ∥₁ × IsSound c.parts
@@ -85,7 +85,7 @@ all_sound p sounds same = record {
   sound = λ n c there. (sound_at sounds p.contracts n c same there).1;
 }
 
--- what is asked of contracts, as the proofs have it
+-- the requirements on contracts, in the form that the proofs use
 pub sound_program : (p : ProgramModel) (bound : QueueBounds) → AreSound p → AreBounds p bound → IsSoundProgram p bound
 sound_program p bound sound bounds = record {
   whole = λ n c there. whole_of c.parts (sound.whole n c there);

@@ -37,7 +37,7 @@ use Rattle.machine.specs.Frames.{method_at, instruction_at}
 use Rattle.machine.specs.World.{MessageHeld, Block, Frame, World, block_at, stack_at, read, is_queue, owns, is_freed_at, cut_off, let_go}
 use Rattle.sound.specs.Operands.{stateless}
 
--- ---- what a leaf says of an address
+-- ---- when a leaf is right for an address
 abbrev pub IsOn : List Block → HeapType → ℕ → Leaf → Type 0
 IsOn bs k a leaf.Nothing = ⊥
 IsOn bs k a leaf.Block = is_end k ≡ false
@@ -49,7 +49,7 @@ pub record HasLeaf (bs : List Block) (k : HeapType) (a : ℕ) (l : Leaf) : Type 
   pub ty : stateless (block_at bs a).ty ≡ stateless k
   pub state : IsOn bs k a l
 
--- none, and nothing; or an address of which the leaf holds
+-- no address and the leaf Nothing, or an address for which the leaf is right
 abbrev pub LeafFits : List Block → HeapType → Option ℕ → Leaf → Type 0
 LeafFits bs k None l = l ≡ leaf.Nothing
 LeafFits bs k (Some a) l = HasLeaf bs k a l
@@ -59,12 +59,12 @@ pub record RowFits (bs : List Block) (variables : List VariableModel) (vs : List
   pub row_long : length row ≡ length variables
   pub each : (v : ℕ) (x : VariableModel) → slice_get variables v ≡ Some x → LeafFits bs x.ty (read vs v) (leaf_at row v)
 
--- ---- who has what; an address that is lent counts where it was lent to
+-- ---- who has what; a lent address counts in the frame to which it was lent
 abbrev pub one_at : ℕ → Option ℕ → ℕ
 one_at a None = 0
 one_at a (Some b) = one_if (b == a)
 
--- in how many of these variables an address stands
+-- the number of these variables that hold an address
 abbrev pub standing : ℕ → List (Option ℕ) → ℕ
 standing a [] = 0
 standing a (x ∷ xs) = one_at a x + standing a xs
@@ -77,7 +77,7 @@ abbrev pub call_arguments : Option Instruction → List Argument
 call_arguments (Some (Call place method arguments target next)) = arguments
 call_arguments _ = []
 
--- what a waiting frame has, without what it has given to the one above
+-- the variables of a waiting frame, without those that it gave to the one above
 abbrev pub kept_back : ProgramModel → Frame → List (Option ℕ)
 kept_back p g = let_go g.variables (as_claimed (call_arguments (instruction_at p g)))
 
@@ -97,7 +97,7 @@ pub record TopFits (p : ProgramModel) (bs : List Block) (f : Frame) : Type 0 whe
   pub reached : Reached (outcome p f.method) (entry_of p f.method) (f.point, row)
   pub fits : RowFits bs m.variables f.variables row
 
--- a variable that was lent: the address that the parameter has, and its leaf before the call, the declared one or cut off
+-- a lent variable and its parameter hold the same address; its leaf before the call is the declared one or cut off
 pub record IsLent (bs : List Block) (k : HeapType) (mine theirs : Option ℕ) (l : Leaf) : Type 0 where
   pub at : ℕ
   pub within : at < length bs
@@ -109,7 +109,7 @@ abbrev pub with_first : (Argument → Type 0) → (List Argument → Type 0) →
 with_first P Q [] = ⊥
 with_first P Q (a ∷ arguments) = P a × Q arguments
 
--- the arguments of a call, by the variables of the callee and what they have
+-- the arguments of a call, matched with the variables of the callee and what they have
 abbrev pub by_role : Role → Type 0 → Type 0 → Type 0 → Type 0
 by_role role.Local P Q R = P
 by_role role.Lent P Q R = Q
@@ -141,7 +141,7 @@ pub record WaitsFor (p : ProgramModel) (bs : List Block) (g above : Frame) : Typ
   pub lent : AreLent bs g.variables before callee.variables above.variables arguments
   pub long : length g.variables ≡ length m.variables
 
--- the last frame has nothing lent, and gives nothing
+-- the last frame has no lent parameters and returns nothing
 pub record IsLast (p : ProgramModel) (f : Frame) : Type 0 where
   pub m : MethodModel
   pub there : method_at p f.method ≡ Some m
@@ -165,7 +165,7 @@ abbrev pub in_queue : ℕ → List MessageHeld → ℕ
 in_queue x [] = 0
 in_queue x (m ∷ ms) = standing_in x m.payload + in_queue x ms
 
--- addresses of these types, each as it is declared
+-- addresses of these types, each as declared
 abbrev pub AreDeclared : List Block → List HeapType → List ℕ → Type 0
 AreDeclared bs [] [] = Unit {0}
 AreDeclared bs (k ∷ types) (a ∷ given) = HasLeaf bs k a (declared_leaf k) × AreDeclared bs types given
@@ -175,13 +175,13 @@ abbrev pub AreBrought : ProgramModel → List Block → List MessageHeld → Typ
 AreBrought p bs queue = Each (λ m. AreDeclared bs (payload_types p m.message) m.payload) queue
 
 -- ---- fields
--- the fields of each block that is not freed hold what they are declared with
+-- the fields of each block that is not freed hold addresses as declared
 abbrev pub FieldsDeclared : ProgramModel → List Block → Type 0
 FieldsDeclared p bs = (a : ℕ) → a < length bs → is_freed_at bs a ≡ false
     → AreDeclared bs (field_types p.structs (block_at bs a).ty) (block_at bs a).fields
 
 -- ---- channels
--- an end that lives is as two ends say
+-- an end that is not freed has the state and the queue of its side
 pub record IsEndOf (ends : Ends) (side : Side) (b : Block) : Type 0 where
   pub state : ends.state (sign_from side) ≡ record { 0 = b.state }
   pub queue : map (λ n. n.0) (ends.queue (sign_to side)) ≡ map (λ m. m.message) b.queue
@@ -214,14 +214,14 @@ pub record ChannelsFit (p : ProgramModel) (bs : List Block) : Type 0 where
       → ChannelFits p bs a c
   pub exp : (a c : ℕ) → a < length bs → stateless (block_at bs a).ty ≡ Endpoint record { 0 = c } Exp record { 0 = 0 } → IsPeer bs a c
 
--- what holds of the blocks of every run, whatever its verdicts
+-- what holds of the blocks in every run, whatever its verdicts
 pub record BlocksFit (p : ProgramModel) (bs : List Block) : Type 0 where
   pub channels : ChannelsFit p bs
   pub queues : (a x : ℕ) → in_queue x (block_at bs a).queue ≡ one_if (is_queue (block_at bs x).owner a)
   pub held : FieldsHold bs
 
--- ---- what is asked of contracts
--- contracts that are sound, and bounds that no walk passes
+-- ---- requirements on contracts
+-- contracts are sound, and their bounds are not exceeded by any walk
 pub record IsSoundProgram (p : ProgramModel) (bound : QueueBounds) : Type 0 where
   pub whole : (c : ℕ) (x : ContractModel) → slice_get p.contracts c ≡ Some x → IsWhole x.parts
   pub sound : (c : ℕ) (x : ContractModel) → slice_get p.contracts c ≡ Some x → IsSound x.parts
@@ -241,7 +241,7 @@ pub record Holds (p : ProgramModel) (w : World) : Type 0 where
 pub blocks_fit : (p : ProgramModel) (w : World) → Holds p w → BlocksFit p w.blocks
 blocks_fit p w h = record { channels = h.channels; queues = h.queues; held = h.held }
 
--- what is cut off stays so
+-- what is cut off remains cut off
 pub record StaysCutOff (bs bs' : List Block) : Type 0 where
   pub long : length bs ≤ length bs'
   pub each : (a : ℕ) → a < length bs → cut_off bs a ≡ true → cut_off bs' a ≡ true

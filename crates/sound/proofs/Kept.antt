@@ -1,4 +1,4 @@
--- What a step of one frame leaves of the others.
+-- What a step of one frame preserves of the others.
 use Rattle.std.proofs.Common.{◌≡◌, ◌≢◌, ◌==◌, ℕ, suc, ◌+◌, ◌<◌, true, false, List, [], ◌∷◌, Some, None, length, refl, sym, ap, ◌∙◌, subst}
 use Rattle.std.proofs.Common.{arith, inl, inr, ⊎_elim, set}
 use Rattle.std.proofs.lemmas.Bool.{cases_eq}
@@ -34,7 +34,7 @@ use Rattle.machine.proofs.CountLemmas.{one_or_none}
 use Rattle.machine.proofs.HeldExchange.{one_if_true}
 use Rattle.machine.proofs.ChangeLemmas.{eqb_same, true≢false}
 
--- the block stays what it is, but for an endpoint that is cut off then
+-- the block still has its type and its state, except that an endpoint may be cut off now
 pub record IsKept (bs bs' : List Block) (a : ℕ) : Type 0 where
   pub there : a < length bs'
   pub ty : (block_at bs' a).ty ≡ (block_at bs a).ty
@@ -125,7 +125,7 @@ pub lent_of : (variables : List VariableModel) (v : ℕ) (x : VariableModel) →
     → option_map_or (λ y. is_lent_role y.role) (slice_get variables v) false ≡ is_lent_role x.role
 lent_of variables v x there = ap (λ (o : Option VariableModel). option_map_or (λ y. is_lent_role y.role) o false) there
 
--- a variable that is not lent takes something else
+-- a variable that is not lent is overwritten
 pub lent_stays_set : (variables : List VariableModel) (vs : List (Option ℕ)) (v : ℕ) (y : Option ℕ)
     → option_map_or (λ y. is_lent_role y.role) (slice_get variables v) false ≡ false → LentStays variables vs (set vs v y)
 lent_stays_set variables vs v y own = record {
@@ -202,7 +202,7 @@ stack_kept p bs bs' (f ∷ rest) cut kept h = (
   rest_kept p bs bs' f rest cut (λ a some within. kept a (omega arith) within) h.1,
 )
 
--- the frame above goes on in its method, and its lent parameters stay
+-- the frame above goes on in its method, and its lent parameters are unchanged
 pub rest_above : (p : ProgramModel) (bs : List Block) (above above' : Frame) (m : MethodModel) (rest : List Frame)
     → method_at p above.method ≡ Some m → above'.method ≡ above.method → LentStays m.variables above.variables above'.variables
     → RestFits p bs above rest → RestFits p bs above' rest
@@ -258,11 +258,11 @@ pub occurs_standing : (xs : List ℕ) (x : ℕ) → occurs xs x ≡ standing_in 
 occurs_standing [] x = refl
 occurs_standing (y ∷ xs) x = ap (λ (n : ℕ). one_if (y == x) + n) (occurs_standing xs x)
 
--- a block that is inside another, as what a field holds
+-- a block that is directly inside another, so that a field holds it
 abbrev pub LiesInside : List Block → ℕ → Type 0
 LiesInside bs x = (b : ℕ) × (is_inside (block_at bs x).owner b ≡ true)
 
--- blocks of which those inside others are kept, and fields stay
+-- blocks inside others are kept, and fields are unchanged
 pub record SameFields (p : ProgramModel) (bs bs' : List Block) : Type 0 where
   pub cut : StaysCutOff bs bs'
   pub kept : AreKept bs bs' (LiesInside bs)
@@ -270,7 +270,7 @@ pub record SameFields (p : ProgramModel) (bs bs' : List Block) : Type 0 where
   pub lives : (a : ℕ) → a < length bs → is_freed_at bs' a ≡ false → is_freed_at bs a ≡ false
   pub fields : (a : ℕ) → a < length bs → is_freed_at bs' a ≡ false → (block_at bs' a).fields ≡ (block_at bs a).fields
 
--- the fields of a block that was there are still as they are declared
+-- the fields of a block that existed before are still as declared
 pub fields_kept : (p : ProgramModel) (bs bs' : List Block) (a : ℕ) → FieldsHold bs → SameFields p bs bs' → FieldsDeclared p bs → a < length bs
     → is_freed_at bs' a ≡ false → AreDeclared bs' (field_types p.structs (block_at bs' a).ty) (block_at bs' a).fields
 fields_kept p bs bs' a held same h within lives =
@@ -284,13 +284,13 @@ fields_kept p bs bs' a held same h within lives =
     ) short)
     (h a within (same.lives a within lives))))
 
--- all of them, where there is no block more
+-- if no block is new, the fields of all blocks are still as declared
 pub all_fields_kept : (p : ProgramModel) (bs bs' : List Block) → FieldsHold bs → SameFields p bs bs' → length bs' ≡ length bs
     → FieldsDeclared p bs → FieldsDeclared p bs'
 all_fields_kept p bs bs' held same long h a within lives = fields_kept p bs bs' a held same h (omega arith) lives
 
 -- ---- one frame goes on
--- what a frame leaves behind, by its new variables and the new blocks: what it did not have is kept, and what it has is counted
+-- a frame goes on with new variables and blocks: what it did not have is kept, and what it has is counted
 pub record GoesOn (p : ProgramModel) (w : World) (self : ℕ) (f : Frame) (m : MethodModel) (vs' : List (Option ℕ))
     (bs' : List Block) : Type 0 where
   pub lent : LentStays m.variables f.variables vs'
@@ -308,7 +308,7 @@ pub record GoesOn (p : ProgramModel) (w : World) (self : ℕ) (f : Frame) (m : M
 abbrev pub went : Frame → ℕ → List (Option ℕ) → Frame
 went f next vs' = record { method = f.method; point = next; variables = vs' }
 
--- the world in which the frame went on
+-- the world after the frame went on
 abbrev pub on_world : World → ℕ → Frame → ℕ → List (Option ℕ) → List Frame → List Block → World
 on_world w self f next vs' rest bs' = record { processes = set w.processes self (went f next vs' ∷ rest); blocks = bs' }
 
@@ -333,7 +333,7 @@ goes_on p w self f rest m next vs' row' bs' h is there below reached fits g = re
     away : (q : ℕ) → q ≢ self → stack_at (set w.processes self (went f next vs' ∷ rest)) q ≡ stack_at w.processes q
     away q n = get_or-set_other w.processes self q ((went f next vs') ∷ rest) [] n
 
-    -- an address that is counted for the process is counted at most once
+    -- an address is counted for the process at most once
     once : (a : ℕ) → standing a f.variables + waiting p a rest ≡ one_if (owns w.blocks self a)
     once a = sym (ap (held p a) is) ∙ h.own self a
 

@@ -1,4 +1,4 @@
--- Parameters among variables, the checks of what is given, one by one, and what a variable has in its fields.
+-- The parameters among variables, the checks of each argument, and the types of a variable's fields.
 use Rattle.std.proofs.Common.{◌≡◌, [], ap}
 use Rattle.std.specs.Prelude.{ℕ, List, None, Option, Some, flat_map, map, slice_get, zip}
 use Rattle.std.specs.Option.{option_map_or}
@@ -20,29 +20,29 @@ use Rattle.rows.specs.declared.row.Leaf.{Leaf}
 abbrev pub parameters_of : List VariableModel → List VariableModel
 parameters_of variables = filter (λ v. is_parameter v.role) variables
 
--- and what they hold
+-- their types
 abbrev pub types_among : List VariableModel → List HeapType
 types_among variables = map (λ v. v.ty) (parameters_of variables)
 
 module _ (m : MethodModel) where
-  -- the checks of arguments for parameters of these types, but that none is given twice
+  -- the checks of arguments for parameters of these types, except that none is given twice
   abbrev pub each_argument : List Leaf → List HeapType → List Argument → List Check
   each_argument row types arguments = flat_map (λ x. argument_checks m row x.0 x.1) (zip types arguments)
 
-  -- likewise for what goes into a message or the fields of a new block
+  -- the same for what goes into a message or the fields of a new block
   abbrev pub each_taken : List Leaf → (List ℕ → Place → FindingModel) → List HeapType → List Mention → List Check
   each_taken row wrong types given = flat_map (λ x. taken_checks m row wrong x.0 x.1) (zip types (map payload given))
 
-  -- what a variable holds that is there
+  -- the type of a variable that exists
   pub type_known : (v : ℕ) (x : VariableModel) → slice_get m.variables v ≡ Some x → type_of m v ≡ Some x.ty
   type_known v x there = ap (λ (o : Option VariableModel). option_map_or (λ y. Some y.ty) o None) there
 
-  -- what its block has in its fields that own
+  -- the types of its owning fields
   pub fields_known : (p : ProgramModel) (v : ℕ) (x : VariableModel) → slice_get m.variables v ≡ Some x
       → fields_of p m v ≡ field_types p.structs x.ty
   fields_known p v x there = ap (λ (o : Option HeapType). option_map_or (λ k. field_types p.structs k) o []) (type_known v x there)
 
-  -- what one of them holds
+  -- the type of one of these fields
   pub field_known : (p : ProgramModel) (v field : ℕ) (x : VariableModel) → slice_get m.variables v ≡ Some x
       → field_of p m v field ≡ slice_get (field_types p.structs x.ty) field
   field_known p v field x there = ap (λ (types : List HeapType). slice_get types field) (fields_known p v x there)

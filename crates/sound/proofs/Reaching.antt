@@ -47,7 +47,7 @@ use Rattle.sound.proofs.Lists.{each_all, each_append, each_contains, each_flat, 
 use Rattle.sound.proofs.Parameters.{field_known}
 use Rattle.machine.proofs.ChangeLemmas.{true≢false}
 
--- the case that is found stands among the cases
+-- the case that is found is one of the cases
 pub case_is : (P : EntranceModel → Type 0) (cases : List EntranceModel) (v : ℕ) (n : Option ℕ) (c : EntranceModel) → Each P cases
     → case_for cases v n ≡ Some c → P c × (c.endpoint.variable.0 ≡ v) × (awaits c.awaited n ≡ true)
 case_is P [] v n c h e = absurd (cc)
@@ -83,7 +83,7 @@ back_none m row place (u ∷ gone) v own h has = ⊎_elim
     (λ n. back_none m row place gone v own.1 h.1 (sym (ap (λ (b : Bool). b || is_among gone v) n) ∙ has)) (cases_Bool (u == v))
 
 module _ (p : ProgramModel) (m : MethodModel) (scope : (point variable : ℕ) → Bool) where
-  -- nothing is out of scope
+  -- a variable out of scope has nothing
   abbrev NoneOut : Pair → Type 0
   NoneOut x = (v : ℕ) → scope x.0 v ≡ false → leaf_at x.1 v ≡ leaf.Nothing
 
@@ -105,7 +105,7 @@ module _ (p : ProgramModel) (m : MethodModel) (scope : (point variable : ℕ) �
   claimed_out : (to : ℕ) (row : List Leaf) (arguments : List Argument) → NoneOut (to, row) → NoneOut (to, after_claims row arguments)
   claimed_out to row arguments h v out = row_still row arguments v (h v out)
 
-  -- a variable that has something is in scope, and stays there
+  -- a variable that has something is in scope, and remains so
   owned_in : (from to v : ℕ) (row : List Leaf) → KeepsScope scope from to [] → NoneOut (from, row) → is_owned row v ≡ true → scope to v ≡ true
   owned_in from to v row k h owned =
       ⊎_elim (λ inside. ⊎_elim (λ still. still) (λ g. absurd (true≢false g refl)) (k.each v inside))
@@ -165,7 +165,7 @@ module _ (p : ProgramModel) (m : MethodModel) (scope : (point variable : ℕ) �
       (λ d. received_in from row cases e.variable.0 d h fits owned)))
       (closed_in from row cases e.variable.0 h fits owned)
 
-  -- no step brings something out of scope
+  -- after each step a variable out of scope has nothing
   step_in : (from : ℕ) (row : List Leaf) (i : Instruction) (all : List Pair) → IsFit p m scope from i → NoneOut (from, row)
       → instruction_outcome p m i row ≡ Goes all → Each NoneOut all
   step_in from row (Act (Use v) next) all fit h e = let k =

@@ -1,4 +1,4 @@
--- What is laid for simple statements, calls, starts and sends is fit: one scope has all of it.
+-- What is laid for simple statements, calls, starts and sends fits: all of it has one scope.
 use Rattle.std.proofs.Common.{◌≡◌, ℕ, ◌+◌, ◌<◌, true, false, List, [], ◌∷◌, Some, None, length, map, sym, ap, ◌∙◌, subst, inl, inr, ⊎_elim}
 use Rattle.std.specs.Prelude.{Option, slice_get, IsSomeAnd, IfSome}
 use Rattle.std.proofs.lemmas.Option.{slice_get_within}
@@ -31,7 +31,7 @@ use Rattle.sound.proofs.Scopes.{Grown, in_scope, own_gone, scope_parted}
 use Rattle.rules.proofs.EndLemmas.{each_at}
 
 module _ (p : ProgramModel) (m : MethodModel) (well : IsWellFormed p m) where
-  -- a statement of the method, where these variables are the last in scope
+  -- the setting of a statement in which these variables are the last in scope
   abbrev pub around : (exit again here : Option VarId) → Setting
   around exit again here = record {
     program = p;
@@ -45,16 +45,16 @@ module _ (p : ProgramModel) (m : MethodModel) (well : IsWellFormed p m) where
   abbrev pub here_fits : Lays → Option VarId → Option VarId → (ScopeAt → Type 0) → ℕ → ℕ → Type 0
   here_fits a before after Outside from next = LaysFit p m a (in_scope m before) (in_scope m after) Outside from next
 
-  -- what a `break` and a `continue` ask of where they lead
+  -- what a `break` and a `continue` require of the points to which they lead
   abbrev pub Out : (exit again : Option VarId) (x a : ℕ) → ScopeAt → Type 0
   Out exit again x a scope = Within (in_scope m exit) (scope x) × Within (in_scope m again) (scope a)
 
-  -- from a point of this scope to one that has all of it
+  -- from a point of this scope to one where all of it is in scope
   pub keeps_here : (scope : ScopeAt) (from to : ℕ) (here : Option VarId) → scope from ≡ in_scope m here → Within (in_scope m here) (scope to)
       → KeepsScope scope from to []
   keeps_here scope from to here is w = keeps_within p m scope from to (in_scope m here) is w
 
-  -- a variable of the scope, whose number is one of the method's
+  -- a variable of the method that is in a setting is in its scope
   inside : (exit again here : Option VarId) (v : VarId) → v.0 < length m.variables → IsIn (around exit again here) v
       → in_scope m here v.0 ≡ true
   inside exit again here v short leads = leads_in m well.nested here v short leads
@@ -169,7 +169,7 @@ module _ (p : ProgramModel) (m : MethodModel) (well : IsWellFormed p m) where
         covers = λ v e. subst (λ (s : Option VarId). in_scope m s v ≡ true) (sym wf.1) (sym (ap (λ (t : OneScope). t v) is) ∙ e);
       })
 
-  -- both in one scope
+  -- two pieces in one scope
   pub both_here : (a b : Lays) (here : Option VarId) (Outside : ScopeAt → Type 0)
       → ((from next : ℕ) → here_fits a here here Outside from next) → ((from next : ℕ) → here_fits b here here Outside from next)
       → (from next : ℕ) → here_fits (both a b) here here Outside from next
@@ -196,7 +196,7 @@ module _ (p : ProgramModel) (m : MethodModel) (well : IsWellFormed p m) where
       }))
       from next
 
-  -- what takes the result of a call is in scope
+  -- the target of a call is in scope
   target_in : (exit again here : Option VarId) (k : Option HeapType) (target : Option Mention) → IsTaken (around exit again here) k target
       → IfSome target (λ v. IsIn (around exit again here) v.variable) → IfSome target (λ v. in_scope m here v.variable.0 ≡ true)
   target_in exit again here k None taken h = tt

@@ -1,4 +1,4 @@
--- Where nothing is found every run is safe, from what each instruction keeps.
+-- If nothing is found every run is safe, by what each instruction preserves.
 use Rattle.std.proofs.Common.{◌≡◌, ◌≢◌, ℕ, suc, length, Bool, true, false, List, [], ◌∷◌, Some, None, refl, sym, ap, ◌∙◌, subst, arith, inr}
 use Rattle.std.proofs.lemmas.Option.{slice_get_within}
 use Rattle.std.specs.Prelude.{Option, slice_get, if◌then◌else◌, nat_lt}
@@ -57,7 +57,7 @@ ended_has_nothing p w h q a is = by (owns w.blocks q a) (sym (ap (held p a) is) 
     by true e = absurd (omega arith)
     by false e = refl
 
--- a verdict without findings: no step at a reached pair has one
+-- if a verdict is empty, no step at a reached pair has a finding
 clean : (p : ProgramModel) (n : ℕ) → IsMethodVerdict p n [] → IsClean p n
 clean p n h f finds =
     let none = (h.exactly f).1 (inr ((λ many. let one = h.once many in absurd (omega arith)), finds)) in
@@ -117,14 +117,14 @@ good_instruction always longer p bound sound graphs none w self choice f rest m 
     good_return p bound w self choice f rest m place value last graphs none h (fit h.graph)
 good_instruction always longer p bound sound graphs none w self choice f rest m (Stop place) h fit = absurd (h.passes _ refl)
 
--- addresses that are as declared are as many
+-- addresses as declared are as many as their types
 declared_long : (bs : List Block) (types : List HeapType) (xs : List ℕ) → AreDeclared bs types xs → length xs ≡ length types
 declared_long bs [] [] h = refl
 declared_long bs [] (x ∷ xs) h = absurd h
 declared_long bs (k ∷ types) [] h = absurd h
 declared_long bs (k ∷ types) (x ∷ xs) h = ap suc (declared_long bs types xs h.1)
 
--- fields that hold what is inside their block, and are as declared
+-- fields that hold what is inside their block and are as declared own it
 fields_own : (p : ProgramModel) (bs : List Block) → FieldsHold bs → FieldsDeclared p bs → FieldsOwn p bs
 fields_own p bs held were = record {
   full = λ a within lives. declared_long bs (field_types p.structs (block_at bs a).ty) (block_at bs a).fields (were a within lives);
@@ -132,7 +132,7 @@ fields_own p bs held were = record {
   rooted = held.rooted;
 }
 
--- every event of a world of which the invariant holds is good
+-- in a world with the invariant every event is good
 module _ (always : HeldAlways) (longer : NeverLonger) (p : ProgramModel) (bound : QueueBounds) (sound : IsSoundProgram p bound)
     (graphs : AreGraphsFit p) (none : (n : ℕ) (m : MethodModel) → method_at p n ≡ Some m → IsClean p n) where
   good_at : (w : World) (e : Event) (f : Frame) (rest : List Frame) → Holds p w → stack_at w.processes e.process ≡ f ∷ rest
@@ -175,7 +175,7 @@ module _ (always : HeldAlways) (longer : NeverLonger) (p : ProgramModel) (bound 
     ended = λ q a is. ended_has_nothing p w h q a is;
   }
 
--- where nothing is found, every run is safe
+-- if nothing is found, every run is safe
 pub empty_report_is_safe : HeldAlways → NeverLonger → (p : ProgramModel) (bound : QueueBounds)
     → AreWellFormed p → AreSound p → AreBounds p bound → NothingIsFound p
     → (n : ℕ) (w : World) → IsEntry p n → Run p bound n w → IsSafe p bound w

@@ -1,5 +1,6 @@
--- A lowered method fits: the operands of each instruction are there and of the right type, and each point has a scope. What is in
--- scope before an instruction is in scope behind it, but for what its Forget names; what an instruction assigns is in scope behind it.
+-- A lowered method fits: the operands of each instruction exist and have the right type, and each point has a scope.
+-- What is in scope before an instruction is in scope after it, except what its Forget names; what an instruction
+-- assigns is in scope after it.
 use Rattle.std.specs.Prelude.{◌≡◌, ◌≢◌, ℕ, ◌⊎◌, Bool, true, false, List, [], map, Option, Some, None, IfSome, slice_get}
 use Rattle.program.specs.Lists.{Each, is_among}
 use Rattle.program.specs.Methods.{MethodModel, VariableModel}
@@ -29,7 +30,7 @@ use Rattle.sound.specs.Operands.{AreDistinct, AreArguments, AreClaims, AreOfType
 abbrev pub ScopeAt : Type 0
 ScopeAt = (point variable : ℕ) → Bool
 
--- what is in scope at a point is in scope at another, or is among those that go
+-- what is in scope at one point is in scope at the other, or is among those that go
 pub record KeepsScope (scope : ScopeAt) (from to : ℕ) (gone : List ℕ) : Type 0 where
   pub each : (v : ℕ) → scope from v ≡ true → (scope to v ≡ true) ⊎ (is_among gone v ≡ true)
 
@@ -40,7 +41,7 @@ module _ (p : ProgramModel) (m : MethodModel) (scope : ScopeAt) where
     pub after : scope to v ≡ true
     pub own : is_lent m v ≡ false
 
-  -- a case binds variables for what its message brings, no two of them the same
+  -- a case binds a variable for each block that its message brings, no two of them the same
   abbrev pub AreBrought : ℕ → Awaited → List VarId → ℕ → Type 0
   AreBrought from Closed bound to = Unit {0}
   AreBrought from (Message id) bound to =
@@ -52,13 +53,13 @@ module _ (p : ProgramModel) (m : MethodModel) (scope : ScopeAt) where
     pub binds : AreBrought point c.awaited c.targets c.next
     pub keeps : KeepsScope scope point c.next []
 
-  -- A switch: each of its endpoints is one, and has a case for its close.
+  -- A switch: each of its endpoints is a variable of an endpoint and has a case for its close.
   pub record IsSwitch (point : ℕ) (cases : List EntranceModel) : Type 0 where
     pub each : Each (IsEntrance point) cases
     pub ends : Each (λ e. IsEndVariable m.variables e.variable.0) (first_mentions [] cases)
     pub closes : Each (λ e. case_for cases e.variable.0 None ≢ None) (first_mentions [] cases)
 
-  -- a call: what it gives and takes is what the method that it calls asks and gives
+  -- a call: its arguments and its target fit the parameters and the result of the method that it calls
   pub record IsCallFit (point method : ℕ) (arguments : List Argument) (target : Option Mention) (next : ℕ) : Type 0 where
     pub callee : MethodModel
     pub there : slice_get p.methods method ≡ Some callee
@@ -67,7 +68,7 @@ module _ (p : ProgramModel) (m : MethodModel) (scope : ScopeAt) where
     pub in_scope : IfSome target (λ v. scope next v.variable.0 ≡ true)
     pub keeps : KeepsScope scope point next []
 
-  -- A start: what is started gives nothing, and claims what it is given.
+  -- A start: the method returns nothing and claims all that it is given.
   pub record IsStartFit (point method : ℕ) (arguments : List Argument) (next : ℕ) : Type 0 where
     pub callee : MethodModel
     pub there : slice_get p.methods method ≡ Some callee
@@ -76,12 +77,12 @@ module _ (p : ProgramModel) (m : MethodModel) (scope : ScopeAt) where
     pub claims : AreClaims arguments
     pub keeps : KeepsScope scope point next []
 
-  -- A Return: it gives what the method gives, and its scope names all that is in scope there.
+  -- A Return: its value fits the result of the method, and its scope names all that is in scope there.
   pub record IsReturnFit (point : ℕ) (value : Option Mention) (last : Option VarId) : Type 0 where
     pub given : IsTakenBy m.variables m.result value
     pub covers : (v : ℕ) → scope point v ≡ true → is_among (declared_between m None last) v ≡ true
 
-  -- New: the variable is of no endpoint, and what is given is of the types of its fields that own.
+  -- New: the variable is of no endpoint, and the arguments have the types of its owning fields.
   pub record IsNewFit (point v : ℕ) (arguments : List Mention) (next : ℕ) : Type 0 where
     pub variable : VariableModel
     pub there : slice_get m.variables v ≡ Some variable
@@ -90,7 +91,7 @@ module _ (p : ProgramModel) (m : MethodModel) (scope : ScopeAt) where
     pub in_scope : scope next v ≡ true
     pub keeps : KeepsScope scope point next []
 
-  -- Exchange: the block of the holder has such a field, and what is given is of its type.
+  -- Exchange: the block of the holder has such a field, and what is given has its type.
   pub record IsExchangeFit (point : ℕ) (e : stated.Exchange) (next : ℕ) : Type 0 where
     pub holder : VariableModel
     pub holder_there : slice_get m.variables e.holder.variable.0 ≡ Some holder
@@ -100,7 +101,7 @@ module _ (p : ProgramModel) (m : MethodModel) (scope : ScopeAt) where
     pub in_scope : scope next e.given.variable.0 ≡ true
     pub keeps : KeepsScope scope point next []
 
-  -- NewChannel: the contract is there, and the two variables are for its two ends.
+  -- NewChannel: the contract exists, and the two variables are for its two ends.
   pub record IsChannelFit (point : ℕ) (c : Channel) (next : ℕ) : Type 0 where
     pub contract : ContractModel
     pub contract_there : slice_get p.contracts c.contract.0 ≡ Some contract
@@ -113,7 +114,7 @@ module _ (p : ProgramModel) (m : MethodModel) (scope : ScopeAt) where
     pub second_scope : scope next c.second.variable.0 ≡ true
     pub keeps : KeepsScope scope point next []
 
-  -- a Move: both variables are of one type
+  -- a Move: both variables have the same type, apart from states
   pub record IsMoveFit (point target source next : ℕ) : Type 0 where
     pub variable : VariableModel
     pub there : slice_get m.variables source ≡ Some variable
@@ -121,7 +122,7 @@ module _ (p : ProgramModel) (m : MethodModel) (scope : ScopeAt) where
     pub in_scope : scope next target ≡ true
     pub keeps : KeepsScope scope point next []
 
-  -- a Send: along an endpoint, of what the message brings
+  -- a Send: it uses an endpoint, and its payload has the types of the message
   pub record IsSendFit (point e message : ℕ) (payloads : List Mention) (next : ℕ) : Type 0 where
     pub endpoint : IsEndVariable m.variables e
     pub types : AreOfTypes m.variables (payload_types p message) (map (λ x. x.variable.0) payloads)
@@ -148,7 +149,7 @@ module _ (p : ProgramModel) (m : MethodModel) (scope : ScopeAt) where
   IsFit point (Return place value last) = IsReturnFit point value last
   IsFit point (Stop place) = Unit {0}
 
--- a method's graph under some scopes; its parameters are in scope where it begins
+-- a method's graph under some scopes; its parameters are in scope at its first point
 pub record IsGraphFit (p : ProgramModel) (m : MethodModel) : Type 0 where
   pub scope : ScopeAt
   pub begins : (v : ℕ) (x : VariableModel) → slice_get m.variables v ≡ Some x → is_parameter x.role ≡ true

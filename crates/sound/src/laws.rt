@@ -1,4 +1,4 @@
-//! The laws. They hold of every program, whatever the code does.
+//! The laws. They hold for every program, whatever the code does.
 
 ghost use Rattle.std.specs.Prelude.{◌≡◌, ℕ, map};
 ghost use Rattle.contracts.specs.Sounds.{sound_parts};
@@ -15,15 +15,15 @@ ghost use Rattle.sound.specs.Safe.{IsSafe};
 use contracts::{Sound, two_ends};
 use program::Methods;
 
-/// The graphs of well formed methods fit: the operands of each instruction are there and of the right type, also what is given for the
-/// fields of a new block and what changes places with a field, each point has a scope, and what leaves the scope is in the Forget of the
-/// instruction.
+/// The graphs of well-formed methods fit. The operands of each instruction exist and have the right type, including
+/// what is given for the fields of a new block and what is exchanged with a field. Each point has a scope, and what
+/// leaves the scope is in the Forget of the instruction.
 pub fn graphs_fit()
     ensures { (p : ProgramModel) → AreWellFormed p → AreGraphsFit p }
 {}
 
-/// In every run of a program of sound contracts, whatever is found in its methods, each queue is a walk of its contract and keeps
-/// within its bound, and no send passes a bound.
+/// In every run of a program with sound contracts, whatever is found in its methods, each queue is a walk of its
+/// contract and no longer than its bound, and no send exceeds a bound.
 pub fn runs_are_bounded()
     ensures { (p : ProgramModel) (bound : QueueBounds) → AreWellFormed p → AreSound p
         → AreBounds p bound
@@ -32,9 +32,11 @@ pub fn runs_are_bounded()
     two_ends();
 }
 
-/// A program of sound contracts in whose methods nothing is found is safe in every run: no event is a fault, each queue is a walk of
-/// its contract, a process holds just what it owns, what is cut off stays so, and a process that has ended owns nothing. In a block that
-/// is not freed each field that owns holds a block; that block stands in no variable and in no other field, and none is inside itself.
+/// A program with sound contracts and without findings in its methods is safe in every run.
+///
+/// No event is a fault, each queue is a walk of its contract, a process holds exactly what it owns, what is cut off
+/// stays cut off, and a process that has ended owns nothing. Each owning field of a block that is not freed holds a
+/// block. That block is in no variable and in no other field, and no block is inside itself.
 pub fn empty_report_is_safe()
     ensures { (p : ProgramModel) (bound : QueueBounds) → AreWellFormed p → AreSound p
         → AreBounds p bound
@@ -43,14 +45,15 @@ pub fn empty_report_is_safe()
     two_ends();
 }
 
-/// All that `empty_report_is_safe` asks can be met at once: it is refuted that no program, bounds and method meet it.
+/// The premises of `empty_report_is_safe` can be met together, as a double negation: some program, bounds and method
+/// meet them.
 pub fn premises_can_be_met()
     ensures { ((p : ProgramModel) (bound : QueueBounds) (n : ℕ) → AreWellFormed p → AreSound p
         → AreBounds p bound → NothingIsFound p → IsEntry p n → ⊥) → ⊥ }
 {}
 
-/// Methods in which nothing is found, with their contracts, are safe in every run. Both are in memory, so that they are well formed and
-/// sound is kept by their types and asked of nobody.
+/// Methods without findings, with their contracts, are safe in every run. Both are values in memory, so their types
+/// guarantee that the methods are well formed and the contracts sound.
 pub fn clean_methods_are_safe(methods: &Methods, sounds: &[Sound])
     requires sound { map sound_parts sounds.now ≡ map (λ c. c.parts) (contracts_model methods.now) }
     ensures { (bound : QueueBounds) → AreBounds (program_model methods.now) bound → NothingIsFound (program_model methods.now)

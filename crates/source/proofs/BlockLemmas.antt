@@ -1,4 +1,4 @@
--- Which comment stands first behind `/*`, and what stands behind a lone `/`.
+-- The comment that begins with `/*`, and a lone `/`.
 use Rattle.std.proofs.Common.{◌≡◌, ℕ, zero, suc, ◌+◌, ◌<◌, ◌≤◌, true, false, List, [], ◌∷◌, length, get_or, take, refl, ◌∙◌, arith, eq-eqb}
 use Rattle.std.specs.Prelude.{◌&&◌, ◌||◌, ◌==◌, if◌then◌else◌}
 use Rattle.std.specs.List.{list_all}
@@ -13,7 +13,7 @@ use Rattle.source.proofs.CommentLemmas.{in_line}
 not_both : (a b : ℕ) → (a ≡ 42 → b ≡ 47 → ⊥) → (a == 42 && b == 47) ≡ false
 not_both a b h = grind (arith, nat_tests)
 
--- the first `*/` behind a byte ends them
+-- the first `*/` after a byte ends the bytes
 behind_true : (a : ℕ) (bs : List ℕ) (k : ℕ) → k < length bs → get_or (a ∷ bs) k 0 ≡ 42 → get_or bs k 0 ≡ 47 → ((j : ℕ) → j < k → get_or (a ∷ bs) j 0 ≡ 42 → get_or bs j 0 ≡ 47 → ⊥) → closes_behind a (take (suc k) bs) ≡ true
 behind_true a [] k within star slash none = absurd (omega arith)
 behind_true a (b ∷ bs) zero within star slash none = λ i. if eq-eqb a 42 star i && eq-eqb b 47 slash i then true else closes_behind b []
@@ -21,7 +21,7 @@ behind_true a (b ∷ bs) (suc k) within star slash none =
     (λ i. if not_both a b (none 0 (omega arith)) i then is_none_left (take (suc k) bs) else closes_behind b (take (suc k) bs))
     ∙ behind_true b bs k (omega arith) star slash (λ j h. none (suc j) (omega arith))
 
--- and no more of them
+-- and no more bytes end so
 behind_longer : (a : ℕ) (bs : List ℕ) (k m : ℕ) → k < length bs → get_or (a ∷ bs) k 0 ≡ 42 → get_or bs k 0 ≡ 47 → ((j : ℕ) → j < k → get_or (a ∷ bs) j 0 ≡ 42 → get_or bs j 0 ≡ 47 → ⊥) → suc k < m → m ≤ length bs → closes_behind a (take m bs) ≡ false
 behind_longer a bs k zero within star slash none low high = absurd (omega arith)
 behind_longer a [] k (suc m) within star slash none low high = absurd (omega arith)
@@ -32,7 +32,7 @@ behind_longer a (b ∷ bs) (suc k) (suc m) within star slash none low high =
     (λ i. if not_both a b (none 0 (omega arith)) i then is_none_left (take m bs) else closes_behind b (take m bs))
     ∙ behind_longer b bs k m (omega arith) star slash (λ j h. none (suc j) (omega arith)) (omega arith) (omega arith)
 
--- where there is none, no bytes end so
+-- if there is none, no bytes end so
 behind_never : (a : ℕ) (bs : List ℕ) (m : ℕ) → ((j : ℕ) → j < length bs → get_or (a ∷ bs) j 0 ≡ 42 → get_or bs j 0 ≡ 47 → ⊥) → closes_behind a (take m bs) ≡ false
 behind_never a bs zero none = refl
 behind_never a [] (suc m) none = refl
@@ -45,7 +45,7 @@ closes_never bs zero none = refl
 closes_never [] (suc m) none = refl
 closes_never (a ∷ bs) (suc m) none = behind_never a bs m (λ j h. none j (omega arith))
 
--- a block comment, with `*/` at place k behind the `/*`
+-- a block comment, with `*/` at index k after the `/*`
 pub first_block : (bs : List ℕ) (k : ℕ) → suc k < length bs → get_or bs k 0 ≡ 42 → get_or bs (suc k) 0 ≡ 47 → ((j : ℕ) → j < k → get_or bs j 0 ≡ 42 → get_or bs (suc j) 0 ≡ 47 → ⊥) → IsFirstPiece (47 ∷ 42 ∷ bs) (suc (suc (suc (suc k))))
 first_block [] k within star slash none = absurd (omega arith)
 first_block (a ∷ bs) k within star slash none = record {

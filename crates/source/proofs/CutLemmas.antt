@@ -12,7 +12,7 @@ pub cuts_whole : (ps : List (List ℕ)) (text rest : List ℕ) → Cuts ps text 
 cuts_whole [] text rest h = sym h
 cuts_whole (p ∷ ps) text rest h = append_assoc p (concat ps) rest ∙ ap (λ t. p ++ t) (cuts_whole ps (drop (length p) text) rest h.2) ∙ ap (λ t. t ++ drop (length p) text) (sym h.1) ∙ take-append-drop (length p) text
 
--- what is before the rest
+-- the bytes before the rest
 pub before_is : (text : List ℕ) (at : ℕ) (ps : List (List ℕ)) → Cuts ps text (drop at text) → concat ps ≡ take at text
 before_is text at ps h = append_cancel_right (concat ps) (take at text) (drop at text) (cuts_whole ps text (drop at text) h ∙ sym (take-append-drop at text))
 
@@ -31,7 +31,7 @@ tokens_push mark before (q ∷ ps) p =
     ∙ sym (append_assoc (token_of (kind_of q) mark before q) (tokens_of mark (before ++ q) ps) (token_of (kind_of p) mark ((before ++ q) ++ concat ps) p))
     ∙ ap (λ b. (token_of (kind_of q) mark before q ++ tokens_of mark (before ++ q) ps) ++ token_of (kind_of p) mark b p) (append_assoc before q (concat ps))
 
--- one piece stands first
+-- only one piece comes first
 pub first_same : (rest : List ℕ) (n m : ℕ) → IsFirstPiece rest n → IsFirstPiece rest m → n ≡ m
 first_same rest n m f g = ⊎_elim
     (λ same. same)
@@ -40,11 +40,11 @@ first_same rest n m f g = ⊎_elim
     (λ gt. absurd (false≢true (sym (g.longest n gt f.within) ∙ f.piece))))
     (cases_order n m)
 
--- and nothing does where none begins
+-- and none does if no piece begins there
 pub first_or_none : (rest : List ℕ) (n : ℕ) → IsFirstPiece rest n → HasNoPiece rest → ⊥
 first_or_none rest n f h = false≢true (sym (h.none n f.within) ∙ f.piece)
 
--- what stands first in two cuttings is one piece
+-- the first pieces of two cuttings are the same
 pub front_same : (text p q : List ℕ) → IsFirstPiece text (length p) → take (length p) text ≡ p → IsFirstPiece text (length q) → take (length q) text ≡ q → p ≡ q
 front_same text p q f ip g iq = sym ip ∙ ap (λ n. take n text) (first_same text (length p) (length q) f g) ∙ iq
 

@@ -18,12 +18,12 @@ use Rattle.source.specs.declared.lexer.TheConstants.{MAX_TEXT}
 use Rattle.source.specs.declared.token.Token.{Token}
 use Rattle.source.proofs.FaultLemmas.{StandsBehind}
 
--- a piece stands first
+-- a piece comes first
 record HasFirstPiece (rest : List ℕ) : Type 0 where
   len : ℕ
   first : IsFirstPiece rest len
 
--- the longest of the pieces up to this length, where none is longer
+-- the longest of the pieces up to this length, if no longer bytes are a piece
 longest : (rest : List ℕ) (n : ℕ) → n ≤ length rest
     → ((m : ℕ) → n < m → m ≤ length rest → is_piece (take m rest) ≡ false) → HasFirstPiece rest ⊎ HasNoPiece rest
 longest rest zero within above = inr (record { none = none })
@@ -40,17 +40,17 @@ longest rest (suc n) within above = ⊎_elim
     here : (m : ℕ) → n < m → m ≤ suc n → is_piece (take (suc n) rest) ≡ false → is_piece (take m rest) ≡ false
     here m low high is = let same : suc n ≡ m = omega arith in subst (λ k. is_piece (take k rest) ≡ false) same is
 
--- a piece stands first in a text, or none does
+-- a piece comes first in a text, or none does
 first_or_not : (rest : List ℕ) → HasFirstPiece rest ⊎ HasNoPiece rest
 first_or_not rest = longest rest (length rest) (omega arith) (λ m low high. absurd (omega arith))
 
--- it is cut whole, without a fault, where so many brackets are open before it
+-- the text is cut whole, without a fault, with this many brackets open before it
 record IsCut (depth : ℕ) (text : List ℕ) : Type 0 where
   pieces : List (List ℕ)
   cut : Cuts pieces text []
   allowed : are_allowed depth pieces ≡ true
 
--- a fault stands in it, where these bytes and so many brackets stand before it
+-- the text has a fault, with these bytes before it and this many brackets open
 record HasFault (before : List ℕ) (depth : ℕ) (text : List ℕ) : Type 0 where
   pieces : List (List ℕ)
   rest : List ℕ
@@ -71,21 +71,21 @@ at_front before depth text fault there = record {
   };
 }
 
--- no piece stands first
+-- no piece comes first
 none_first : (before : List ℕ) (depth : ℕ) (text : List ℕ) → 0 < length text → HasNoPiece text → HasFault before depth text
 none_first before depth text some none = ⊎_elim
     (λ block. at_front before depth text (OpenComment (place_of before)) (refl, record { begins = block; none = none }))
     (λ other. at_front before depth text (Stray (place_of before)) (refl, record { some = some; none = none; other = other }))
     (cases_Bool (begins_block text))
 
--- this piece stands first, and it is not at fault
+-- this piece comes first, and it is not at fault
 record IsGood (depth : ℕ) (text p : List ℕ) : Type 0 where
   first : IsFirstPiece text (length p)
   is : take (length p) text ≡ p
   shallow : is_too_deep depth p ≡ false
   small : is_too_large p ≡ false
 
--- with what stands behind it
+-- with what follows it
 more_cut : (depth : ℕ) (text p : List ℕ) → IsGood depth text p → IsCut (depth_behind depth p) (drop (length p) text)
     → IsCut depth text
 more_cut depth text p good c = record {
@@ -109,7 +109,7 @@ more_fault before depth text p good f =
       };
     }
 
--- a piece stands first, and what is behind it is cut or has a fault
+-- a piece comes first, and what follows is cut or has a fault
 with_first : (before : List ℕ) (depth : ℕ) (text p : List ℕ) (n : ℕ) → n ≡ length p → IsFirstPiece text n → take n text ≡ p
     → IsCut (depth_behind depth p) (drop (length p) text) ⊎ HasFault (before ++ p) (depth_behind depth p) (drop (length p) text)
     → IsCut depth text ⊎ HasFault before depth text
@@ -152,7 +152,7 @@ cut_or_fault (suc n) before depth (b ∷ bs) short = ⊎_elim
     (λ none. inr (none_first before depth (b ∷ bs) (omega arith) none))
     (first_or_not (b ∷ bs))
 
--- the first fault behind the mark is the text's
+-- the first fault after the mark is the text's
 is_fault : (text : List ℕ) (fault : TextFault) → length text ≤ MAX_TEXT → HasFirst (body_of text) fault → IsFault text fault
 is_fault text (Stray at) short h = (short, h)
 is_fault text (OpenComment at) short h = (short, h)

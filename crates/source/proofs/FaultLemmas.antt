@@ -1,4 +1,4 @@
--- A text has one fault at most, and none where it is cut whole.
+-- A text has at most one fault, and none if it is cut whole.
 use Rattle.std.proofs.Common.{◌≡◌, ◌≢◌, ◌⊎◌, ◌-◌, inl, inr, ⊎_elim, Some, ℕ, ◌<◌, ◌≤◌, true, false, not, List, [], ◌∷◌, ◌++◌, length, take, drop, sym, ap, ◌∙◌, subst, refl, arith, append_assoc}
 use Rattle.std.specs.Prelude.{◌&&◌, nat_lt, if◌then◌else◌}
 use Rattle.std.specs.Char.{is_ascii_digit}
@@ -26,7 +26,7 @@ use Rattle.source.proofs.CutLemmas.{first_same, first_or_none, front_same}
 use Rattle.source.proofs.LexedLemmas.{shallow}
 use Rattle.source.proofs.FrontLemmas.{digit_no_word}
 
--- the first piece of those without a fault
+-- a piece without a fault
 pub record IsFine (depth : ℕ) (p : List ℕ) : Type 0 where
   pub shallow : is_too_deep depth p ≡ false
   pub small : is_too_large p ≡ false
@@ -42,7 +42,7 @@ fine_first depth p ps h =
 pub fine_others : (depth : ℕ) (p : List ℕ) (ps : List (List ℕ)) → are_allowed depth (p ∷ ps) ≡ true → are_allowed (depth_behind depth p) ps ≡ true
 fine_others depth p ps h = (and_parts (not (is_too_deep depth p) && not (is_too_large p)) (are_allowed (depth_behind depth p) ps) h).1
 
--- where a piece without a fault stands first, no fault stands
+-- if a piece without a fault comes first, no fault is here
 fine_deep : (depth : ℕ) (text p : List ℕ) → IsFirstPiece text (length p) → take (length p) text ≡ p → IsFine depth p → IsTooDeep depth text → ⊥
 fine_deep depth text p first is fine f =
     false≢true (sym fine.shallow ∙ ap (is_too_deep depth) (sym is ∙ ap (λ n. take n text) (first_same text (length p) f.len first f.first)) ∙ f.deep)
@@ -59,7 +59,7 @@ fine_none (TooDeep at) place depth text p first is fine f = fine_deep depth text
 fine_none (TooLarge at) place depth text p first is fine f = fine_large depth text p first is fine f.1
 fine_none Memory place depth text p first is fine f = f
 
--- at the end of a text no fault stands
+-- no fault is at the end of a text
 pub end_none : (fault : TextFault) (place : Place) (depth : ℕ) → StandsAt fault place depth [] → ⊥
 end_none (Stray at) place depth f = omega (arith, f.1.some)
 end_none (OpenComment at) place depth f = false≢true f.1.begins
@@ -84,7 +84,7 @@ deep_or_large : (depth : ℕ) (text : List ℕ) → depth ≤ 100 → IsTooDeep 
 deep_or_large depth text low f g =
     large_not_deep depth (take g.len text) low g.large (ap (λ n. is_too_deep depth (take n text)) (first_same text g.len f.len g.first f.first) ∙ f.deep)
 
--- one fault stands at a place
+-- only one fault is at a place
 same_stands : (f g : TextFault) (place : Place) (depth : ℕ) (text : List ℕ) → depth ≤ 100 → StandsAt f place depth text → StandsAt g place depth text → f ≡ g
 same_stands (Stray a) (Stray b) place depth text low s t = ap Stray (s.0 ∙ sym t.0)
 same_stands (Stray a) (OpenComment b) place depth text low s t = absurd (false≢true (sym s.1.other ∙ t.1.begins))
@@ -113,7 +113,7 @@ same_stands (TooLarge a) (TooLarge b) place depth text low s t = ap TooLarge (s.
 same_stands (TooLarge a) Memory place depth text low s t = absurd t
 same_stands Memory g place depth text low s t = absurd s
 
--- a fault that stands behind pieces without one, with these bytes and brackets before them
+-- a fault after pieces without one, with these bytes and brackets before them
 pub record StandsBehind (before : List ℕ) (depth : ℕ) (text : List ℕ) (pieces : List (List ℕ)) (rest : List ℕ) (fault : TextFault) : Type 0 where
   pub cut : Cuts pieces text rest
   pub allowed : are_allowed depth pieces ≡ true
@@ -125,7 +125,7 @@ low_first depth p h = not_above (depth_behind depth p) h
     not_above : (d : ℕ) → nat_lt 100 d ≡ false → d ≤ 100
     not_above d h = grind (arith, nat_tests)
 
--- behind the first piece
+-- after the first piece
 behind_first : (before : List ℕ) (depth : ℕ) (text p : List ℕ) (ps : List (List ℕ)) (rest : List ℕ) (fault : TextFault) → StandsBehind before depth text (p ∷ ps) rest fault → StandsBehind (before ++ p) (depth_behind depth p) (drop (length p) text) ps rest fault
 behind_first before depth text p ps rest fault s = record {
   cut = s.cut.2;
@@ -161,7 +161,7 @@ from_first text f h = record { cut = h.begins.cut; allowed = h.begins.allowed; t
 one_first : (text : List ℕ) (f g : TextFault) → HasFirst text f → HasFirst text g → f ≡ g
 one_first text f g h k = one_behind h.pieces k.pieces [] 0 text h.rest k.rest f g (omega arith) (from_first text f h) (from_first text g k)
 
--- the length of a text, and what stands in it, or its length
+-- the fault of a text is its length or in it
 in_text : (text : List ℕ) (f : TextFault) → IsFault text f → ((f ≡ TooLong) × (4194304 < length text)) ⊎ ((length text ≤ 4194304) × HasFirst (body_of text) f)
 in_text text (Stray a) h = inr h
 in_text text (OpenComment a) h = inr h
@@ -170,21 +170,21 @@ in_text text (TooDeep a) h = inr h
 in_text text (TooLarge a) h = inr h
 in_text text Memory h = inr h
 
--- a text has one fault at most
+-- a text has at most one fault
 pub one_fault_lem : (text : List ℕ) (f g : TextFault) → IsFault text f → IsFault text g → f ≡ g
 one_fault_lem text f g h k = ⊎_elim
     (λ a. ⊎_elim (λ b. a.0 ∙ sym b.0) (λ b. absurd (omega (arith, a.1, b.0))) (in_text text g k))
     (λ a. ⊎_elim (λ b. absurd (omega (arith, a.0, b.1))) (λ b. one_first (body_of text) f g a.1 b.1) (in_text text g k))
     (in_text text f h)
 
--- and none where it is cut whole
+-- and none if it is cut whole
 pub none_of_tokens : (text : List ℕ) (tokens : List Token) (f : TextFault) → AreTokens text tokens → IsFault text f → ⊥
 none_of_tokens text tokens f t h = ⊎_elim
     (λ a. omega (arith, a.1, t.short))
     (λ a. none_behind t.pieces a.1.pieces [] 0 (body_of text) a.1.rest f t.begins.cut t.begins.allowed (from_first (body_of text) f a.1))
     (in_text text f h)
 
--- so a fault of the text is the one that is answered, or memory was refused
+-- so the fault of the text is the returned one, or an allocation was refused
 pub answered : (text : List ℕ) (r f : TextFault) → (r ≢ Memory → IsFault text r) → IsFault text f → (r ≡ f) ⊎ (r ≡ Memory)
 answered text (Stray a) f h k = inl (one_fault_lem text (Stray a) f (h (λ e. cc)) k)
 answered text (OpenComment a) f h k = inl (one_fault_lem text (OpenComment a) f (h (λ e. cc)) k)
@@ -193,7 +193,7 @@ answered text (TooDeep a) f h k = inl (one_fault_lem text (TooDeep a) f (h (λ e
 answered text (TooLarge a) f h k = inl (one_fault_lem text (TooLarge a) f (h (λ e. cc)) k)
 answered text Memory f h k = inr refl
 
--- a fault behind the mark is one of the text
+-- a fault after the mark is one of the text
 pub fault_of_body : (text : List ℕ) (mark : ℕ) (f : TextFault) → mark ≡ mark_len text → length text ≤ 4194304 → HasFirst (take (length text - mark) (drop mark text)) f → IsFault text f
 fault_of_body text mark f is short h = by f (subst (λ b. HasFirst b f) (take_rest text mark ∙ ap (λ n. drop n text) is) h)
   where

@@ -1,4 +1,4 @@
--- Which piece stands first, by the bytes at the front.
+-- Which piece comes first, by the bytes at the front.
 use Rattle.std.proofs.Common.{◌≡◌, ℕ, zero, suc, ◌<◌, ◌≤◌, Bool, true, false, List, [], ◌∷◌, length, get_or, take, Some, None, sym, refl, ◌∙◌, arith}
 use Rattle.std.specs.Prelude.{is_some, ◌||◌, ◌&&◌, if◌then◌else◌}
 use Rattle.std.specs.List.{list_all}
@@ -19,14 +19,14 @@ all_taken q bs zero high each = refl
 all_taken q [] (suc k) high each = refl
 all_taken q (b ∷ bs) (suc k) high each = λ i. each 0 (omega arith) i && all_taken q bs k (omega arith) (λ j h. each (suc j) (omega arith)) i
 
--- more than k of them don't, where the next one fails it
+-- more than k of them do not, if the next one fails it
 pub not_all_taken : (q : ℕ → Bool) (bs : List ℕ) (k m : ℕ) → k < m → k < length bs → q (get_or bs k 0) ≡ false → list_all q (take m bs) ≡ false
 not_all_taken q bs k zero low high stop = absurd (omega arith)
 not_all_taken q [] k (suc m) low high stop = absurd (omega arith)
 not_all_taken q (b ∷ bs) zero (suc m) low high stop = λ i. stop i && list_all q (take m bs)
 not_all_taken q (b ∷ bs) (suc k) (suc m) low high stop = and_right (q b) (list_all q (take m bs)) (not_all_taken q bs k m (omega arith) (omega arith) stop)
 
--- a run: a byte and all behind it that pass a test
+-- a run: a byte and all bytes after it that pass a test
 run_first : (q : ℕ → Bool) (b : ℕ) (bs : List ℕ) (k : ℕ) → ((m : ℕ) → is_piece (b ∷ take m bs) ≡ list_all q (take m bs)) → k ≤ length bs → ((j : ℕ) → j < k → q (get_or bs j 0) ≡ true) → (k < length bs → q (get_or bs k 0) ≡ false) → IsFirstPiece (b ∷ bs) (suc k)
 run_first q b bs k front within each stop = record {
   some = omega arith;

@@ -1,4 +1,4 @@
--- What pieces begin with a byte.
+-- The pieces that begin with a byte.
 use Rattle.std.proofs.Common.{◌≡◌, ℕ, Bool, true, false, List, [], ◌∷◌, None, refl, ◌∙◌, ap, arith}
 use Rattle.std.specs.Prelude.{is_some, not, ◌||◌, ◌&&◌, ◌==◌}
 use Rattle.std.specs.List.{list_all}
@@ -42,7 +42,7 @@ blank_no_word b h = grind (arith, nat_tests)
 pub blank_no_digit : (b : ℕ) → is_blank_byte b ≡ true → is_ascii_digit b ≡ false
 blank_no_digit b h = grind (arith, nat_tests)
 
--- what is known of the other forms of piece
+-- what is known about the other forms of a piece
 no_blank : (b : ℕ) (bs : List ℕ) → is_blank_byte b ≡ false → is_blank (b ∷ bs) ≡ false
 no_blank b [] h = h
 no_blank b (c ∷ bs) h = refl
@@ -57,21 +57,21 @@ no_symbol p apart b bs h = none_begins (λ b. not (p b)) all_symbols b bs apart 
 pub blank_no_symbol : (b : ℕ) (bs : List ℕ) → is_blank_byte b ≡ true → symbol (b ∷ bs) ≡ None
 blank_no_symbol b bs h = no_symbol is_blank_byte refl b bs h
 
--- what goes on a word
+-- what continues a word
 pub front_word : (b : ℕ) (bs : List ℕ) → starts_word b ≡ true → is_piece (b ∷ bs) ≡ list_all in_word bs
 front_word b bs h =
     let t = list_all in_word bs in
     let only : is_piece (b ∷ bs) ≡ ((t || false) || false) = λ i. no_blank b bs (word_no_blank b h) i || no_comment b bs (word_no_slash b h) i || h i && t || word_no_digit b h i && list_all is_ascii_digit bs || is_some (no_symbol starts_word refl b bs h i) in
     only ∙ ap (λ v. v || false) (or-false t) ∙ or-false t
 
--- what goes on a number
+-- what continues a number
 pub front_digit : (b : ℕ) (bs : List ℕ) → is_ascii_digit b ≡ true → is_piece (b ∷ bs) ≡ list_all is_ascii_digit bs
 front_digit b bs h =
     let t = list_all is_ascii_digit bs in
     let only : is_piece (b ∷ bs) ≡ (t || false) = λ i. no_blank b bs (digit_no_blank b h) i || no_comment b bs (digit_no_slash b h) i || digit_no_word b h i && list_all in_word bs || h i && t || is_some (no_symbol is_ascii_digit refl b bs h i) in
     only ∙ or-false t
 
--- nothing goes on a blank
+-- nothing continues a blank
 pub front_blank : (b c : ℕ) (bs : List ℕ) → is_blank_byte b ≡ true → is_piece (b ∷ c ∷ bs) ≡ false
 front_blank b c bs h = λ i. false || no_comment b (c ∷ bs) (blank_no_slash b h) i || blank_no_word b h i && list_all in_word (c ∷ bs) || blank_no_digit b h i && list_all is_ascii_digit (c ∷ bs) || is_some (blank_no_symbol b (c ∷ bs) h i)
 

@@ -22,7 +22,7 @@ use Rattle.source.specs.declared.fault.TextFault.TheVariants.{TooDeep}
 use Rattle.source.proofs.CutLemmas.{before_is, cuts_push, tokens_push}
 
 -- The loop's invariant: the first bytes are cut into pieces without a fault, these are their tokens, the place is the
--- one behind them, and so many brackets are open there.
+-- one after them, and this many brackets are open there.
 pub record IsReached (mark : ℕ) (body : List ℕ) (at : ℕ) (list : List Token) (place : Place) (depth : ℕ) : Type 0 where
   pub within : at ≤ length body
   pub pieces : List (List ℕ)
@@ -77,7 +77,7 @@ pushed mark body at list place depth piece kind h f is =
     (λ i. list ++ record { kind = kind; span = record { start = mark + before i; end = mark + before i + size i; place = h.place_is i } } ∷ [])
     ∙ ap (λ v. list ++ token_of v mark (take at body) (take piece.len (drop at body))) (sym is)
 
--- what stands at the front of the rest is the first fault
+-- the fault at the front of the rest is the first one
 pub fault_here : (mark : ℕ) (body : List ℕ) (at : ℕ) (list : List Token) (place : Place) (depth : ℕ) (fault : TextFault) → IsReached mark body at list place depth → StandsAt fault place depth (drop at body) → HasFirst body fault
 fault_here mark body at list place depth fault h stands =
     let there : place ≡ place_of (concat h.pieces) = h.place_is ∙ ap place_of (sym (before_is body at h.pieces h.cut)) in

@@ -14,7 +14,7 @@ use Rattle.source.specs.declared.kind.Kind.TheVariants.{Number}
 use Rattle.source.proofs.WrittenLemmas.{bytes_written}
 use Rattle.source.proofs.PlaceLemmas.{place_next_col}
 
--- no end of a line among these
+-- none of these bytes ends a line
 abbrev pub InLine : List ℕ → Type 0
 InLine bytes = All (λ b. ends_line b ≡ false) bytes
 
@@ -22,7 +22,7 @@ both : (s t : Bool) → (s && t) ≡ true → (s ≡ true) × (t ≡ true)
 both true t h = (refl, h)
 both false t h = cc
 
--- what a test passes that does not pass the end of a line
+-- a byte that passes a test does not end a line, if the end of a line fails it
 no_end : (q : ℕ → Bool) (b : ℕ) → q 10 ≡ false → q b ≡ true → ends_line b ≡ false
 no_end q b stop is = ⊎_elim (λ ends. absurd (both_ways (q b) (ap q (eqb-true b 10 ends) ∙ stop) is)) (λ other. other) (cases_Bool (ends_line b))
 
@@ -56,7 +56,7 @@ token_in_line bytes kind is =
     (cases_Bool (is_number bytes)))
     (cases_Bool (is_word bytes))
 
--- behind bytes of which none ends a line
+-- the place after bytes that end no line
 pub place_in_line : (before bytes : List ℕ) → InLine bytes → place_of (before ++ bytes) ≡ record { line = (place_of before).line; col = (place_of before).col + length bytes }
 place_in_line before [] all =
     let same : (place_of before).col ≡ (place_of before).col + 0 = omega arith in

@@ -17,7 +17,7 @@ occurs bs k within star slash = record { fits = omega arith; reads = reads }
     reads (suc zero) h = ap (λ n. get_or bs n 0) (omega arith) ∙ slash
     reads (suc (suc j)) h = absurd (omega arith)
 
--- where it is found, and that it is nowhere before
+-- it is at this index, and nowhere before
 pub record Found (bs : List ℕ) (k : ℕ) : Type 0 where
   pub within : suc k < length bs
   pub star : get_or bs k 0 ≡ 42
@@ -47,7 +47,7 @@ pub block_open : (rest bs needle : List ℕ) → rest ≡ 47 ∷ 42 ∷ bs → n
 block_open rest bs needle e is h =
     subst IsOpenComment (sym e) (open_block bs (found_none bs (subst (λ n. FindsNeedle bs n 0 None) is h)))
 
--- that it stands nowhere before a place, nor at that place
+-- it is nowhere before an index, nor at that index
 pub none_yet : (bs : List ℕ) (i : ℕ) → ((j : ℕ) → j < i → OccursAt bs closing j → ⊥) → (get_or bs i 0 ≡ 42 → get_or bs (i + 1) 0 ≡ 47 → ⊥) → (j : ℕ) → j < i + 1 → OccursAt bs closing j → ⊥
 none_yet bs i none here j lt h = ⊎_elim (λ less. none j less h) (λ le. not_here (omega (arith, lt, le))) (cases_lt j i)
   where

@@ -16,7 +16,7 @@ digit_is d h = grind (arith, nat_tests)
 capped_more : (v value times digit result : ℕ) → value ≡ min v (2 ^ 32 - 1) → times ≡ min (value * 10) (2 ^ 32 - 1) → result ≡ min (times + digit) (2 ^ 32 - 1) → result ≡ min (v * 10 + digit) (2 ^ 32 - 1)
 capped_more v value times digit result a b c = omega arith
 
--- a digit more is ten times the value and the digit, up to the greatest number of the type
+-- with one digit more, the value is ten times the old one and the digit, up to the greatest number of the type
 pub value_more : (ds : List ℕ) (i value times digit result : ℕ) → i < length ds → is_ascii_digit (get_or ds i 0) ≡ true → value ≡ min (number_value (take i ds)) (2 ^ 32 - 1) → times ≡ min (value * 10) (2 ^ 32 - 1) → digit ≡ get_or ds i 0 - 48 → result ≡ min (times + digit) (2 ^ 32 - 1) → result ≡ min (number_value (take (i + 1) ds)) (2 ^ 32 - 1)
 value_more ds i value times digit result lt is a b e c =
     let d = get_or ds i 0 in

@@ -1,4 +1,4 @@
--- Tokens lie in the order of the text.
+-- Tokens are in the order of the text.
 use Rattle.std.proofs.Common.{◌≡◌, ℕ, ◌+◌, ◌<◌, ◌≤◌, List, [], ◌∷◌, ◌++◌, length, drop, Option, Some, None, sym, subst, arith, length-append}
 use Rattle.std.proofs.lemmas.List.{length-drop}
 use Rattle.source.specs.Cutting.{Cuts}
@@ -9,7 +9,7 @@ use Rattle.source.specs.declared.kind.Kind.{Kind}
 use Rattle.source.specs.declared.lexer.TheConstants.{MAX_TEXT}
 use Rattle.source.specs.declared.token.Token.{Token}
 
--- what is in order from a byte on is so from an earlier one on
+-- what is in order from a byte on is in order from any earlier one
 order_earlier : (early from to : ℕ) (ts : List Token) → early ≤ from → AreInOrder from to ts → AreInOrder early to ts
 order_earlier early from to [] h k = omega arith
 order_earlier early from to (t ∷ ts) h k = (omega (arith, k.0), k.1, k.2)

@@ -1,4 +1,4 @@
--- What stands first, as the code answers it.
+-- The first piece, as the code returns it.
 use Rattle.std.proofs.Common.{◌≡◌, ◌≢◌, ℕ, zero, suc, ◌-◌, ◌^◌, ◌<◌, ◌≤◌, true, false, List, [], ◌∷◌, length, get_or, take, min, Some, None, sym, refl, ◌∙◌, ap, subst, arith}
 use Rattle.std.specs.Prelude.{◌&&◌, ◌==◌, nat_lt}
 use Rattle.std.specs.List.{list_all}
@@ -18,7 +18,7 @@ use Rattle.source.proofs.FrontLemmas.{word_no_digit, blank_no_digit}
 use Rattle.source.proofs.FirstLemmas.{first_word, first_number, first_blank}
 use Rattle.source.proofs.BlockLemmas.{stray_last, stray_slash}
 
--- what begins with no digit is no number
+-- what does not begin with a digit is no number
 fits_front : (rest : List ℕ) (n : ℕ) → is_ascii_digit (get_or rest 0 0) ≡ false → is_too_large (take n rest) ≡ false
 fits_front rest zero h = refl
 fits_front [] (suc n) h = refl

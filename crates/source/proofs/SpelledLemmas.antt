@@ -18,7 +18,7 @@ use Rattle.source.specs.declared.token.Token.{Token}
 pub within : (s e n : ℕ) → s ≤ e → e ≤ n → (nat_le s e && nat_le e n) ≡ true
 within s e n h k = grind (arith, nat_tests)
 
--- the slice from a piece's first byte to behind its last one
+-- the slice from a piece's first byte to the byte after its last one
 slice_is : (text p : List ℕ) (start : ℕ) → 0 < length p → length p ≤ length (drop start text) → take (length p) (drop start text) ≡ p → slice_of text start (start + length p) ≡ p
 slice_is text p start some size is =
     let low : start + length p ≤ length text = omega (arith, length-drop start text) in
@@ -44,7 +44,7 @@ tokens_spelled text tokens h =
     let front : body_of text ≡ drop (mark_len text + 0) text = ap (λ n. drop n text) (omega arith) in
     subst (λ ts. All (IsSpelled text) ts) (sym h.found) (spelled_from text (mark_len text) [] h.pieces (subst (λ r. Cuts h.pieces r []) front h.begins.cut))
 
--- what is cut behind the mark are the tokens of the text
+-- the tokens that are cut after the mark are those of the text
 pub tokens_of_lexed : (text : List ℕ) (mark : ℕ) (list : List Token) (place : Place) → mark ≡ mark_len text → length text ≤ 4194304 → IsLexed mark (take (length text - mark) (drop mark text)) list place → AreTokens text list
 tokens_of_lexed text mark list place is short h =
     let body : take (length text - mark) (drop mark text) ≡ body_of text = take_rest text mark ∙ ap (λ n. drop n text) is in

@@ -1,4 +1,4 @@
--- Which symbol stands first.
+-- Which symbol comes first.
 use Rattle.std.proofs.Common.{◌≡◌, ℕ, zero, suc, ◌<◌, ◌≤◌, false, List, [], ◌∷◌, length, get_or, take, Some, None, sym, refl, ◌∙◌, ap, arith}
 use Rattle.std.specs.Prelude.{is_some, ◌&&◌, ◌==◌, if◌then◌else◌}
 use Rattle.std.specs.List.{list_all}
@@ -21,7 +21,7 @@ only_symbols b bs o = front_other b bs o.blank o.word o.digit o.slash
 three_none : (b c d : ℕ) (bs : List ℕ) → symbol (b ∷ c ∷ d ∷ bs) ≡ None
 three_none b c d bs = none_longer 2 all_symbols (b ∷ c ∷ d ∷ bs) refl (omega arith)
 
--- two bytes or more, where no symbol of two bytes stands
+-- two bytes or more are no piece, if they do not begin with a symbol of two bytes
 longer_none : (b : ℕ) (bs : List ℕ) (m : ℕ) → IsOther b → (1 < length (b ∷ bs) → symbol (b ∷ get_or bs 0 0 ∷ []) ≡ None) → 1 < m → m ≤ length (b ∷ bs) → is_piece (take m (b ∷ bs)) ≡ false
 longer_none b bs zero o d low high = absurd (omega arith)
 longer_none b bs (suc zero) o d low high = absurd (omega arith)
@@ -67,7 +67,7 @@ first_single (b ∷ bs) k some o d is = (
   sym (symbol_kind b [] o ∙ is),
 )
 
--- nothing
+-- neither a piece nor a comment
 pub first_none : (rest : List ℕ) → 0 < length rest → IsOther (get_or rest 0 0) → (1 < length rest → symbol (get_or rest 0 0 ∷ get_or rest 1 0 ∷ []) ≡ None) → symbol (get_or rest 0 0 ∷ []) ≡ None → IsStray rest
 first_none [] some o d is = absurd (omega arith)
 first_none (b ∷ bs) some o d is = record { some = some; none = record { none = none b bs o d is }; other = no_block b bs o }

@@ -32,7 +32,7 @@ not_written : (word : List ℕ) (k : Kind) (t : Bool) → is_written word k ≡ 
 not_written word k true is h = absurd (false≢true (sym h ∙ eq-eqb (slice_index (reserved_text k) 0) (slice_index word 0) (same_first (reserved_text k) word is)))
 not_written word k false is h = refl
 
--- a word is sought only among the words that begin as it does
+-- a word is searched for only among the words that begin with its first byte
 of_first_find : (ks : List Kind) (word : List ℕ) → find (is_written word) (of_first (slice_index word 0) ks) ≡ find (is_written word) ks
 of_first_find [] word = refl
 of_first_find (k ∷ ks) word = by (of_first_find ks word) (slice_index (reserved_text k) 0 == slice_index word 0) refl
@@ -41,7 +41,7 @@ of_first_find (k ∷ ks) word = by (of_first_find ks word) (slice_index (reserve
     by same true h = ap (λ r. cond (is_written word k) (Some k) r) same
     by same false h = same ∙ ap (λ t. cond t (Some k) (find (is_written word) ks)) (sym (not_written word k (is_written word k) refl h))
 
--- what is written so is found by the texts of the kinds, where these are how the kinds are written
+-- a word is found by the texts of the kinds, if these are how the kinds are written
 found_by_kind : (written : List (Kind × List ℕ)) (word : List ℕ) → map (λ w. reserved_text w.0) written ≡ map (λ w. w.1) written
     → find (is_written word) (map (λ w. w.0) written) ≡ written_so written word
 found_by_kind [] word texts = refl

@@ -1,4 +1,4 @@
--- Which kinds are written so, by what the bytes of all of them have in common.
+-- Which kind has these bytes, by what the bytes of all kinds have in common.
 use Rattle.std.proofs.Common.{◌≡◌, ◌≢◌, ℕ, ◌<◌, Bool, true, false, List, [], ◌∷◌, length, leb, Some, None, sym, refl, ◌∙◌, ap, arith, eqb-true}
 use Rattle.std.specs.Prelude.{◌&&◌, nat_eq, if◌then◌else◌}
 use Rattle.std.specs.List.{list_all}
@@ -11,7 +11,7 @@ use Rattle.source.specs.Words.{written_so}
 abbrev pub all_bytes : (ℕ → Bool) → List (Kind × List ℕ) → Bool
 all_bytes q written = list_all (λ w. list_all q w.1) written
 
--- a byte that does not pass it begins none of them
+-- a byte that fails the test begins none of them
 none_begun : (q : ℕ → Bool) (text : List ℕ) (b : ℕ) (bs : List ℕ) → list_all q text ≡ true → q b ≡ false → pointwise nat_eq text (b ∷ bs) ≡ false
 none_begun q [] b bs all out = refl
 none_begun q (x ∷ xs) b bs all out = by (nat_eq x b) refl
@@ -42,7 +42,7 @@ same_bytes q (x ∷ xs) (y ∷ ys) h =
     let both = and_parts (nat_eq x y) (pointwise nat_eq xs ys) h in
     λ i. q (eqb-true x y both.0 i) && same_bytes q xs ys both.1 i
 
--- and each byte of what is written so passes it
+-- and each byte of one of them passes it
 pub bytes_written : (q : ℕ → Bool) (written : List (Kind × List ℕ)) (bytes : List ℕ) (kind : Kind) → all_bytes q written ≡ true → written_so written bytes ≡ Some kind → list_all q bytes ≡ true
 bytes_written q [] bytes kind all is = cc
 bytes_written q (w ∷ written) bytes kind all is = by (pointwise nat_eq w.1 bytes) refl is (bytes_written q written bytes kind both.1)

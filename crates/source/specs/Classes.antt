@@ -1,8 +1,8 @@
--- Which bytes are what.
+-- The classes of bytes.
 use Rattle.std.specs.Prelude.{◌≡◌, ℕ, Bool, false, ◌==◌, ◌||◌}
 use Rattle.std.specs.Char.{is_ascii_alphabetic, is_ascii_alphanumeric, is_ascii_digit}
 
--- a space, a tab, or a byte that ends a line
+-- a space, a tab, a carriage return or a line feed
 abbrev pub is_blank_byte : ℕ → Bool
 is_blank_byte b = b == 32 || b == 9 || b == 13 || b == 10
 

@@ -3,7 +3,7 @@ use Rattle.std.specs.Prelude.{ℕ, Bool, true, false, List, [], ◌∷◌, ◌==
 use Rattle.std.specs.List.{list_all}
 use Rattle.source.specs.Places.{ends_line}
 
--- `//`, and bytes of which none ends the line
+-- `//`, followed by bytes none of which ends the line
 abbrev pub is_line_comment : List ℕ → Bool
 is_line_comment (a ∷ b ∷ bs) = a == 47 && b == 47 && list_all (λ x. not (ends_line x)) bs
 is_line_comment _ = false
@@ -13,7 +13,7 @@ abbrev pub is_none_left : List ℕ → Bool
 is_none_left [] = true
 is_none_left _ = false
 
--- whether the bytes, which stand behind this one, end at the first `*/` there
+-- whether these bytes, which follow the byte `a`, end at the first `*/`
 abbrev pub closes_behind : ℕ → List ℕ → Bool
 closes_behind a [] = false
 closes_behind a (b ∷ bs) = if a == 42 && b == 47 then is_none_left bs else closes_behind b bs
@@ -23,12 +23,12 @@ abbrev pub closes : List ℕ → Bool
 closes [] = false
 closes (a ∷ bs) = closes_behind a bs
 
--- whether `/*` stands at the front
+-- whether the bytes begin with `/*`
 abbrev pub begins_block : List ℕ → Bool
 begins_block (a ∷ b ∷ _) = a == 47 && b == 42
 begins_block _ = false
 
--- `/*`, and bytes behind it that end at the first `*/` in them
+-- `/*`, followed by bytes that end at the first `*/` in them
 abbrev pub is_block_comment : List ℕ → Bool
 is_block_comment (a ∷ b ∷ bs) = a == 47 && b == 42 && closes bs
 is_block_comment _ = false

@@ -15,48 +15,48 @@ use Rattle.source.specs.declared.brackets.TheConstants.{MAX_DEPTH}
 use Rattle.source.specs.declared.numbers.TheConstants.{MAX_NUMBER}
 use Rattle.source.specs.declared.lexer.TheConstants.{MAX_TEXT}
 
--- whether a piece is a bracket with which too many are open, where so many are open before it
+-- whether a piece is a bracket that makes too many open, from the number open before it
 abbrev pub is_too_deep : ℕ → List ℕ → Bool
 is_too_deep depth piece = nat_lt MAX_DEPTH (depth_behind depth piece)
 
--- whether a piece is a number above the greatest one
+-- whether a piece is a number above the greatest allowed
 abbrev pub is_too_large : List ℕ → Bool
 is_too_large piece = is_number piece && nat_lt MAX_NUMBER (number_value piece)
 
--- whether none of these pieces is a bracket too many or a number too large
+-- whether none of these pieces is such a bracket or such a number
 abbrev pub are_allowed : ℕ → List (List ℕ) → Bool
 are_allowed depth [] = true
 are_allowed depth (p ∷ ps) = not (is_too_deep depth p) && not (is_too_large p) && are_allowed (depth_behind depth p) ps
 
--- the text begins with these pieces, none of them is at fault, and the rest is left
+-- the text is these pieces, none of them at fault, and then the rest
 pub record Begins (pieces : List (List ℕ)) (text rest : List ℕ) : Type 0 where
   pub cut : Cuts pieces text rest
   pub allowed : are_allowed 0 pieces ≡ true
 
--- no piece begins with the byte at the front, and no comment
+-- neither a piece nor a comment begins here
 pub record IsStray (rest : List ℕ) : Type 0 where
   pub some : 0 < length rest
   pub none : HasNoPiece rest
   pub other : begins_block rest ≡ false
 
--- a comment begins at the front that does not end
+-- a comment begins here that does not end
 pub record IsOpenComment (rest : List ℕ) : Type 0 where
   pub begins : begins_block rest ≡ true
   pub none : HasNoPiece rest
 
--- the first piece is a bracket too many
+-- the first piece is a bracket that makes too many open
 pub record IsTooDeep (depth : ℕ) (rest : List ℕ) : Type 0 where
   pub len : ℕ
   pub first : IsFirstPiece rest len
   pub deep : is_too_deep depth (take len rest) ≡ true
 
--- the first piece is a number too large
+-- the first piece is a number that is too large
 pub record IsTooLarge (rest : List ℕ) : Type 0 where
   pub len : ℕ
   pub first : IsFirstPiece rest len
   pub large : is_too_large (take len rest) ≡ true
 
--- this fault stands at the front, which has this place and so many open brackets before it
+-- the text has this fault right here, at this place and with this many brackets open
 abbrev pub StandsAt : TextFault → Place → ℕ → List ℕ → Type 0
 StandsAt (Stray at) place depth rest = (at ≡ place) × IsStray rest
 StandsAt (OpenComment at) place depth rest = (at ≡ place) × IsOpenComment rest
@@ -65,14 +65,14 @@ StandsAt (TooDeep at) place depth rest = (at ≡ place) × IsTooDeep depth rest
 StandsAt (TooLarge at) place depth rest = (at ≡ place) × IsTooLarge rest
 StandsAt Memory place depth rest = ⊥
 
--- behind pieces without a fault this one stands
+-- the text begins with pieces that have no fault, and this fault comes next
 pub record HasFirst (text : List ℕ) (fault : TextFault) : Type 0 where
   pub pieces : List (List ℕ)
   pub rest : List ℕ
   pub begins : Begins pieces text rest
   pub there : StandsAt fault (place_of (concat pieces)) (depth_of 0 pieces) rest
 
--- the fault of a text: its length before all else, then the first that stands in it
+-- the fault of a text: its length before all else, then the first fault in it
 abbrev pub IsFault : List ℕ → TextFault → Type 0
 IsFault text TooLong = MAX_TEXT < length text
 IsFault text fault = (length text ≤ MAX_TEXT) × HasFirst (body_of text) fault

@@ -1,4 +1,4 @@
--- Findings, and the order in which a report has them.
+-- Findings: what they are, those of a text's faults, and how their codes are printed.
 use Rattle.std.specs.Prelude.{◌≡◌, ℕ, List, [], ◌∷◌, codes}
 use Rattle.std.specs.Ordering.{nat_cmp, ordering_then}
 use Rattle.std.specs.declared.cmp.Ordering.{Ordering}
@@ -14,7 +14,7 @@ use Rattle.source.specs.declared.finding.Code.TheVariants.{A12, A13, A14, A15, C
 use Rattle.source.specs.declared.finding.Code.TheVariants.{N05, N06, N07, N08, N09, S01, S02, S03, S04, S05, S06}
 use Rattle.source.specs.declared.finding.Finding.{Finding}
 
--- a finding without its memory: its place, its code and its text
+-- a finding as a value: its place, its code and its text
 pub record FindingModel : Type 0 where
   pub place : Place
   pub code : Code
@@ -23,13 +23,13 @@ pub record FindingModel : Type 0 where
 abbrev pub finding_model : Finding → FindingModel
 finding_model f = record { place = f.place; code = f.code; text = string_bytes f.text }
 
--- it is found at this place, and has this code and this text
+-- the finding has this place, this code and this text
 pub record IsFinding (at : Place) (kind : Code) (says : List ℕ) (f : Finding) : Type 0 where
   pub place : f.place ≡ at
   pub code : f.code ≡ kind
   pub text : string_bytes f.text ≡ says
 
--- the finding that a fault of a text is; want of memory is none
+-- the finding for a fault of a text; running out of memory has none
 abbrev pub fault_findings : TextFault → List FindingModel
 fault_findings (Stray place) = record { place = place; code = S01; text = codes "stray byte" } ∷ []
 fault_findings (OpenComment place) = record { place = place; code = S02; text = codes "comment not closed" } ∷ []
@@ -38,7 +38,7 @@ fault_findings (TooDeep place) = record { place = place; code = S04; text = code
 fault_findings (TooLarge place) = record { place = place; code = S06; text = codes "number too large" } ∷ []
 fault_findings Memory = []
 
--- how a code is printed
+-- a code as it is printed
 abbrev pub code_name : Code → List ℕ
 code_name A01 = codes "A01"
 code_name A02 = codes "A02"

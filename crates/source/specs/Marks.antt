@@ -6,10 +6,10 @@ use Rattle.std.specs.List.{starts_with}
 abbrev pub mark : List ℕ
 mark = 239 ∷ 187 ∷ 191 ∷ []
 
--- how many bytes at the front are a mark: 3 or none
+-- the length of the mark at the front: 3, or 0 if there is none
 abbrev pub mark_len : List ℕ → ℕ
 mark_len text = if starts_with nat_eq text mark then 3 else 0
 
--- the text behind its mark
+-- the text after its mark
 abbrev pub body_of : List ℕ → List ℕ
 body_of text = drop (mark_len text) text

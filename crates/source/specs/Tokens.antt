@@ -1,4 +1,4 @@
--- The tokens among the pieces of a text.
+-- The tokens of a text.
 use Rattle.std.specs.Prelude.{◌≡◌, ℕ, ◌+◌, ◌<◌, ◌≤◌, List, [], ◌∷◌, ◌++◌, length, Option, Some, None}
 use Rattle.source.specs.Faults.{Begins}
 use Rattle.source.specs.Marks.{mark_len, body_of}
@@ -10,8 +10,8 @@ use Rattle.source.specs.declared.place.Place.{Place}
 use Rattle.source.specs.declared.token.Token.{Token}
 use Rattle.source.specs.declared.lexer.TheConstants.{MAX_TEXT}
 
--- The token that a piece is, behind a mark of so many bytes and the bytes before it; none for a blank and a comment.
--- Its place is counted from the bytes before it, its span from the mark on.
+-- The token that a piece is, from the length of the mark and the bytes before the piece; none for a
+-- blank or a comment. Its place does not count the mark, its span does.
 abbrev pub token_of : Option Kind → ℕ → List ℕ → List ℕ → List Token
 token_of None mark before piece = []
 token_of (Some kind) mark before piece = record {
@@ -19,19 +19,19 @@ token_of (Some kind) mark before piece = record {
   span = record { start = mark + length before; end = mark + length before + length piece; place = place_of before };
 } ∷ []
 
--- the tokens among the pieces that stand behind these bytes
+-- the tokens among pieces that follow these bytes
 abbrev pub tokens_of : ℕ → List ℕ → List (List ℕ) → List Token
 tokens_of mark before [] = []
 tokens_of mark before (p ∷ ps) = token_of (kind_of p) mark before p ++ tokens_of mark (before ++ p) ps
 
--- what stands behind a mark of so many bytes is cut whole and without a fault, into these tokens, up to this place
+-- the body after a mark of this length is cut whole and without a fault into these tokens, and ends at this place
 pub record IsLexed (mark : ℕ) (body : List ℕ) (list : List Token) (place : Place) : Type 0 where
   pub pieces : List (List ℕ)
   pub begins : Begins pieces body []
   pub found : list ≡ tokens_of mark [] pieces
   pub ending : place ≡ place_of body
 
--- these are the tokens of the text, which has no fault
+-- these are the tokens of a text that has no fault
 pub record AreTokens (text : List ℕ) (tokens : List Token) : Type 0 where
   pub short : length text ≤ MAX_TEXT
   pub pieces : List (List ℕ)
@@ -42,7 +42,7 @@ pub record AreTokens (text : List ℕ) (tokens : List Token) : Type 0 where
 abbrev pub IsSpelled : List ℕ → Token → Type 0
 IsSpelled text token = kind_of (slice_of text token.span.start token.span.end) ≡ Some token.kind
 
--- from this byte up to that one each token begins behind the one before it, and has a byte or more
+-- between these two bytes each token begins at or after the end of the one before it, and has at least one byte
 abbrev pub AreInOrder : ℕ → ℕ → List Token → Type 0
 AreInOrder from to [] = from ≤ to
 AreInOrder from to (t ∷ ts) = (from ≤ t.span.start) × (t.span.start < t.span.end) × AreInOrder t.span.end to ts

@@ -12,7 +12,7 @@ use Rattle.source.specs.declared.kind.Kind.TheVariants.{OpenBrace, CloseBrace, O
 use Rattle.source.specs.declared.kind.Kind.TheVariants.{Semicolon, Colon, Comma, Dot, Star, Bang, Question, Equal, EqualEqual, NotEqual}
 use Rattle.source.specs.declared.kind.Kind.TheVariants.{Less, LessEqual, Greater, GreaterEqual, Plus, Minus, AndAnd, OrOr, Arrow}
 
--- the symbols, each as it is written
+-- the symbols, each with its spelling
 abbrev pub all_symbols : List (Kind × List ℕ)
 all_symbols =
     (OpenBrace, codes "{") ∷ (CloseBrace, codes "}") ∷ (OpenParen, codes "(") ∷ (CloseParen, codes ")")
@@ -22,7 +22,7 @@ all_symbols =
     ∷ (EqualEqual, codes "==") ∷ (NotEqual, codes "!=") ∷ (LessEqual, codes "<=") ∷ (GreaterEqual, codes ">=")
     ∷ (AndAnd, codes "&&") ∷ (OrOr, codes "||") ∷ (Arrow, codes "->") ∷ []
 
--- the reserved words: those of declarations and types, then those of statements and expressions
+-- the reserved words, each with its spelling: first those of declarations and types, then those of statements and expressions
 abbrev pub reserved_words : List (Kind × List ℕ)
 reserved_words =
     (BoolWord, codes "bool") ∷ (Byte, codes "byte") ∷ (Class, codes "class") ∷ (Claims, codes "Claims")
@@ -36,36 +36,36 @@ reserved_words =
     ∷ (NewChannel, codes "NewChannel") ∷ (Receive, codes "receive") ∷ (Return, codes "return")
     ∷ (Start, codes "start") ∷ (Switch, codes "switch") ∷ (True, codes "true") ∷ (While, codes "while") ∷ []
 
--- the kind of these that is written so
+-- the kind in this table whose spelling is these bytes
 abbrev pub written_so : List (Kind × List ℕ) → List ℕ → Option Kind
 written_so [] bytes = None
 written_so (w ∷ written) bytes = if pointwise nat_eq w.1 bytes then Some w.0 else written_so written bytes
 
--- what symbol the bytes are, as a whole
+-- the symbol that the bytes are as a whole, if they are one
 abbrev pub symbol : List ℕ → Option Kind
 symbol bytes = written_so all_symbols bytes
 
--- the kind of a whole word: the reserved word that is written so, else a name
+-- the kind of a whole word: a reserved word if it is spelled like one, else a name
 unfoldable pub word_kind : List ℕ → Kind
 word_kind bytes = unwrap_or (written_so reserved_words bytes) Name
 
--- how a kind of these is written; nothing for another
+-- how a kind in this table is written; empty for any other kind
 abbrev pub text_among : List (Kind × List ℕ) → Kind → List ℕ
 text_among [] kind = []
 text_among (w ∷ written) kind = if sameb the_type w.0 kind then w.1 else text_among written kind
 
--- how a symbol or a reserved word is written; nothing for a name and a number
+-- how a symbol or a reserved word is written; empty for a name or a number
 abbrev pub text_of : Kind → List ℕ
 text_of kind = text_among (all_symbols ++ reserved_words) kind
 
--- how a reserved word is written; nothing for another kind
+-- how a reserved word is written; empty for any other kind
 abbrev pub reserved_text : Kind → List ℕ
 reserved_text kind = text_among reserved_words kind
 
--- how one of statements and expressions is
+-- how a reserved word of statements or expressions is written; empty for any other kind
 abbrev pub statement_text : Kind → List ℕ
 statement_text kind = text_among (drop 21 reserved_words) kind
 
--- the first of these reserved words that is written so, else a name
+-- the first of these kinds whose reserved word is these bytes, else a name
 abbrev pub kind_among : List Kind → List ℕ → Kind
 kind_among kinds bytes = unwrap_or (find (λ k. pointwise nat_eq (reserved_text k) bytes) kinds) Name

@@ -1,14 +1,14 @@
-//! How many brackets are open.
+//! The number of open brackets.
 
 ghost use Rattle.std.specs.Prelude.{◌≡◌, ◌^◌, ◌+◌, ◌<◌};
 ghost use Rattle.source.specs.Brackets.{depth_after};
 
 use crate::kind::Kind;
 
-/// How many brackets may be open at once.
+/// The greatest number of brackets open at once.
 pub(crate) const MAX_DEPTH: u32 = 100;
 
-/// How many brackets are open behind a token, where so many are open before it.
+/// Returns the number of open brackets after a token, from the number before it.
 pub(crate) fn after(depth: u32, kind: Kind) -> u32
     requires { depth + 1 < 2 ^ 32 }
     ensures { result ≡ depth_after depth kind }

@@ -1,4 +1,4 @@
-//! Comments: how far one goes.
+//! The lengths of comments.
 
 ghost use Rattle.std.specs.Prelude.{◌≡◌, take, codes, Some, IfSome, IfNone};
 ghost use Rattle.bstr.specs.Find.{FindsNeedle, Nowhere, OccursAt};
@@ -8,7 +8,7 @@ ghost use Rattle.source.specs.declared.comments.TheConstants.{NEAR};
 
 use bstr::{ByteSlice, Finder};
 
-/// How many bytes the comment at the front has that begins with `//`: it ends before the end of the line.
+/// Returns the length of the `//` comment at the front, which ends before the end of the line.
 pub(crate) fn line_len(rest: &[u8]) -> usize
     requires { take 2 rest.now ≡ codes "//" }
     ensures { IsFirstPiece rest.now result }
@@ -17,8 +17,8 @@ pub(crate) fn line_len(rest: &[u8]) -> usize
     2 + body.find_byte(b'\n').unwrap_or(body.len())
 }
 
-/// How many bytes the comment at the front has that begins with `/*`; none where it does not end. Its end is sought
-/// behind these two bytes, so that `/*/` does not end.
+/// Returns the length of the `/*` comment at the front, or `None` if it does not end. The search for its end starts
+/// after these two bytes, so `/*/` does not end.
 pub(crate) fn block_len(rest: &[u8], closing: &Finder<'_>) -> Option<usize>
     requires begins { take 2 rest.now ≡ codes "/*" }
     requires closing { closing.now ≡ codes "*/" }
@@ -33,10 +33,11 @@ pub(crate) fn block_len(rest: &[u8], closing: &Finder<'_>) -> Option<usize>
     Some(end + 4)
 }
 
-/// So many bytes of a comment are looked at by hand first. To call the search for its end costs as much as some twenty bytes.
+/// The number of bytes of a comment that are searched by hand first. A call to the search for its end costs as much
+/// as some twenty bytes.
 const NEAR: usize = 8;
 
-/// Where the first `*/` stands, if it begins among the bytes that are near.
+/// Returns the index of the first `*/` if it begins within the first `NEAR` bytes.
 fn near_closing(body: &[u8]) -> Option<usize>
     ensures some { IfSome result (λ end. FindsNeedle body.now (codes "*/") 0 (Some end)) }
     ensures none { IfNone result (Nowhere (OccursAt body.now (codes "*/")) 0 NEAR) }

@@ -1,10 +1,10 @@
-//! Why there is no answer.
+//! Why a call fails.
 
 use crate::place::Place;
 use std::alloc::{AllocError, AllocFailed};
 use thiserror::Error;
 
-/// A growth of memory was refused.
+/// An allocation was refused.
 #[derive(Clone, Copy, Debug, PartialEq, Eq, Error)]
 #[error("out of memory")]
 pub struct Memory;
@@ -24,22 +24,22 @@ impl<T: Drop> From<AllocFailed<T>> for Memory {
 /// Why a text has no tokens.
 #[derive(Clone, Copy, Debug, PartialEq, Eq, Error)]
 pub enum TextFault {
-    /// No blank, comment or token begins with the byte there.
+    /// No blank, comment or token begins with the byte at this place.
     #[error("stray byte")]
     Stray(Place),
-    /// The comment that begins there does not end.
+    /// The comment that begins at this place does not end.
     #[error("comment not closed")]
     OpenComment(Place),
-    /// It has more than 4,194,304 bytes.
+    /// The text has more than 4,194,304 bytes.
     #[error("text too long")]
     TooLong,
-    /// With the bracket there more than 100 are open.
+    /// With the bracket at this place more than 100 are open.
     #[error("brackets too deep")]
     TooDeep(Place),
-    /// The number there is above 2147483647.
+    /// The number at this place is above 2147483647.
     #[error("number too large")]
     TooLarge(Place),
-    /// A growth of memory was refused.
+    /// An allocation was refused.
     #[error("out of memory")]
     Memory,
 }

@@ -1,4 +1,4 @@
-//! What is found wrong in a text.
+//! Findings and their codes.
 
 ghost use Rattle.std.specs.Prelude.{◌≡◌};
 ghost use Rattle.source.specs.Findings.{finding_cmp};
@@ -6,8 +6,8 @@ ghost use Rattle.source.specs.Findings.{finding_cmp};
 use crate::place::Place;
 use std::cmp::Ordering;
 
-/// The code of a finding: A of methods, C of contracts, N of names and types, S of the text, in the order in which a
-/// report has them at one place.
+/// The code of a finding: A for methods, C for contracts, N for names and types, S for the text, in the order in
+/// which a report lists them at one place.
 #[derive(Clone, Copy, Debug, PartialEq, Eq, PartialOrd, Ord)]
 pub enum Code {
     A01,
@@ -49,7 +49,7 @@ pub enum Code {
 impl Code {
     ghost use Rattle.source.specs.Findings.{code_name};
 
-    /// How a code is printed.
+    /// Returns the code as it is printed.
     pub fn name(self) -> &'static str
         ensures { result.now ≡ code_name self }
     {
@@ -100,7 +100,7 @@ pub struct Finding {
     pub text: String,
 }
 
-/// The order in which a report has two findings: by line, by column, by the name of the code, by the bytes of the text.
+/// Compares two findings in report order: by line, by column, by the name of the code, by the bytes of the text.
 pub fn compare(a: &Finding, b: &Finding) -> Ordering
     ensures { result ≡ finding_cmp a.now b.now }
 {

@@ -1,6 +1,6 @@
 //! The kinds of token.
 
-/// What kind of token it is: a name is a word that is not reserved, and the others are the number, the reserved words
+/// The kind of a token. A name is a word that is not reserved; the other kinds are the number, the reserved words
 /// and the symbols.
 #[derive(Clone, Copy, Debug, PartialEq, Eq)]
 pub enum Kind {

@@ -1,4 +1,4 @@
-//! The kinds of token: all of them, and how they are written.
+//! All kinds of token, and how they are written.
 
 ghost use Rattle.std.specs.Prelude.{◌≡◌};
 ghost use Rattle.source.specs.Words.{reserved_text, statement_text, text_of};
@@ -74,7 +74,7 @@ pub const ALL_KINDS: [Kind; 65] = [
     Kind::Arrow,
 ];
 
-/// A symbol or a reserved word as it is written; nothing for a name and a number.
+/// Returns a symbol or a reserved word as it is written, or `""` for a name or a number.
 pub fn text_of(kind: Kind) -> &'static str
     ensures { result.now ≡ text_of kind }
 {
@@ -108,7 +108,7 @@ pub fn text_of(kind: Kind) -> &'static str
     }
 }
 
-/// A reserved word as it is written; nothing for another kind.
+/// Returns a reserved word as it is written, or `""` for any other kind.
 pub(crate) fn reserved_word(kind: Kind) -> &'static str
     ensures { result.now ≡ reserved_text kind }
 {
@@ -138,7 +138,7 @@ pub(crate) fn reserved_word(kind: Kind) -> &'static str
     }
 }
 
-/// A reserved word of statements and expressions as it is written; nothing for another kind.
+/// Returns a reserved word of statements or expressions as it is written, or `""` for any other kind.
 fn reserved_in_statements(kind: Kind) -> &'static str
     ensures { result.now ≡ statement_text kind }
 {

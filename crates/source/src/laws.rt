@@ -1,4 +1,4 @@
-//! Laws of texts: they hold whatever the lexer does.
+//! Laws of texts, which hold whatever the lexer does.
 
 ghost use Rattle.std.specs.Prelude.{◌≡◌, ◌⊎◌, ℕ, List, [], Contains};
 ghost use Rattle.source.specs.Cutting.{Cuts};
@@ -12,7 +12,7 @@ ghost use Rattle.source.specs.declared.lexer.TheConstants.{MAX_TEXT};
 ghost use Rattle.source.specs.declared.numbers.TheConstants.{MAX_NUMBER};
 ghost use Rattle.source.specs.declared.token.Token.{Token};
 
-/// A text is cut in one way, so its tokens are the only ones.
+/// A text is cut in only one way, so its tokens are unique.
 pub fn one_cutting()
     ensures pieces { (text : List ℕ) (ps qs : List (List ℕ))
         → Cuts ps text [] → Cuts qs text [] → ps ≡ qs }
@@ -20,7 +20,7 @@ pub fn one_cutting()
         → AreTokens text a → AreTokens text b → a ≡ b }
 {}
 
-/// A text has one fault at most, and none where it has tokens.
+/// A text has at most one fault, and none if it has tokens.
 pub fn one_fault()
     ensures one { (text : List ℕ) (f g : TextFault)
         → IsFault text f → IsFault text g → f ≡ g }
@@ -28,19 +28,19 @@ pub fn one_fault()
         → AreTokens text tokens → IsFault text f → ⊥ }
 {}
 
-/// Each text has tokens or a fault, so there is always an answer beside `Memory`: at each place the longest piece is found
-/// by trying all lengths from the rest's own downwards, and where none is a piece, that is a fault.
+/// Each text has tokens or a fault, so there is always an answer other than `Memory`. The longest piece at a place
+/// is found by trying all lengths, from that of the rest downwards; if none is a piece, that is a fault.
 pub fn each_text_is_cut()
     ensures { (text : List ℕ)
         → ((tokens : List Token) × AreTokens text tokens) ⊎ ((fault : TextFault) × IsFault text fault) }
 {}
 
-/// Each kind of token is listed.
+/// Each kind of token is listed in `ALL_KINDS`.
 pub fn each_kind_is_listed()
     ensures { (kind : Kind) → Contains ALL_KINDS kind }
 {}
 
-/// The limits in digits.
+/// The limits as numbers.
 pub fn limits()
     ensures text { MAX_TEXT ≡ 4194304 }
     ensures depth { MAX_DEPTH ≡ 100 }

@@ -1,4 +1,4 @@
-//! Tokens of a text, each the longest at its place.
+//! The tokens of a text, each the longest at its place.
 
 ghost use Rattle.std.specs.Prelude.{◌≡◌, ◌≢◌, ◌++◌, ◌+◌, ◌^◌, ◌<◌, ◌≤◌, ◌⊎◌, List, ℕ, length, take, All, IfOk, IfErr};
 ghost use Rattle.source.specs.Faults.{HasFirst, IsFault};
@@ -16,14 +16,15 @@ use crate::token::{Span, Token, Tokens};
 use bstr::Finder;
 use std::alloc::Global;
 
-/// How many bytes a text may have.
+/// The greatest length of a text, in bytes.
 pub const MAX_TEXT: usize = 4_194_304;
 
-/// For how many tokens there is room from the start, at most. They take 33.54 MB, and from 33.55 MB on the allocator gives memory back to
-/// the system, as the script `singcheck` sets it: the stages behind would have to have other pages cleared.
+/// The most tokens that room is reserved for at the start. They take 33.54 MB. From 33.55 MB on, the allocator as
+/// the script `singcheck` sets it gives memory back to the system, and later stages would need other pages to be
+/// cleared.
 const AT_ONCE: usize = 1_677_000;
 
-/// How many bytes at the front are a UTF-8 byte order mark: 3 or none.
+/// Returns the length of the UTF-8 byte order mark at the front: 3, or 0 if there is none.
 fn mark_len(text: &[u8]) -> usize
     ensures value { result ≡ mark_len text.now }
     ensures within { result ≤ length text.now }
@@ -35,14 +36,14 @@ fn mark_len(text: &[u8]) -> usize
     }
 }
 
-/// The tokens among the pieces of a text, and the place behind it.
+/// The tokens among the pieces of a text, and the place after it.
 #[derive(Drop)]
 struct Lexed {
     list: Vec<Token>,
     end: Place,
 }
 
-/// The place behind a piece, from the place that it begins at. No byte of a token ends a line.
+/// Returns the place after a piece, from the place where it begins. No byte of a token ends a line.
 fn behind(start: Place, piece: Piece, rest: &[u8]) -> Place
     requires first { IsFirst rest.now piece }
     requires line { start.line + piece.len < 2 ^ 32 }
@@ -58,7 +59,7 @@ fn behind(start: Place, piece: Piece, rest: &[u8]) -> Place
     }
 }
 
-/// The tokens of what stands behind a byte order mark of so many bytes, or the first fault there.
+/// Returns the tokens of the text after a byte order mark of `mark` bytes, or its first fault.
 fn cut(alloc: Global, body: &[u8], mark: usize) -> Result<Lexed, TextFault>
     requires { mark + length body.now ≤ MAX_TEXT }
     ensures found { IfOk result (λ found. IsLexed mark body.now found.list.items found.end) }
@@ -93,18 +94,19 @@ fn cut(alloc: Global, body: &[u8], mark: usize) -> Result<Lexed, TextFault>
     Ok(Lexed { list, end: place })
 }
 
-/// The tokens of a text, in order, each with its span and its place, or the first fault of the text.
+/// Returns the tokens of a text in order, each with its span and its place.
 ///
-/// The text is cut into blanks, comments and tokens, each the longest at its place. A word is a name or a reserved word,
-/// `[A-Za-z_][A-Za-z0-9_]*`; a number is `[0-9]+`. As in C, a comment runs from `//` to before the end of the line, or
-/// from `/*` to the next `*/` behind it, and does not nest. A UTF-8 byte order mark at the front is passed over: spans
-/// count its bytes, places do not.
+/// The text is cut into blanks, comments and tokens, each the longest at its place. A word is a name or a reserved
+/// word, `[A-Za-z_][A-Za-z0-9_]*`; a number is `[0-9]+`. As in C, a comment runs from `//` to before the end of the
+/// line, or from `/*` to the next `*/` after it, and does not nest. A UTF-8 byte order mark at the front is
+/// skipped: spans count its bytes, places do not.
 ///
-/// `TooLong` comes before all else, for more than `MAX_TEXT` bytes. Else it is the fault that stands first in the text:
-/// `Stray` at a byte with which none of these begins, `OpenComment` at the `/*` of a comment that does not end,
-/// `TooDeep` at the bracket with which 101 are open (a closing one of any kind takes one away, not below none),
-/// `TooLarge` at a number above 2147483647. `Memory` comes where a growth of memory was refused. After an error nothing
-/// of the answer stays.
+/// # Errors
+/// `TooLong` if the text has more than `MAX_TEXT` bytes, whatever else is wrong with it. Otherwise the first fault
+/// in the text: `Stray` at a byte that begins none of these, `OpenComment` at the `/*` of a comment that does not
+/// end, `TooDeep` at the bracket with which 101 are open (a closing bracket of any kind closes one, if one is
+/// open), `TooLarge` at a number above 2147483647. `Memory` if an allocation was refused. After an error no part of
+/// the result remains.
 pub fn lex(alloc: Global, text: &[u8]) -> Result<Tokens, TextFault>
     ensures tokens { IfOk result (λ found. AreTokens text.now found.list.items) }
     ensures spelled { IfOk result (λ found. All (IsSpelled text.now) found.list.items) }

@@ -13,21 +13,21 @@ use crate::place::Place;
 use crate::{comments, numbers, symbols, words};
 use bstr::Finder;
 
-/// A blank, a comment or a token: how many bytes it has, and of which kind the token is.
+/// A blank, a comment or a token: its length in bytes, and the kind if it is a token.
 #[derive(Clone, Copy)]
 pub(crate) struct Piece {
     pub(crate) kind: Option<Kind>,
     pub(crate) len: usize,
 }
 
-/// Whether it is a space, a tab or the end of a line.
+/// Returns whether a byte is a space, a tab, a carriage return or a line feed.
 fn is_blank(byte: u8) -> bool
     ensures { result ≡ is_blank_byte byte }
 {
     matches!(byte, b' ' | b'\t' | b'\r' | b'\n')
 }
 
-/// The word at the front of what begins with one.
+/// Returns the word at the front of bytes that begin with one.
 fn word(rest: &[u8]) -> Piece
     requires some { 0 < length rest.now }
     requires begins { starts_word (slice_index rest.now 0) ≡ true }
@@ -40,7 +40,7 @@ fn word(rest: &[u8]) -> Piece
     }
 }
 
-/// The number at the front of what begins with a digit.
+/// Returns the number at the front of bytes that begin with a digit, or `TooLarge` if it is above `MAX_NUMBER`.
 fn number(rest: &[u8], place: Place) -> Result<Piece, TextFault>
     requires some { 0 < length rest.now }
     requires begins { is_ascii_digit (slice_index rest.now 0) ≡ true }
@@ -57,7 +57,8 @@ fn number(rest: &[u8], place: Place) -> Result<Piece, TextFault>
     })
 }
 
-/// The comment at the front of what begins with `/`.
+/// Returns the comment at the front of bytes that begin with `/`. The fault is `OpenComment` if it does not end,
+/// `Stray` if no comment begins there.
 fn comment(rest: &[u8], place: Place, closing: &Finder<'_>) -> Result<Piece, TextFault>
     requires some { 0 < length rest.now }
     requires begins { slice_index rest.now 0 ≡ 47 }
@@ -81,7 +82,8 @@ fn comment(rest: &[u8], place: Place, closing: &Finder<'_>) -> Result<Piece, Tex
     }
 }
 
-/// The longest symbol at the front of what begins with no blank, word, number or comment.
+/// Returns the longest symbol at the front of bytes that begin with no blank, word, number or comment, or `Stray`
+/// if there is none.
 fn symbol(rest: &[u8], place: Place) -> Result<Piece, TextFault>
     requires some { 0 < length rest.now }
     requires other { IsOther (slice_index rest.now 0) }
@@ -106,7 +108,8 @@ fn symbol(rest: &[u8], place: Place) -> Result<Piece, TextFault>
     }
 }
 
-/// The longest blank, comment or token at the front, which stands at that place.
+/// Returns the longest blank, comment or token at the front of `rest`, or the fault there. `place` is the place of
+/// `rest`.
 pub(crate) fn first_piece(
     rest: &[u8],
     place: Place,

@@ -5,7 +5,7 @@ ghost use Rattle.source.specs.Words.{symbol};
 
 use crate::kind::Kind;
 
-/// The kind of a symbol of one byte.
+/// Returns the kind of a symbol of one byte.
 pub(crate) fn of_byte(byte: u8) -> Option<Kind>
     ensures { result ≡ symbol (byte ∷ []) }
 {
@@ -32,7 +32,7 @@ pub(crate) fn of_byte(byte: u8) -> Option<Kind>
     }
 }
 
-/// The kind of a symbol of two bytes.
+/// Returns the kind of a symbol of two bytes.
 pub(crate) fn of_two(first: u8, second: u8) -> Option<Kind>
     ensures { result ≡ symbol (first ∷ second ∷ []) }
 {

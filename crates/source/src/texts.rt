@@ -1,7 +1,7 @@
-//! What is said of each finding: its code and its text, in one function a message.
+//! The code and the text of each finding, one function for each.
 //!
-//! Each takes the place of the finding, and the name that its text says where it says one. A name that is no UTF-8
-//! is printed with U+FFFD for what is none. The only fault is that a growth of memory was refused.
+//! Each function takes the place of the finding, unless that is fixed, and the names that its text contains. In a
+//! name that is not UTF-8, U+FFFD replaces what is not. The only error is `Memory`, if an allocation was refused.
 
 ghost use Rattle.std.specs.Prelude.{◌≡◌, ◌++◌, ◌∷◌, [], IfOk, OnOk, codes, string_bytes};
 ghost use Rattle.std.specs.Option.{option_map_or};
@@ -23,7 +23,7 @@ pub use ownership::{
 use std::alloc::Global;
 use std::str;
 
-/// A finding with this text.
+/// Returns a finding with this text.
 fn plain(alloc: Global, place: Place, code: Code, text: &str) -> Result<Finding, Memory>
     ensures { IfOk result (IsFinding place code text.now) }
 {
@@ -31,8 +31,10 @@ fn plain(alloc: Global, place: Place, code: Code, text: &str) -> Result<Finding,
     Ok(Finding { place, code, text })
 }
 
-/// Adds a name as it is printed. A name that is UTF-8 needs no text of its own for that. `Memory` comes where a growth of memory was
-/// refused; the text may have got longer then.
+/// Appends a name as it is printed. A UTF-8 name is appended without a text of its own.
+///
+/// # Errors
+/// `Memory` if an allocation was refused; the text may have grown then.
 pub fn push_name(alloc: Global, text: &mut String, name: &[u8]) -> Result<(), Memory>
     ensures { OnOk result (string_bytes text.new ≡ string_bytes text.old ++ utf8_lossy name.now) }
 {
@@ -43,7 +45,7 @@ pub fn push_name(alloc: Global, text: &mut String, name: &[u8]) -> Result<(), Me
     Ok(())
 }
 
-/// A finding whose text begins with a name.
+/// Returns a finding whose text begins with a name.
 fn named(
     alloc: Global,
     place: Place,
@@ -59,7 +61,7 @@ fn named(
     Ok(Finding { place, code, text })
 }
 
-/// A finding whose text ends with a name.
+/// Returns a finding whose text ends with a name.
 fn naming(
     alloc: Global,
     place: Place,
@@ -75,112 +77,112 @@ fn naming(
     Ok(Finding { place, code, text })
 }
 
-/// A byte with which no blank, comment or token begins.
+/// Reports a byte that begins no blank, comment or token.
 pub fn stray_byte(alloc: Global, place: Place) -> Result<Finding, Memory>
     ensures { IfOk result (IsFinding place Code.S01 (codes "stray byte")) }
 {
     plain(alloc, place, Code::S01, "stray byte")
 }
 
-/// A comment that does not end, at its `/*`.
+/// Reports a comment that does not end, at its `/*`.
 pub fn comment_not_closed(alloc: Global, place: Place) -> Result<Finding, Memory>
     ensures { IfOk result (IsFinding place Code.S02 (codes "comment not closed")) }
 {
     plain(alloc, place, Code::S02, "comment not closed")
 }
 
-/// A text of more bytes than a text may have, at its front.
+/// Reports a text of more than the greatest length, at its first byte.
 pub fn text_too_long(alloc: Global) -> Result<Finding, Memory>
     ensures { IfOk result (IsFinding first_place Code.S03 (codes "text too long")) }
 {
     plain(alloc, place::START, Code::S03, "text too long")
 }
 
-/// A bracket with which more are open than may be.
+/// Reports a bracket with which too many are open.
 pub fn brackets_too_deep(alloc: Global, place: Place) -> Result<Finding, Memory>
     ensures { IfOk result (IsFinding place Code.S04 (codes "brackets too deep")) }
 {
     plain(alloc, place, Code::S04, "brackets too deep")
 }
 
-/// A token that no program goes on with.
+/// Reports a token with which no program continues.
 pub fn unexpected_token(alloc: Global, place: Place) -> Result<Finding, Memory>
     ensures { IfOk result (IsFinding place Code.S05 (codes "unexpected token")) }
 {
     plain(alloc, place, Code::S05, "unexpected token")
 }
 
-/// The end of a text that is no whole program, at the place behind its last byte.
+/// Reports the end of a text that is not a whole program, at the place after its last byte.
 pub fn unexpected_end(alloc: Global, place: Place) -> Result<Finding, Memory>
     ensures { IfOk result (IsFinding place Code.S05 (codes "unexpected end")) }
 {
     plain(alloc, place, Code::S05, "unexpected end")
 }
 
-/// A number above the greatest one.
+/// Reports a number above the greatest one allowed.
 pub fn number_too_large(alloc: Global, place: Place) -> Result<Finding, Memory>
     ensures { IfOk result (IsFinding place Code.S06 (codes "number too large")) }
 {
     plain(alloc, place, Code::S06, "number too large")
 }
 
-/// A name that is declared already, at the later declaration.
+/// Reports a name that is already declared, at the later declaration.
 pub fn declared_twice(alloc: Global, place: Place, name: &[u8]) -> Result<Finding, Memory>
     ensures { IfOk result (IsFinding place Code.N01 (utf8_lossy name.now ++ codes " declared twice")) }
 {
     named(alloc, place, Code::N01, name, " declared twice")
 }
 
-/// A name that nothing declares.
+/// Reports a name that nothing declares.
 pub fn unknown(alloc: Global, place: Place, name: &[u8]) -> Result<Finding, Memory>
     ensures { IfOk result (IsFinding place Code.N02 (utf8_lossy name.now ++ codes " unknown")) }
 {
     named(alloc, place, Code::N02, name, " unknown")
 }
 
-/// An expression, a variable or a message of another kind than is asked for.
+/// Reports an expression, a variable or a message of another kind than required.
 pub fn wrong_type(alloc: Global, place: Place) -> Result<Finding, Memory>
     ensures { IfOk result (IsFinding place Code.N03 (codes "wrong type")) }
 {
     plain(alloc, place, Code::N03, "wrong type")
 }
 
-/// More arguments than there are parameters, or fewer.
+/// Reports more or fewer arguments than there are parameters.
 pub fn wrong_number_of_arguments(alloc: Global, place: Place) -> Result<Finding, Memory>
     ensures { IfOk result (IsFinding place Code.N04 (codes "wrong number of arguments")) }
 {
     plain(alloc, place, Code::N04, "wrong number of arguments")
 }
 
-/// A `break` with nothing to break off.
+/// Reports a `break` that is in no loop or switch.
 pub fn break_outside(alloc: Global, place: Place) -> Result<Finding, Memory>
     ensures { IfOk result (IsFinding place Code.N05 (codes "break outside")) }
 {
     plain(alloc, place, Code::N05, "break outside")
 }
 
-/// A `continue` with nothing to turn back to.
+/// Reports a `continue` that is in no loop.
 pub fn continue_outside(alloc: Global, place: Place) -> Result<Finding, Memory>
     ensures { IfOk result (IsFinding place Code.N05 (codes "continue outside")) }
 {
     plain(alloc, place, Code::N05, "continue outside")
 }
 
-/// One more of something than there may be.
+/// Reports one more of something than is allowed.
 pub fn limit_passed(alloc: Global, place: Place) -> Result<Finding, Memory>
     ensures { IfOk result (IsFinding place Code.N06 (codes "limit passed")) }
 {
     plain(alloc, place, Code::N06, "limit passed")
 }
 
-/// A method that cannot be started.
+/// Reports a method that cannot be started.
 pub fn cannot_be_started(alloc: Global, place: Place, method: &[u8]) -> Result<Finding, Memory>
     ensures { IfOk result (IsFinding place Code.N07 (utf8_lossy method.now ++ codes " cannot be started")) }
 {
     named(alloc, place, Code::N07, method, " cannot be started")
 }
 
-/// A case on an endpoint and a message that an earlier case of the switch has.
+/// Reports a case on an endpoint and a message that an earlier case of the switch has.
 pub fn case_twice(
     alloc: Global,
     place: Place,
@@ -202,42 +204,42 @@ pub fn case_twice(
     })
 }
 
-/// An endpoint of a switch that has no case for the close of its channel.
+/// Reports an endpoint of a switch that has no case for the close of its channel.
 pub fn lacks_closed(alloc: Global, place: Place, endpoint: &[u8]) -> Result<Finding, Memory>
     ensures { IfOk result (IsFinding place Code.N09 (utf8_lossy endpoint.now ++ codes " lacks ChannelClosed")) }
 {
     named(alloc, place, Code::N09, endpoint, " lacks ChannelClosed")
 }
 
-/// An edge whose sign is against the direction of its message.
+/// Reports an edge whose sign is against the direction of its message.
 pub fn against_its_direction(alloc: Global, place: Place, message: &[u8]) -> Result<Finding, Memory>
     ensures { IfOk result (IsFinding place Code.C01 (utf8_lossy message.now ++ codes " against its direction")) }
 {
     named(alloc, place, Code::C01, message, " against its direction")
 }
 
-/// A message of which a state has an edge already.
+/// Reports a message for which a state already has an edge.
 pub fn twice_in_a_state(alloc: Global, place: Place, message: &[u8]) -> Result<Finding, Memory>
     ensures { IfOk result (IsFinding place Code.C02 (utf8_lossy message.now ++ codes " twice in a state")) }
 {
     named(alloc, place, Code::C02, message, " twice in a state")
 }
 
-/// A state in which either end may send.
+/// Reports a state in which either end may send.
 pub fn both_directions_in(alloc: Global, place: Place, state: &[u8]) -> Result<Finding, Memory>
     ensures { IfOk result (IsFinding place Code.C03 (codes "both directions in " ++ utf8_lossy state.now)) }
 {
     naming(alloc, place, Code::C03, "both directions in ", state)
 }
 
-/// A state on a way back to itself on which only one end sends.
+/// Reports a state on a ring on which only one end sends.
 pub fn one_direction_round(alloc: Global, place: Place, state: &[u8]) -> Result<Finding, Memory>
     ensures { IfOk result (IsFinding place Code.C04 (codes "one direction round " ++ utf8_lossy state.now)) }
 {
     naming(alloc, place, Code::C04, "one direction round ", state)
 }
 
-/// The finding that a fault of a text is, and none where memory was refused, which is no fault of the text.
+/// Returns the finding for a fault of a text, or `None` for `Memory`, which is no fault of the text.
 pub fn finding_of(alloc: Global, fault: TextFault) -> Result<Option<Finding>, Memory>
     ensures { IfOk result (λ found. option_map_or (λ f. finding_model f ∷ []) found [] ≡ fault_findings fault) }
 {

@@ -6,7 +6,7 @@ ghost use Rattle.source.specs.Slices.{slice_of};
 use crate::kind::Kind;
 use crate::place::Place;
 
-/// Where a token lies: its first byte, the byte behind it, both counted from 0, and the place of the first.
+/// Where a token is: its first byte and the byte after its last, both counted from 0, and the place of the first.
 #[derive(Clone, Copy, Debug, PartialEq, Eq)]
 pub struct Span {
     pub start: u32,
@@ -15,7 +15,7 @@ pub struct Span {
 }
 
 impl Span {
-    /// The bytes of a text that lie there, and none where the span does not lie within it.
+    /// Returns the bytes of the text in this span, or an empty slice if the span is not within the text.
     pub fn slice<'a>(self, text: &'a [u8]) -> &'a [u8]
         ensures { result.now ≡ slice_of text.now self.start self.end }
     {
@@ -31,7 +31,7 @@ pub struct Token {
     pub span: Span,
 }
 
-/// The tokens of a text in order, and the place one past its last byte.
+/// The tokens of a text in order, and the place after its last byte.
 #[derive(Drop)]
 pub struct Tokens {
     pub list: Vec<Token>,

@@ -1,4 +1,4 @@
-//! Words: how far one goes, and which are reserved.
+//! The lengths of words, and which words are reserved.
 
 ghost use Rattle.std.specs.Prelude.{◌≡◌, ◌<◌, ◌≤◌, ℕ, true, false, length, nat_eq, slice_index};
 ghost use Rattle.std.specs.Cmp.Lexicographic.{pointwise};
@@ -8,8 +8,8 @@ ghost use Rattle.source.specs.Words.{reserved_text, word_kind, kind_among};
 use crate::kind::Kind;
 use crate::kinds::reserved_word;
 
-/// Whether a kind is written so. Most words are longer or shorter, which is seen before any byte is compared. The few bytes of a word are
-/// compared one by one, which takes a quarter of the time of `==`, made for long lists.
+/// Returns whether a reserved word is written like this. Most words differ in length, which is compared first. The
+/// few bytes of a word are compared one by one, in a quarter of the time of `==`, which is made for long lists.
 fn is_written(kind: Kind, word: &[u8]) -> bool
     ensures { result ≡ pointwise nat_eq (reserved_text kind) word.now }
 {
@@ -24,7 +24,7 @@ fn is_written(kind: Kind, word: &[u8]) -> bool
     at == text.len()
 }
 
-/// The first of these kinds that is written so, else a name.
+/// Returns the first of these kinds that is written like the word, or `Name`.
 fn among(kinds: &[Kind], word: &[u8]) -> Kind
     ensures { result ≡ kind_among kinds.now word.now }
 {
@@ -36,7 +36,8 @@ fn among(kinds: &[Kind], word: &[u8]) -> Kind
     Kind::Name
 }
 
-/// The kind of a whole word. No reserved word is one letter. Only those that begin as the word does are compared with it.
+/// Returns the kind of a whole word. No reserved word has one letter. The word is compared only with those that
+/// begin with the same letter.
 pub(crate) fn of_word(word: &[u8]) -> Kind
     requires { 0 < length word.now }
     ensures { result ≡ word_kind word.now }
@@ -71,7 +72,7 @@ pub(crate) fn of_word(word: &[u8]) -> Kind
     }
 }
 
-/// The same, where the word begins with an `s`.
+/// Returns the kind of a word that begins with `s`.
 fn of_word_in_s(word: &[u8]) -> Kind
     requires { slice_index word.now 0 ≡ 115 }
     ensures { result ≡ word_kind word.now }
@@ -88,15 +89,15 @@ fn of_word_in_s(word: &[u8]) -> Kind
     )
 }
 
-/// Whether a word may begin with it.
+/// Returns whether a word may begin with this byte.
 pub(crate) fn begins(byte: u8) -> bool
     ensures { result ≡ starts_word byte }
 {
     byte.is_ascii_alphabetic() || byte == b'_'
 }
 
-/// Each byte that a word may go on with, at its own place, and a comma at every other place. Looking a byte up takes half of the time that
-/// the tests for letters, digits and `_` take.
+/// Each byte that may continue a word at its own index, and a comma at every other index. A lookup takes half the
+/// time of the tests for letters, digits and `_`.
 static IN_WORDS: [u8; 256] = *b"\
     ,,,,,,,,,,,,,,,,,,,,,,,,,,,,,,,,\
     ,,,,,,,,,,,,,,,,0123456789,,,,,,\
@@ -107,14 +108,14 @@ static IN_WORDS: [u8; 256] = *b"\
     ,,,,,,,,,,,,,,,,,,,,,,,,,,,,,,,,\
     ,,,,,,,,,,,,,,,,,,,,,,,,,,,,,,,,";
 
-/// Whether a word may go on with it.
+/// Returns whether this byte may continue a word.
 fn goes_on(byte: u8) -> bool
     ensures { result ≡ in_word byte }
 {
     IN_WORDS[byte as usize] != b','
 }
 
-/// How many bytes at the front go on with a word.
+/// Returns the number of bytes at the front that continue a word.
 pub(crate) fn front_len(bytes: &[u8]) -> usize
     ensures within { result ≤ length bytes.now }
     ensures each { (k : ℕ) → k < result → in_word (slice_index bytes.now k) ≡ true }

@@ -1,4 +1,4 @@
--- A sum about which no operator stands, as an expression.
+-- A sum alone, as an expression.
 use Rattle.std.proofs.Common.{◌≡◌, Bool, true, false, List, ◌++◌, sym, refl, ap, ◌∙◌, subst}
 use Rattle.std.proofs.lemmas.List.{append-nil}
 use Rattle.std.specs.Prelude.{◌||◌}
@@ -21,7 +21,7 @@ summed_spelled x =
     let equality = lone Equal relation in
     lone_spelled Or (lone And equality) _ (lone_spelled And equality _ (lone_spelled Equal relation _ (lone_spelled Compare x _ refl)))
 
--- a sum goes on as an expression as it does alone, or by an operator that binds less
+-- a sum as an expression continues as the sum alone does, or with an operator that binds less
 
 summed_ends : (x : LevelTree (Joined Add)) (y : Symbol) → (level_at x y || by_kind behind_sum y) ≡ false → level_at (sum_alone x) y ≡ false
 summed_ends x y h = ends (level_at x y) (by_kind (joins Compare) y) (by_kind (joins Equal) y) (by_kind (joins And) y) (by_kind (joins Or) y) h

@@ -23,7 +23,7 @@ use Rattle.syntax.proofs.pieces.CursorLemmas.{fixed_piece, named_piece}
 use Rattle.syntax.proofs.OperatorRules.{prefix_piece, prefix_starts}
 use Rattle.syntax.proofs.LevelRules.{level_wide}
 
--- what an expression may stand between
+-- an expression in brackets
 
 pub in_parens : InParens expression (level_on (Joined Or)) level_at
 in_parens = record { on = refl; here = λ x. level_wide x (Fixed kind.CloseParen) refl }
@@ -42,7 +42,7 @@ dot_from p = p.1
 pub dot_piece : Piece dot_name never (λ _. never)
 dot_piece = via_piece dot_to dot_from (λ _. refl) (next (fixed_piece kind.Dot) named_piece)
 
--- what follows the name of a target: "." ID or "[" expression "]"
+-- after the name of a target: "." ID or "[" expression "]"
 
 pub data Rest : Type 0 where
   Dotted : Span → Rest
@@ -119,7 +119,7 @@ target_stops (Variable variable) r h = h
 target_stops (Field variable field) r h = h
 target_stops (Element variable e) r h = h
 
--- the forms of an atom, each told by its first token
+-- the forms of an atom, each known by its first token
 
 target_begins : (t : TargetTree) (starts : Symbol → Bool) → ((span : Span) → starts (Named span) ≡ true) → Begins target starts t
 target_begins (Variable variable) starts h = record { head = Named variable; tail = []; is = refl; first = h variable }
@@ -134,7 +134,7 @@ named_atom t starts h =
 abbrev pub of_parens : Span × ExpressionTree → AtomTree
 of_parens p = Parens p.0 p.1
 
--- whether an atom begins with it that is no number
+-- whether an atom other than a number begins with this token
 abbrev pub opens_other_atom : Option Kind → Bool
 opens_other_atom k = ((kind_is kind.Name k || kind_is kind.OpenParen k) || kind_is kind.True k) || kind_is kind.False k
 
@@ -226,7 +226,7 @@ unary_spelled (Unary prefixes a) = refl
 pub unary_stops : (x : LevelTree Single) (r : List Symbol) → Stops (level_at x) r → Stops (atom_at (unary_to x).1) r
 unary_stops (Unary prefixes a) r h = stops_with (level_at (Unary prefixes a)) (atom_at a) (λ y e. e) r h
 
--- an atom begins by no prefix
+-- an atom does not begin with a prefix
 no_prefix : (a : AtomTree) (r : List Symbol) → Stops (by_kind opens_prefix) (atom a ++ r)
 no_prefix (Number span) r = refl
 no_prefix (True span) r = refl
@@ -242,7 +242,7 @@ prefixes_follow = record { each = λ a r h. no_prefix a r }
 pub prefixes_meet : Meets {X = List Prefix} (λ _. by_kind opens_prefix) atom atom_at
 prefixes_meet = record { here = λ ps a r h. no_prefix a r }
 
--- a token is next by which no other atom begins
+-- the next token begins no atom other than a number
 pub number_leads : (ys : List Symbol) → (ys ≡ [] → ⊥) → (kind_at ys ≡ Some kind.Name → ⊥) → (kind_at ys ≡ Some kind.OpenParen → ⊥) → (kind_at ys ≡ Some kind.True → ⊥) → (kind_at ys ≡ Some kind.False → ⊥) → leads (λ y. not (by_kind opens_other_atom y)) ys ≡ true
 number_leads ys some f g h k =
     other_leads opens_other_atom ys some refl

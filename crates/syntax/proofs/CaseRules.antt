@@ -1,4 +1,4 @@
--- What stands before the statements of a case, as pieces.
+-- The front of a case, up to its statements.
 use Rattle.std.proofs.Common.{◌≡◌, Bool, true, false, List, [], ◌∷◌, ◌++◌, Option, Some, None, refl, ap}
 use Rattle.std.specs.Prelude.{not}
 use Rattle.source.specs.declared.kind.Kind.TheVariants as kind
@@ -179,7 +179,7 @@ bind_piece = record { some = record { ty = None; name = named_piece.some }; each
     way (Some (type.Heap (heap.Array s b))) span = scalar_way (record { scalar = s; array = Some b }) span
     way (Some (type.Heap (heap.Endpoint other end state bang in_heap))) span = named_way other (Some (tail.Endpoint (record { side = end; state = state; bang = bang; in_heap = in_heap }), span))
 
--- by which token a type begins
+-- the tokens with which a type begins
 
 pub type_starts : Starts value_type (by_kind opens_type)
 type_starts = record { each = begins }

@@ -1,4 +1,4 @@
--- Where an expression fails, and what its parts make of it.
+-- Where an expression fails, by the part of it that fails.
 use Rattle.std.proofs.Common.{◌≡◌, true, false, List, [], ◌∷◌, ◌++◌, Some, Result, Ok, Err, sym, refl, ap, ◌∙◌, subst, append_assoc}
 use Rattle.std.specs.List.{flat_map}
 use Rattle.source.specs.declared.kind.Kind.TheVariants as kind
@@ -28,7 +28,7 @@ use Rattle.syntax.proofs.LevelRules.{on_split, level_joins, chain_to, chain_from
 use Rattle.syntax.proofs.AtomRules.{in_parens, in_brackets, unary_to, unary_from, unary_spelled, prefixes_piece, prefixes_follow, Rest, Dotted, Indexed, rest, index, rest_at, named_rest, rest_starts, dotted_form, indexed_form, dot_piece, target_to, target_from, target_there, target_spelled}
 use Rattle.syntax.proofs.ExpressionRules.{level_way, atom_way, target_way}
 
--- there is an expression of each level
+-- each level has an expression
 
 some_place : Span
 some_place = (placed_piece kind.Number).some
@@ -60,7 +60,7 @@ parens_expression_piece = parens_piece in_parens expression_piece
 pub index_piece : Piece (within kind.OpenBracket expression kind.CloseBracket) never (λ _. never)
 index_piece = brackets_piece in_brackets expression_piece
 
--- the first part of a chain fails, or what follows it
+-- a chain fails if its first part fails, or what follows it
 
 abbrev chained : (l : Operators) → LevelTree (Joined l) → List Symbol
 chained l z = chain (level {l = below l}) (operator l) (chain_to {l = l} z)
@@ -76,7 +76,7 @@ first_fails l {old} {new} h = chain_fails l (chain_first_fails (level_joins l) (
 pub others_fail : (l : Operators) {old mid new : List Symbol} (x : LevelTree (below l)) → Takes level level_at old mid x → Fails (flat_map (step l)) (chain_on (level_on (below l)) (by_kind (joins l))) mid new → Fails (level {l = Joined l}) (level_on (Joined l)) old new
 others_fail l {old} {mid} {new} x read h = chain_fails l (chain_links_fail (level_joins l) (level_piece (below l)) x read h)
 
--- the unary that stands first fails
+-- an expression fails if its first unary does
 pub unary_fails : (l : Level) {old new : List Symbol} → Fails (level {l = Single}) (level_on Single) old new → Fails (level {l = l}) (level_on l) old new
 unary_fails Single h = h
 unary_fails (Joined Multiply) h = first_fails Multiply h
@@ -86,7 +86,7 @@ unary_fails (Joined Equal) h = first_fails Equal (first_fails Compare (first_fai
 unary_fails (Joined And) h = first_fails And (first_fails Equal (first_fails Compare (first_fails Add (first_fails Multiply h))))
 unary_fails (Joined Or) h = first_fails Or (first_fails And (first_fails Equal (first_fails Compare (first_fails Add (first_fails Multiply h)))))
 
--- an operator fails, the part behind it, a further step
+-- a step fails if its operator fails, or the part after it; steps fail if one more does
 
 pub mark_fails : (l : Operators) {old new : List Symbol} → Fails (operator l) never old new → Fails (step l) (level_on (below l)) old new
 mark_fails l {old} {new} h = operator_fails (level_joins l) (level_piece (below l)) h
@@ -153,7 +153,7 @@ unary_is_read old mid new ps a z is first second =
     let all : Takes level level_at old new (Unary ps a) = (first.0 ∙ ap (λ t. flat_map prefix ps ++ t) second.0 ∙ sym (append_assoc (flat_map prefix ps) (atom a) new), stops_with (atom_at a) (level_at (Unary ps a)) (λ y h. h) new second.1) in
     subst (Takes level level_at old new) (sym is) all
 
--- what stands behind an operator is handed on
+-- the result for the part after an operator, as a result for the step
 
 faulted : (fault : Stuck) (P Q : Type 0) → (P → Q) → AtFault fault P → AtFault fault Q
 faulted Unexpected P Q f h = f h
@@ -163,7 +163,7 @@ pub step_tail : (l : Operators) {X : Type 0} (view : X → LevelTree (below l)) 
 step_tail l {X} view o old mid new (Ok x) read h = (read.0 ∙ ap (λ t. operator l o ++ t) h.0 ∙ sym (append_assoc (operator l o) (level (view x)) new), h.1)
 step_tail l {X} view o old mid new (Err fault) read h = faulted fault (Fails (level {l = below l}) (level_on (below l)) mid new) (Fails (step l) (level_on (below l)) old new) (behind_fails l o read) h
 
--- the first step of a sequence is not empty
+-- a step begins with its operator
 pub step_starts : (l : Operators) → Starts (step l) (by_kind (joins l))
 step_starts l = link_starts (level_joins l)
 
@@ -171,7 +171,7 @@ step_starts l = link_starts (level_joins l)
 pub atom_is_read : (old new : List Symbol) (z a : AtomTree) → z ≡ a → old ≡ atom a ++ new → Stops (atom_at a) new → Takes atom atom_at old new z
 atom_is_read old new z a is read stops = subst (Takes atom atom_at old new) (sym is) (read, stops)
 
--- by what an expression begins
+-- the tokens with which an expression begins
 
 prefix_opens : (p : Prefix) → Begins prefix (by_kind opens_expression) p
 prefix_opens p = opens p.operator p.span

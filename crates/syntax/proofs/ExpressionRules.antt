@@ -1,4 +1,4 @@
--- Expressions as pieces: each is read in one way.
+-- Expressions as parts of the grammar: each is read in one way.
 use Rattle.std.proofs.Common.{refl}
 use Rattle.std.specs.List.{flat_map}
 use Rattle.source.specs.declared.kind.Kind.TheVariants as kind

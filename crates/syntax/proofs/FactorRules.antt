@@ -1,4 +1,4 @@
--- Sequences of factors: where they fail, and what is read of them.
+-- Sequences of factors: where they fail, and the sums that are read.
 use Rattle.std.proofs.Common.{◌≡◌, true, false, List, [], ◌∷◌, ◌++◌, Option, Some, sym, refl, ap, ◌∙◌, subst}
 use Rattle.std.specs.List.{flat_map}
 use Rattle.std.proofs.Math.Bool.{or_assoc}
@@ -22,7 +22,7 @@ use Rattle.syntax.proofs.LevelRules.{level_wide}
 use Rattle.syntax.proofs.ExpressionFails.{level_piece}
 use Rattle.syntax.proofs.FactorTrees.{gathered_spelled, gathered_ends, spread, spread_spelled}
 
--- an operator is nothing that a unary goes on by
+-- a unary does not continue with an operator that joins factors
 factor_apart : (k : Option Kind) → joins_factors k ≡ true → opens_rest k ≡ false
 factor_apart (Some kind.Star) h = refl
 factor_apart (Some kind.Plus) h = refl
@@ -32,7 +32,7 @@ factor_apart k h = absurd (true≢false (sym h))
 factor_joins : Joins (level {l = Single}) factor_operator (level_on Single) level_at (by_kind joins_factors)
 factor_joins = record { operator = factor_operator_piece; begin = factor_operator_starts; apart = λ y h. factor_apart (kind_at (y ∷ [])) h; wide = level_wide }
 
--- by what a sequence goes on, a sum does
+-- every symbol that continues a sequence of factors continues a sum
 sequence_wide : (y : Symbol) → level_on (Joined Add) y ≡ false → chain_on (level_on Single) (by_kind joins_factors) y ≡ false
 sequence_wide y h = sym (or_assoc (level_on Single y) (by_kind (joins Multiply) y) (by_kind (joins Add) y)) ∙ h
 
@@ -53,7 +53,7 @@ sequence_fails {old} {new} h = record {
       h.rejects (spread z) r s (stops_with (level_on (Joined Add)) (chain_on (level_on Single) (by_kind joins_factors)) sequence_wide r hr) (ap (λ t. t ++ r) (spread_spelled z) ∙ e);
 }
 
--- an operator fails, the unary behind it, a further factor
+-- a factor fails if its operator fails, or the unary after it; factors fail if one more does
 
 pub factor_mark_fails : {old new : List Symbol} → Fails factor_operator never old new → Fails factor (level_on Single) old new
 factor_mark_fails {old} {new} h = operator_fails factor_joins (level_piece Single) h
@@ -67,7 +67,7 @@ further_fails {old} {mid} {new} fs read more h = link_fails factor_joins (level_
 pub factor_fails : {old mid new : List Symbol} (fs : List FactorTree) → old ≡ flat_map factor fs ++ mid → leads (by_kind joins_factors) mid ≡ true → Fails factor (level_on Single) mid new → Fails (flat_map factor) (level_on (Joined Add)) old new
 factor_fails {old} {mid} {new} fs read more h = wide_fails sequence_wide (further_fails fs read more h)
 
--- the second factor of a sum fails, or those behind it
+-- a sum fails if its second factor fails, or the factors after that
 
 pub second_fails : {old mid new : List Symbol} (u : LevelTree Single) → Takes level level_at old mid u → leads (by_kind joins_factors) mid ≡ true → Fails factor (level_on Single) mid new → Fails (level {l = Joined Add}) (level_on (Joined Add)) old new
 second_fails {old} {mid} {new} u read more h = sequence_fails (chain_links_fail factor_joins (level_piece Single) u read (further_fails [] refl more h))
@@ -78,7 +78,7 @@ other_factors_fail {old} {mid} {last} {new} u f read second h =
     let behind = more_fail piece (link_starts factor_joins) (link_splits factor_joins) (link_leaves factor_joins) f second (wide_fails wide_sequence h) in
     sequence_fails (chain_links_fail factor_joins (level_piece Single) u read behind)
 
--- a sequence is read, and a unary behind which no operator stands
+-- a sequence of factors is read as a sum, and so is a unary that no such operator follows
 
 sequence_is_read : (old mid new : List Symbol) (u : LevelTree Single) (fs : List FactorTree) (z : LevelTree (Joined Add)) → z ≡ sum_of_factors u fs → Takes level level_at old mid u → Takes (flat_map factor) factors_end mid new fs → Takes level level_at old new z
 sequence_is_read old mid new u fs z is first others =

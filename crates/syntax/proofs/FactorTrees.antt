@@ -1,4 +1,4 @@
--- A sum of terms as a sequence of factors: how it is spelled, by what it goes on, and the sequence of each sum.
+-- A sum as a sequence of factors: its spelling, the symbols it continues with, and the sequence of each sum.
 use Rattle.std.proofs.Common.{◌≡◌, List, [], ◌∷◌, ◌++◌, sym, refl, ap, ◌∙◌, append_assoc}
 use Rattle.std.proofs.lemmas.List.{append-nil}
 use Rattle.std.proofs.Math.Bool.{or_assoc}
@@ -26,7 +26,7 @@ gathered_spelled u (f ∷ fs) =
     ∙ ap (λ t. level u ++ (factor_operator f.0 ++ t)) (gathered_spelled f.1 fs)
     ∙ ap (λ t. level u ++ t) (sym (append_assoc (factor_operator f.0) (level f.1) (flat_map factor fs)))
 
--- what it goes on by
+-- the symbols it continues with
 
 before_ends : (u : LevelTree Single) (o : FactorOperator) (s : LevelTree (Joined Add)) (y : Symbol) → level_at (before_sum u o s) y ≡ level_at s y
 before_ends u factors.Times (Chain _ (Chain _ first xs) (Done _)) y = refl

@@ -1,4 +1,4 @@
--- The levels of expressions: what they go on by, and each as a chain of parts.
+-- The levels of expressions: the symbols they continue with, and each level as a chain of parts.
 use Rattle.std.proofs.Common.{◌≡◌, Bool, true, false, List, [], ◌∷◌, ◌++◌, Option, Some, sym, refl, ap, ◌∙◌}
 use Rattle.std.specs.Prelude.{◌||◌, is_some}
 use Rattle.std.specs.List.{flat_map}
@@ -18,7 +18,7 @@ use Rattle.syntax.proofs.pieces.KindLemmas.{apart_kinds}
 use Rattle.syntax.proofs.OperatorRules.{operator_piece, operator_starts}
 use Rattle.lemmas.proofs.Bools.{or_left}
 
--- what some expression of a level goes on by is more than what one does
+-- a symbol that continues one expression of a level is among those of the level
 
 pub on_split : (l : Operators) (y : Symbol) → level_on (Joined l) y ≡ false → (level_on (below l) y || by_kind (joins l) y) ≡ false
 on_split Or y h = h
@@ -52,7 +52,7 @@ mutual
   steps_wide before (Done l) y h part = h
   steps_wide before (More l o x xs) y h part = steps_wide (level_at x) xs y (level_wide x y part) part
 
--- an operator is nothing that the parts go on by
+-- no part of a chain continues with an operator of the chain
 
 equality_apart : (k : Option Kind) → is_some (equality_of k) ≡ true → after_relation k ≡ false
 equality_apart (Some kind.EqualEqual) h = refl
@@ -82,7 +82,7 @@ operator_apart Multiply y h = apart_kinds opens_rest kind.Star refl y h
 pub level_joins : (l : Operators) → Joins (level {l = below l}) (operator l) (level_on (below l)) level_at (by_kind (joins l))
 level_joins l = record { operator = operator_piece l; begin = operator_starts l; apart = operator_apart l; wide = level_wide }
 
--- sequences and lists
+-- sequences as lists, and back
 
 abbrev pub step_list : {l : Operators} → StepTrees l → List (StepOf l)
 step_list (Done l) = []

@@ -1,4 +1,4 @@
--- Statements that begin with a name: what stands behind it.
+-- Statements that begin with a name: what follows the name.
 use Rattle.std.proofs.Common.{◌≡◌, Bool, true, List, [], ◌++◌, Option, Some, refl}
 use Rattle.std.specs.Prelude.{not, ◌||◌}
 use Rattle.source.specs.declared.kind.Kind.TheVariants as kind
@@ -27,7 +27,7 @@ use Rattle.syntax.proofs.CaseRules.{tail_meets}
 use Rattle.syntax.proofs.PlainRules.{declared_piece, assigned_piece, called_piece, channel_ends_piece}
 use Rattle.syntax.proofs.ExpressionFails.{index_piece}
 
--- behind a name, a dot and a name
+-- after a name, a dot and a name
 pub data MemberRest : Type 0 where
   Passed : Span × List ExpressionTree → MemberRest
   Written : ValueTree → MemberRest
@@ -57,7 +57,7 @@ member_rest_piece = record { some = Written assigned_piece.some; each = way }
     way (Passed p) = form_way passed_form (λ _ r h. h) (called_piece.each p)
     way (Written v) = form_way written_form (λ _ r h. h) (assigned_piece.each v)
 
--- behind a name and a dot
+-- after a name and a dot
 pub data DottedRest : Type 0 where
   Ended : parts.EndpointTail.EndpointTail → Span × Option ValueTree → DottedRest
   Made : ChannelEnds → DottedRest
@@ -130,7 +130,7 @@ dotted_rest_piece = record { some = Made channel_ends_piece.some; each = way }
     way (Made c) = form_way made_form (λ _ r h. h) (channel_ends_piece.each c)
     way (Member span x) = form_way member_form (λ _ r h. h) ((next named_piece member_rest_piece).each (span, x))
 
--- behind a name, where neither a star nor a dot is
+-- after a name that neither a star nor a dot follows
 pub data BareRest : Type 0 where
   Called : Span × List ExpressionTree → BareRest
   Indexed : ExpressionTree → ValueTree → BareRest
@@ -188,7 +188,7 @@ bare_rest_piece = record { some = Assigned assigned_piece.some; each = way }
     way (Indexed e v) = form_way indexed_form (λ _ r h. h) ((next index_piece assigned_piece).each (e, v))
     way (Assigned v) = form_way assigned_form (λ _ r h. h) (assigned_piece.each v)
 
--- behind a name
+-- after a name
 pub data NameRest : Type 0 where
   Pointed : Option Span → Span × Option ValueTree → NameRest
   Dotted : DottedRest → NameRest

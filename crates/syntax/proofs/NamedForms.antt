@@ -87,7 +87,7 @@ named_form = record {
 pub named_way : (first : Span) (x : NameRest) → ReadsOneWay plain never (λ _. never) (of_rest first x)
 named_way first x = form_way named_form (λ _ r h. h) ((next named_piece name_rest_piece).each (first, x))
 
--- what fails behind the part that is already read
+-- a failure after the part that is already read, as one of the whole statement
 
 pub name_lift : {old new : List Symbol} (first : Span) → Fails name_rest never old new → Fails plain never (name first ++ old) new
 name_lift {old} {new} first h = form_fails named_form refl (fails_after first named_piece (refl, stops_never _) h)
@@ -98,6 +98,6 @@ dot_lift {old} {new} first h = name_lift first (form_fails dotted_form refl (fai
 pub member_lift : {old new : List Symbol} (first span : Span) → Fails member_rest never old new → Fails plain never (name first ++ (word kind.Dot ++ (name span ++ old))) new
 member_lift {old} {new} first span h = dot_lift first (form_fails member_form refl (fails_after span named_piece (refl, stops_never _) h))
 
--- neither an end of a channel nor a channel's making is next
+-- the next token begins neither an end of a channel nor a new channel
 pub member_leads : (ys : List Symbol) → (ys ≡ [] → ⊥) → opens_side (kind_at ys) ≡ false → (kind_at ys ≡ Some kind.NewChannel → ⊥) → leads (λ y. not (by_kind (λ k. opens_side k || kind_is kind.NewChannel k) y)) ys ≡ true
 member_leads ys some no_side no_channel = other_leads (λ k. opens_side k || kind_is kind.NewChannel k) ys some refl (ap (λ b. b || kind_is kind.NewChannel (kind_at ys)) no_side ∙ kind_other kind.NewChannel (kind_at ys) no_channel)

@@ -1,4 +1,4 @@
--- Operators as pieces.
+-- Operators as parts of the grammar.
 use Rattle.std.proofs.Common.{◌≡◌, Bool, true, [], Some, refl, ap}
 use Rattle.std.specs.Prelude.{not}
 use Rattle.source.specs.declared.kind.Kind.{Kind}

@@ -1,4 +1,4 @@
--- The forms of a statement that holds no others, but those that begin with a name, and that each is read in one way.
+-- The forms of a statement that holds no others, except those that begin with a name; each is read in one way.
 use Rattle.std.proofs.Common.{◌≡◌, Bool, true, false, List, ◌++◌, Option, Some, None, refl, ap}
 use Rattle.std.specs.Prelude.{not, is_some}
 use Rattle.source.specs.declared.kind.Kind.{Kind}

@@ -36,7 +36,7 @@ led_by plain_lead.Break = kind_is kind.Break
 led_by plain_lead.Continue = kind_is kind.Continue
 led_by plain_lead.Return = kind_is kind.Return
 
--- which lead it is, of one that holds no others
+-- the lead, if its statements hold no others
 abbrev pub plain_of : Option Lead → Option PlainLead
 plain_of (Some (lead.Plain l)) = Some l
 plain_of _ = None
@@ -72,7 +72,7 @@ none_led plain_lead.Return = refl
 pub plain_leads : (l : PlainLead) (ys : List Symbol) → lead_of (kind_at ys) ≡ Some (lead.Plain l) → leads (by_kind (led_by l)) ys ≡ true
 plain_leads l ys e = test_leads (led_by l) ys (none_led l) (led (kind_at ys) l (ap plain_of e))
 
--- by which tokens this statement may begin
+-- whether this statement may begin with this token
 abbrev pub opens_by : PlainTree → Option Kind → Bool
 opens_by (Declare d) = opens_type
 opens_by (Assign a) = kind_is kind.Name
@@ -106,7 +106,7 @@ begins_by (Break span) = record { head = Placed kind.Break span; tail = _; is = 
 begins_by (Continue span) = record { head = Placed kind.Continue span; tail = _; is = refl; first = refl }
 begins_by (Return span e) = record { head = Placed kind.Return span; tail = _; is = refl; first = refl }
 
--- each begins with a token by which some statement does that holds no others
+-- the first token of each such statement passes `opens_plain`
 
 type_opens : (k : Option Kind) → opens_type k ≡ true → opens_plain k ≡ true
 type_opens (Some kind.Name) h = refl
@@ -133,7 +133,7 @@ opens (Return span e) k h = word_opens kind.Return refl k h
 pub plain_begins : (z : PlainTree) → Begins plain (by_kind opens_plain) z
 plain_begins z = let b = begins_by z in record { head = b.head; tail = b.tail; is = b.is; first = opens z (kind_at (b.head ∷ [])) b.first }
 
--- a statement that begins otherwise is of another form
+-- a statement that begins with another token has another form
 pub other : (opening : Kind) (z : PlainTree) {X : Type 0} {make : X → PlainTree} → opens_by z (Some opening) ≡ false → FormOf plain make (is_kind opening) z
 other opening z {X} {make} h =
     let b = begins_by z in

@@ -1,4 +1,4 @@
--- Pieces of statements that hold no other.
+-- Parts of statements that hold no others.
 use Rattle.std.proofs.Common.{List, Option, Some, None, refl}
 use Rattle.source.specs.declared.kind.Kind.{Kind}
 use Rattle.source.specs.declared.kind.Kind.TheVariants as kind
@@ -24,7 +24,7 @@ use Rattle.syntax.proofs.ValueForms.{call_piece, maybe_dot_piece, dot_follows, d
 use Rattle.syntax.proofs.ValueRules.{arguments_piece}
 use Rattle.lemmas.proofs.Bools.{or_left}
 
--- a value, and what ends it
+-- a value and the semicolon after it
 
 pub value_follows : Follows value_on (fixed kind.Semicolon) never
 value_follows = record { each = λ u r h. refl }

@@ -1,4 +1,4 @@
--- Each rule of the grammar spells tokens alone: the end stands in no spelling.
+-- Each rule of the grammar spells only tokens: the end is in no spelling.
 use Rattle.std.proofs.Common.{◌≡◌, true, false, List, [], ◌∷◌, Some, None, refl}
 use Rattle.std.specs.List.{flat_map, list_all}
 use Rattle.std.proofs.lemmas.List.Folds.{list_all-append}
@@ -22,7 +22,7 @@ use Rattle.tree.specs.declared.types.Heap.TheVariants as heap
 use Rattle.tree.specs.declared.expression.SumOperator.TheVariants as sum
 use Rattle.syntax.proofs.pieces.Tops.{is_token, SpellsTokens}
 
--- how rules are put together
+-- what rules are built from
 
 sequence_tokens : {X : Type 0} (a : X → List Symbol) → SpellsTokens a → SpellsTokens (flat_map a)
 sequence_tokens a h [] = refl

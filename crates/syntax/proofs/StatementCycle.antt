@@ -1,4 +1,4 @@
--- Parts of the statements that hold others: each in the form in which it is read.
+-- Parts of the statements that hold others, each in the form in which it is read.
 use Rattle.std.proofs.Common.{◌≡◌, Bool, true, false, List, [], ◌∷◌, ◌++◌, Option, Some, None, refl, sym, ap, ◌∙◌, subst, append_assoc}
 use Rattle.std.specs.Prelude.{not, ◌||◌}
 use Rattle.std.specs.List.{flat_map}
@@ -189,7 +189,7 @@ case_starts = record { each = begins }
     begins : (c : CaseTree) → Begins case (is_kind kind.Case) c
     begins (Case span endpoint message left binds inner) = record { head = Placed kind.Case span; tail = _; is = refl; first = refl }
 
--- by what sequences of statements and of cases go on
+-- the symbols with which sequences of statements and of cases continue
 
 others_apart : (x : OtherTrees) (y : Symbol) → statement_on y ≡ false → others_at x y ≡ false
 others_apart NoOther y h = h

@@ -1,4 +1,4 @@
--- Structs made in memory from their fields, as trees.
+-- The trees of structs that are built in memory from their fields.
 use Rattle.std.proofs.Common.{◌≡◌, Some, None, Vec, map}
 use Rattle.std.specs.Global.{Global}
 use Rattle.tree.specs.ExpressionTrees.{expression_tree}

@@ -45,7 +45,7 @@ none_led (lead.Plain l) = refl
 pub lead_leads : (l : Lead) (ys : List Symbol) → lead_of (kind_at ys) ≡ Some l → leads (by_kind (led_by l)) ys ≡ true
 lead_leads l ys e = test_leads (led_by l) ys (none_led l) (led l (kind_at ys) e)
 
--- by which tokens this statement may begin
+-- whether this statement may begin with this token
 abbrev pub opens_by : StatementTree → Option Kind → Bool
 opens_by (Block b) = kind_is kind.OpenBrace
 opens_by (Plain x) = opens_plain
@@ -60,7 +60,7 @@ begins_by (If (Test span left e b) more) = record { head = Placed kind.If span; 
 begins_by (While (Test span left e b)) = record { head = Placed kind.While span; tail = _; is = refl; first = refl }
 begins_by (Switch span first more close) = record { head = Placed kind.Switch span; tail = _; is = refl; first = refl }
 
--- each begins with a token by which some statement does
+-- the first token of each statement passes `opens_statement`
 
 some_lead : (o : Option Lead) → is_some (plain_of o) ≡ true → is_some o ≡ true
 some_lead (Some l) h = refl
@@ -82,7 +82,7 @@ begins_statement z = let b = begins_by z in record { head = b.head; tail = b.tai
 pub statement_starts : Starts statement (by_kind opens_statement)
 statement_starts = record { each = begins_statement }
 
--- a statement that begins otherwise is of another form
+-- a statement that begins with another token has another form
 pub other : (opening : Kind) (z : StatementTree) {X : Type 0} {make : X → StatementTree} → opens_by z (Some opening) ≡ false → FormOf statement make (is_kind opening) z
 other opening z {X} {make} h =
     let b = begins_by z in

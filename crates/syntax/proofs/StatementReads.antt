@@ -22,7 +22,7 @@ use Rattle.syntax.proofs.pieces.Repeats.{last_more}
 use Rattle.syntax.proofs.StatementCycle.{block_from, block_spelled, block_there, case_from, case_spelled, case_there, case_parts, OtherTree, Last, Further, behind_else, else_part, else_to, else_from, else_if, other_at, others_to, others_from, others_there, others_spelled, else_starts, else_opens, last_form, further_form, else_way, if_to, if_from}
 use Rattle.syntax.proofs.StatementWays.{block_piece, test_piece, others_piece}
 
--- a block and a case are read by their parts
+-- a block and a case are read if their parts are
 
 pub block_read : {old mid last new : List Symbol} (xs : List StatementTree) (close : Span) (b : BlockTree) → b ≡ block_from (xs, close) → (old ≡ Fixed kind.OpenBrace ∷ mid) × Stops never mid → (mid ≡ flat_map statement xs ++ last) × Stops (statements_at xs) last → (last ≡ token_at kind.CloseBrace close ++ new) × Stops never new → old ≡ block b ++ new
 block_read {old} {mid} {last} {new} xs close b is left inner right =
@@ -36,7 +36,7 @@ case_read old mid new f xs c is front inner =
       subst (λ c. Stops (case_at c) new) (sym is) (subst (λ l. Stops (statements_at l) new) (sym (sequence_list xs)) inner.1),
     )
 
--- behind the first test of an `if`
+-- after the first test of an `if`
 
 else_piece : Piece else_part statement_on other_at
 else_piece = record { some = Last block_piece.some; each = λ x. else_way x (way x) }
@@ -80,7 +80,7 @@ if_read old mid new t ts o i is read more ended =
       subst (λ i. Stops (if_at i) new) (sym is) (subst (λ at. Stops at new) (sym (sequence_at ts o)) ended),
     )
 
--- one more in a row
+-- one more at the end of a sequence
 
 pub sequence_read : {X Y : Type 0} (view : X → Y) (a : Y → List Symbol) (x : X) (xs all : List X) (old mid new : List Symbol) → all ≡ xs ++ x ∷ [] → old ≡ flat_map a (map view xs) ++ mid → mid ≡ a (view x) ++ new → old ≡ flat_map a (map view all) ++ new
 sequence_read {X} {Y} view a x xs all old mid new pushed read more =
@@ -98,7 +98,7 @@ sequence_ended {X} {Y} view at x xs all r pushed h =
 pub shorter_more : (a b c : ℕ) → a < b → b ≤ c → a ≤ c
 shorter_more a b c less le = omega arith
 
--- a switch is read by its parts
+-- a switch is read if its parts are
 pub switch_read : (old a b d e f new : List Symbol) (span close : Span) (x : CaseTree) (xs : List CaseTree) (s : SwitchTree) → s ≡ record { word = span; first = x; others = xs; close = close } → old ≡ token_at kind.Switch span ++ a → a ≡ Fixed kind.Receive ∷ b → b ≡ Fixed kind.OpenBrace ∷ d → d ≡ case x ++ e → e ≡ flat_map case xs ++ f → f ≡ token_at kind.CloseBrace close ++ new → old ≡ switch_parts s ++ new
 switch_read old a b d e f new span close x xs s is word_is receive_is left first more right =
     let sequence : List Symbol = flat_map case xs in
@@ -107,7 +107,7 @@ switch_read old a b d e f new span close x xs s is word_is receive_is left first
     word_is ∙ ap (λ t. token_at kind.Switch span ++ t) (receive_is ∙ ap (λ t. Fixed kind.Receive ∷ t) (left ∙ ap (λ t. Fixed kind.OpenBrace ∷ t) ended))
     ∙ ap (λ s. switch_parts s ++ new) (sym is)
 
--- a test is read by its parts
+-- a test is read if its parts are
 pub test_read : (old mid last new : List Symbol) (opening : Kind) (span : Span) (p : Span × ExpressionTree) (b : BlockTree) (t : TestTree) → t ≡ Test span p.0 p.1 b → old ≡ token_at opening span ++ mid → mid ≡ parens expression p ++ last → last ≡ block b ++ new → old ≡ test opening t ++ new
 test_read old mid last new opening span p b t is word_is inner body =
     word_is ∙ ap (λ l. token_at opening span ++ l) (inner ∙ ap (λ l. parens expression p ++ l) body ∙ sym (append_assoc (parens expression p) (block b) new))

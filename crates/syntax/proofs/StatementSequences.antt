@@ -1,4 +1,4 @@
--- Sequences of statements and cases, and the same as lists.
+-- Sequences of statements and of cases, as trees and as lists.
 use Rattle.std.proofs.Common.{◌≡◌, List, [], ◌∷◌, ◌++◌, refl, ap}
 use Rattle.std.specs.List.{flat_map}
 use Rattle.tree.specs.StatementTrees.{StatementTree, StatementTrees, NoStatement, MoreStatements, CaseTree, CaseTrees, NoCase, MoreCases, statement_sequence, case_sequence}

@@ -57,7 +57,7 @@ mutual
   cases_way NoCase = nil_open_way case_starts case_splits case_leaves
   cases_way (MoreCases x xs) = cons_open_way case_starts case_splits case_leaves (case_way x) (cases_way xs)
 
--- the same as pieces
+-- statements and what they consist of, as parts of the grammar
 
 pub statement_piece : Piece statement statement_on statement_at
 statement_piece = record { some = Block (Braces NoStatement named_piece.some); each = statement_way }

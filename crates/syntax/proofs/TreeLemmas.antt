@@ -1,4 +1,4 @@
--- What expressions that are put together in memory are as trees.
+-- The trees of expressions that are built in memory.
 use Rattle.std.proofs.Common.{◌≡◌, ◌∷◌, [], sym, ap, ◌∙◌, map}
 use Rattle.std.specs.Prelude.{Box, Vec}
 use Rattle.std.specs.Global.{Global}

@@ -1,4 +1,4 @@
--- Where an expression ends that could be the names of a call.
+-- Where an expression ends, if it could be the names of a call.
 use Rattle.std.proofs.Common.{◌≡◌, Bool, true, false, List, [], ◌∷◌, ◌++◌, sym, refl, ap, ◌∙◌, subst}
 use Rattle.std.specs.Prelude.{◌||◌, ◌&&◌, not}
 use Rattle.std.proofs.lemmas.Bool.{true≢false}
@@ -40,7 +40,7 @@ callee_of (Unary prefixes a) h = absurd (true≢false (sym h))
 callee_of (Chain l first (Done _)) h = behind_nothing (level first) (callee_of first h)
 callee_of (Chain l first (More _ o x xs)) h = absurd (true≢false (sym h))
 
--- an expression that is read is a value that is read, where no "(" follows the names of a call
+-- an expression that is read is a value that is read, unless it could be the names of a call and "(" follows
 pub value_ends : (e : ExpressionTree) (new : List Symbol) → Stops (expression_at e) new → (Callee (expression e) → Stops (is_kind kind.OpenParen) new) → Stops (value_at (Expression e)) new
 value_ends e [] stops callee = tt
 value_ends e (y ∷ new) stops callee = ap (λ b. b || (is_callee e && is_kind kind.OpenParen y)) stops ∙ both (is_callee e) (λ h. callee (callee_of e h))
@@ -65,22 +65,22 @@ neither_stops (y ∷ mid) h = other (is_kind kind.OpenParen y) (is_kind kind.Dot
     other true b h = sym h
     other false b h = refl
 
--- behind a name that neither "(" nor "." follows
+-- after a name that neither "(" nor "." follows
 pub named_ends : (span : Span) (e : ExpressionTree) (mid new : List Symbol) → leads (λ y. not (by_kind opens_call y)) mid ≡ true → name span ++ mid ≡ expression e ++ new → Callee (expression e) → Stops (is_kind kind.OpenParen) new
 named_ends span e mid new here read (One other is) = subst (Stops (is_kind kind.OpenParen)) (tails (read ∙ ap (λ t. t ++ new) is)) (neither_stops mid here)
 named_ends span e mid new here read (Two other member is) = absurd (true≢false (sym here ∙ ap (leads (λ y. not (by_kind opens_call y))) (tails (read ∙ ap (λ t. t ++ new) is))))
 
--- behind two names that no "(" follows
+-- after two names that "(" does not follow
 pub member_ends : (span member : Span) (e : ExpressionTree) (mid new : List Symbol) → leads (λ y. not (is_kind kind.OpenParen y)) mid ≡ true → name span ++ (dot_name member ++ mid) ≡ expression e ++ new → Callee (expression e) → Stops (is_kind kind.OpenParen) new
 member_ends span member e mid new here read (One other is) = subst (Stops (is_kind kind.OpenParen)) (tails (read ∙ ap (λ t. t ++ new) is)) refl
 member_ends span member e mid new here read (Two other field is) = subst (Stops (is_kind kind.OpenParen)) (tails (tails (tails (read ∙ ap (λ t. t ++ new) is)))) (other_stops mid here)
 
--- where no name is first
+-- if neither "new" nor a name is first
 pub plain_ends : (e : ExpressionTree) (old new : List Symbol) → leads (λ y. not (by_kind (λ k. kind_is kind.New k || kind_is kind.Name k) y)) old ≡ true → old ≡ expression e ++ new → Callee (expression e) → Stops (is_kind kind.OpenParen) new
 plain_ends e old new here read (One span is) = absurd (true≢false (sym here ∙ ap (leads (λ y. not (by_kind (λ k. kind_is kind.New k || kind_is kind.Name k) y))) (read ∙ ap (λ t. t ++ new) is)))
 plain_ends e old new here read (Two span member is) = absurd (true≢false (sym here ∙ ap (leads (λ y. not (by_kind (λ k. kind_is kind.New k || kind_is kind.Name k) y))) (read ∙ ap (λ t. t ++ new) is)))
 
--- a target that fails, as an expression that does
+-- if a target fails, so does the expression
 pub target_expression_fails : {mid new : List Symbol} (span : Span) → Fails target target_on (name span ++ mid) new → Fails expression expression_on (name span ++ mid) new
 target_expression_fails {mid} {new} span h = unary_fails (Joined Or) (atom_fails [] (refl, refl) (form_fails target_form refl h))
 

@@ -1,4 +1,4 @@
--- Where a value fails, and what its forms make of it.
+-- Where a value fails, by the form of it that fails.
 use Rattle.std.proofs.Common.{◌≡◌, Bool, true, false, List, [], ◌∷◌, ◌++◌, Option, Some, sym, refl, ap, ◌∙◌, append_assoc, inl, inr}
 use Rattle.std.specs.Prelude.{◌||◌, ◌&&◌, not, ◌⊎◌}
 use Rattle.std.proofs.lemmas.Bool.{true≢false}
@@ -120,7 +120,7 @@ value_apart (Expression e) y h =
 value_apart (Call c) y h = refl
 value_apart (New n) y h = refl
 
--- a symbol is first that begins no such piece
+-- the first symbol cannot both begin such a part and not begin one
 misled : (p : Symbol → Bool) (y : Symbol) (ys t : List Symbol) → y ∷ ys ≡ t → leads p t ≡ true → p y ≡ false → ⊥
 misled p y ys t is here none = true≢false (sym here ∙ ap (leads p) (sym is) ∙ none)
 
@@ -150,7 +150,7 @@ new_is_no_name n span r t is = kinds (heads is)
     kinds : Placed kind.New n.word ≡ Named span → ⊥
     kinds e = cc
 
--- behind its names a call fails
+-- a call fails after its names
 pub call_fails : (mid : List Symbol) {new : List Symbol} (span : Span) (o : Option Span) → leads (is_kind kind.OpenParen) mid ≡ true → Fails call never ((name span ++ optional dot_name o) ++ mid) new → Fails value_spelling value_on ((name span ++ optional dot_name o) ++ mid) new
 call_fails mid {new} span o here h = front_fails Call (λ _. refl) (λ y h. refl) (name span ++ optional dot_name o) mid new (is_kind kind.OpenParen) some (arguments (span, [])) (sym (append_assoc (name span) (optional dot_name o) (arguments (span, [])))) here only h
   where
@@ -162,7 +162,7 @@ call_fails mid {new} span o here h = front_fails Call (λ _. refl) (λ y h. refl
     only (Call c) r t hr is led = (c, refl)
     only (New n) r t hr is led = absurd (new_is_no_name n span r (optional dot_name o ++ t) is)
 
--- behind a name an expression fails
+-- an expression fails after a name
 pub named_fails : {mid new : List Symbol} (span : Span) → leads (λ y. not (by_kind opens_call y)) mid ≡ true → Fails expression expression_on (name span ++ mid) new → Fails value_spelling value_on (name span ++ mid) new
 named_fails {mid} {new} span here h = front_fails Expression (λ _. refl) (λ y h. or_left (expression_on y) (is_kind kind.OpenParen y) h) (name span) mid new (λ y. not (by_kind opens_call y)) (lifted (Target (Variable span))) [] (lifted_spelled (Target (Variable span))) here only h
   where
@@ -171,7 +171,7 @@ named_fails {mid} {new} span here h = front_fails Expression (λ _. refl) (λ y 
     only (Call c) r t hr is led = absurd (no_call span c r t is led)
     only (New n) r t hr is led = absurd (new_is_no_name n span r t is)
 
--- behind two names an expression fails
+-- an expression fails after two names
 pub member_fails : {mid new : List Symbol} (span member : Span) → leads (λ y. not (is_kind kind.OpenParen y)) mid ≡ true → Fails expression expression_on (name span ++ (dot_name member ++ mid)) new → Fails value_spelling value_on (name span ++ (dot_name member ++ mid)) new
 member_fails {mid} {new} span member here h = front_fails Expression (λ _. refl) (λ y h. or_left (expression_on y) (is_kind kind.OpenParen y) h) (name span ++ dot_name member) mid new (λ y. not (is_kind kind.OpenParen y)) (lifted (Target (Field span member))) [] (lifted_spelled (Target (Field span member))) here only h
   where
@@ -180,7 +180,7 @@ member_fails {mid} {new} span member here h = front_fails Expression (λ _. refl
     only (Call c) r t hr is led = absurd (no_member_call span member c r t is led)
     only (New n) r t hr is led = absurd (new_is_no_name n span r (dot_name member ++ t) is)
 
--- behind a name and a dot no name stands
+-- no name follows a name and a dot
 pub dot_fails : {mid new : List Symbol} (span : Span) → kind_at mid ≡ Some kind.Dot → Fails dot_name never mid new → Fails value_spelling value_on (name span ++ mid) new
 dot_fails {mid} {new} span is h = both_fail Expression (λ _. refl) (λ y h. or_left (expression_on y) (is_kind kind.OpenParen y) h) (λ y h. refl) (is_kind kind.Name) refl each in_expression in_call
   where

@@ -1,4 +1,4 @@
--- Values as pieces: a call and an expression may begin alike.
+-- Values as parts of the grammar: a call and an expression may begin alike.
 use Rattle.std.proofs.Common.{◌≡◌, Bool, true, List, [], ◌∷◌, ◌++◌, Option, Some, None, sym, refl, ap, ◌∙◌, subst, append_assoc}
 use Rattle.std.specs.Prelude.{◌||◌, ◌&&◌, not}
 use Rattle.std.proofs.lemmas.Bool.{true≢false}
@@ -72,7 +72,7 @@ callee_is : (span : Span) (o : Option Span) → is_callee (lifted (callee span o
 callee_is span None = refl
 callee_is span (Some member) = refl
 
--- only one expression is spelled so, where neither goes on
+-- no other expression has this spelling, if neither continues
 alone : (a : AtomTree) (e : ExpressionTree) (r t : List Symbol) → Stops expression_on t → Stops (expression_at e) r → expression e ++ r ≡ atom a ++ t → (lifted a ≡ e) × (t ≡ r)
 alone a e r t ht hr is = (level_way (lifted a)).only e t r ht hr (ap (λ s. s ++ t) (lifted_spelled a) ∙ sym is)
 
@@ -89,14 +89,14 @@ no_paren r hr h = stops_leads (is_kind kind.OpenParen) r h (stops_with value_on 
 ends_expression : (e : ExpressionTree) (r : List Symbol) → Stops expression_on r → Stops (expression_at e) r
 ends_expression e = stops_with expression_on (expression_at e) (λ y h. expression_apart e y h)
 
--- behind the names of a call, "(" begins its arguments
+-- after the names of a call, "(" begins its arguments
 
 pub no_expression : (span : Span) (o : Option Span) (e : ExpressionTree) (r t : List Symbol) → Stops value_on r → expression e ++ r ≡ (name span ++ optional dot_name o) ++ t → leads (is_kind kind.OpenParen) t ≡ true → ⊥
 no_expression span o e r t hr is here =
     let one = alone (callee span o) e r t (paren_stops t here) (ends_expression e r (value_stops r hr)) (is ∙ ap (λ s. s ++ t) (sym (callee_spelled span o))) in
     no_paren r hr (subst (λ s. leads (is_kind kind.OpenParen) s ≡ true) one.1 here)
 
--- whether what follows a name makes it a call's, or may
+-- whether a token after a name shows that the name is a call's, or may be
 abbrev pub opens_call : Option Kind → Bool
 opens_call k = kind_is kind.OpenParen k || kind_is kind.Dot k
 
@@ -168,7 +168,7 @@ value_only new_piece (New n) (New m) r s hr hs is =
     let u = (new_piece.each n).only m r s (stops_never r) (stops_never s) is in
     (ap (λ n. New n) u.0, u.1)
 
--- where a call's arguments fail
+-- a call fails if its arguments do
 
 dot_taken : (o : Option Span) (mid : List Symbol) → leads (is_kind kind.OpenParen) mid ≡ true → Stops (optional_at (is_kind kind.Dot) (λ _. never) o) mid
 dot_taken None [] h = tt

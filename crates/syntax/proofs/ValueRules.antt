@@ -1,4 +1,4 @@
--- Values and calls as pieces.
+-- Values and calls as parts of the grammar.
 use Rattle.std.proofs.Common.{◌≡◌, false, List, [], ◌∷◌, refl, ap}
 use Rattle.std.specs.Prelude.{◌||◌}
 use Rattle.source.specs.declared.kind.Kind.TheVariants as kind

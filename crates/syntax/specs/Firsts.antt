@@ -1,4 +1,4 @@
--- By which token a rule begins.
+-- The tokens with which rules begin.
 use Rattle.std.specs.Prelude.{Bool, ◌||◌, Option, Some, None, is_some}
 use Rattle.source.specs.declared.kind.Kind.{Kind}
 use Rattle.source.specs.declared.kind.Kind.TheVariants as kind
@@ -48,38 +48,38 @@ side_of _ = None
 abbrev pub opens_message : Option Kind → Bool
 opens_message k = is_some (direction_of k)
 
--- whether it is a sign
+-- whether a token is a sign
 abbrev pub opens_sign : Option Kind → Bool
 opens_sign k = is_some (sign_of k)
 
--- whether it is an end of a channel
+-- whether a token is an end of a channel
 abbrev pub opens_side : Option Kind → Bool
 opens_side k = is_some (side_of k)
 
--- whether a type begins with it
+-- whether a type begins with this token
 abbrev pub opens_type : Option Kind → Bool
 opens_type k = is_some (scalar_of k) || kind_is kind.Name k
 
--- whether a member does
+-- whether a member begins with this token
 abbrev pub opens_member : Option Kind → Bool
 opens_member k = opens_message k || kind_is kind.State k
 
--- whether it is an access word
+-- whether a token is an access word
 abbrev pub opens_access : Option Kind → Bool
 opens_access k = is_some (access_of k)
 
--- whether a field does
+-- whether a field begins with this token
 abbrev pub opens_field : Option Kind → Bool
 opens_field k = opens_access k || opens_type k
 
--- whether a parameter of a method does
+-- whether a parameter of a method begins with this token
 abbrev pub opens_parameter : Option Kind → Bool
 opens_parameter k = kind_is kind.OpenBracket k || opens_type k
 
--- whether a method does
+-- whether a method begins with this token
 abbrev pub opens_method : Option Kind → Bool
 opens_method k = opens_access k || kind_is kind.Static k
 
--- whether an item does
+-- whether an item begins with this token
 abbrev pub opens_item : Option Kind → Bool
 opens_item k = opens_access k || ((kind_is kind.Contract k || kind_is kind.Rep k) || kind_is kind.Class k)

@@ -54,11 +54,12 @@ joins_factors k = joins Multiply k || joins Add k
 abbrev pub behind_sum : Option Kind → Bool
 behind_sum k = ((joins Compare k || joins Equal k) || joins And k) || joins Or k
 
--- by what a target goes on that is a name so far
+-- whether a token continues a target that is only a name so far
 abbrev pub opens_rest : Option Kind → Bool
 opens_rest k = kind_is kind.Dot k || kind_is kind.OpenBracket k
 
--- by what some unary goes on, some term, some sum, and so on: as a target does, or by an operator that binds no less
+-- whether some term, sum, relation and so on could continue with a token: one that continues a target, or an
+-- operator that binds no less
 
 abbrev pub after_term : Option Kind → Bool
 after_term k = opens_rest k || joins Multiply k
@@ -78,7 +79,7 @@ after_conjunction k = after_equality k || joins And k
 abbrev pub after_expression : Option Kind → Bool
 after_expression k = after_conjunction k || joins Or k
 
--- the same of a level
+-- the same for a level
 abbrev pub goes_on : Level → Option Kind → Bool
 goes_on Single = opens_rest
 goes_on (Joined Multiply) = after_term

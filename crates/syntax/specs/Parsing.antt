@@ -1,4 +1,4 @@
--- Where tokens go wrong that are no spelling.
+-- Where tokens go wrong that do not spell a program.
 use Rattle.std.specs.Prelude.{◌≡◌, ◌+◌, ◌++◌, ℕ, List, take, Result, MatchResult}
 use Rattle.source.specs.declared.token.Token.{Token}
 use Rattle.tree.specs.Symbols.{Symbol, symbols}
@@ -6,18 +6,18 @@ use Rattle.tree.specs.Spelled.{whole, Spells}
 use Rattle.syntax.specs.declared.fault.SyntaxFault.{SyntaxFault}
 use Rattle.syntax.specs.declared.fault.SyntaxFault.TheVariants.{Memory}
 
--- some tree's spelling begins so
+-- the spelling of some tree begins with these symbols
 pub record Viable {X : Type 0} (spell : X → List Symbol) (front : List Symbol) : Type 0 where
   pub piece : X
   pub more : List Symbol
   pub begins : spell piece ≡ front ++ more
 
--- The first k tokens begin a spelling, and the first k + 1 begin none. Where k is the number of the tokens, all of
--- them begin a spelling, and they are none.
+-- Symbol `k` is the first wrong one: some spelling begins with the first `k` symbols, and none with
+-- the first `k + 1`. If `k` is the number of tokens, the end is wrong.
 pub record IsFirstWrong {X : Type 0} (spell : X → List Symbol) (tokens : List Token) (k : ℕ) : Type 0 where
   pub good : Viable (whole spell) (take k (symbols tokens))
   pub bad : Viable (whole spell) (take (k + 1) (symbols tokens)) → ⊥
 
--- Where the tokens are the spelling of a tree, this tree is the answer, or there is want of memory.
+-- If the tokens are the spelling of a tree, the result is this tree or `Memory`.
 abbrev pub FindsTree : {X Y : Type 0} → (X → List Symbol) → (Y → X) → List Token → Result Y SyntaxFault → Type 0
 FindsTree {X} spell view tokens result = (x : X) → Spells spell x tokens → MatchResult result (λ found. view found ≡ x) (λ e. e ≡ Memory)

@@ -1,4 +1,4 @@
--- By which token a statement begins, and by what it could go on.
+-- The tokens with which statements begin, and the symbols with which they could continue.
 use Rattle.std.specs.Prelude.{Bool, ◌||◌, List, [], ◌∷◌, Option, Some, None, is_some}
 use Rattle.source.specs.declared.kind.Kind.{Kind}
 use Rattle.source.specs.declared.kind.Kind.TheVariants as kind
@@ -10,7 +10,7 @@ use Rattle.syntax.specs.declared.leads.Lead.{Lead}
 use Rattle.syntax.specs.declared.leads.Lead.TheVariants as lead
 use Rattle.syntax.specs.declared.leads.PlainLead.TheVariants as plain_lead
 
--- what a statement is that begins with a token of this kind
+-- what a statement that begins with a token of this kind is
 abbrev pub lead_of : Option Kind → Option Lead
 lead_of (Some kind.OpenBrace) = Some lead.Block
 lead_of (Some kind.If) = Some lead.If
@@ -32,26 +32,26 @@ lead_of _ = None
 abbrev pub opens_statement : Option Kind → Bool
 opens_statement k = is_some (lead_of k)
 
--- by what some statement could go on: an `if` by `else`
+-- the symbols with which some statement could continue: an `if` with `else`
 abbrev pub statement_on : Symbol → Bool
 statement_on = is_kind kind.Else
 
--- by what this could go on that stands behind the first block of an `if`
+-- the symbols with which what follows the first block of an `if` could continue
 abbrev pub others_at : OtherTrees → Symbol → Bool
 others_at NoOther = statement_on
 others_at (Else b) = never
 others_at (ElseIf t more) = others_at more
 
--- by what this statement could
+-- the symbols with which this statement could continue
 abbrev pub statement_at : StatementTree → Symbol → Bool
 statement_at (If t more) = others_at more
 statement_at _ = never
 
--- by what some statements in a row could
+-- the symbols with which some sequence of statements could continue
 abbrev pub statements_on : Symbol → Bool
 statements_on y = statement_on y || by_kind opens_statement y
 
--- by what these could
+-- the symbols with which these statements could continue
 abbrev pub statements_at : List StatementTree → Symbol → Bool
 statements_at = many_at (by_kind opens_statement) statement_at
 
@@ -60,15 +60,15 @@ abbrev pub statement_list : StatementTrees → List StatementTree
 statement_list NoStatement = []
 statement_list (MoreStatements x xs) = x ∷ statement_list xs
 
--- by what this case could
+-- the symbols with which this case could continue
 abbrev pub case_at : CaseTree → Symbol → Bool
 case_at (Case span endpoint message open_paren binds inner) = statements_at (statement_list inner)
 
--- by what some cases in a row could
+-- the symbols with which some sequence of cases could continue
 abbrev pub cases_on : Symbol → Bool
 cases_on y = statements_on y || is_kind kind.Case y
 
--- by what these could
+-- the symbols with which these cases could continue
 abbrev pub cases_at : List CaseTree → Symbol → Bool
 cases_at = many_at (is_kind kind.Case) case_at
 

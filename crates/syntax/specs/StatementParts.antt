@@ -30,7 +30,7 @@ use Rattle.syntax.specs.declared.statement_ends.ChannelEnds.{ChannelEnds}
 abbrev pub if_parts : IfTree → List Symbol
 if_parts i = sequence (test kind.If i.first ∷ others i.others ∷ [])
 
--- by what this `if` could go on
+-- the symbols with which this `if` could continue
 abbrev pub if_at : IfTree → Symbol → Bool
 if_at i = others_at i.others
 
@@ -39,7 +39,7 @@ abbrev pub switch_parts : SwitchTree → List Symbol
 switch_parts s = sequence (token_at kind.Switch s.word ∷ word kind.Receive ∷ word kind.OpenBrace ∷ case s.first ∷ flat_map case s.others
     ∷ token_at kind.CloseBrace s.close ∷ [])
 
--- what stands before the statements of a case
+-- the part of a case before its statements
 pub record CaseFrontTree : Type 0 where
   pub word : Span
   pub endpoint : Span
@@ -81,11 +81,11 @@ start p = plain (Start p.0 p.1)
 abbrev pub return_parts : Span × Option ExpressionTree → List Symbol
 return_parts p = plain (Return p.0 p.1)
 
--- by what an initial value, or none, could go on
+-- the symbols with which an initial value, or none, could continue
 abbrev pub init_on : Symbol → Bool
 init_on y = is_kind kind.Equal y || value_on y
 
--- by what a returned expression, or none, could
+-- the symbols with which a returned expression, or none, could continue
 abbrev pub result_on : Symbol → Bool
 result_on y = by_kind opens_expression y || expression_on y
 
@@ -105,31 +105,31 @@ named_bind p = sequence (name p.0 ∷ optional typed p.1 ∷ [])
 abbrev pub scalar_bind : ScalarType × Span → List Symbol
 scalar_bind p = sequence (scalar_type p.0 ∷ name p.1 ∷ [])
 
--- what a name and what follows it bind
+-- the bind that a name and what follows it form
 abbrev pub of_typed : Span → Option (NamedTail × Span) → Bind
 of_typed span None = record { ty = None; name = span }
 of_typed span (Some p) = record { ty = Some (of_tail span p.0); name = p.1 }
 
--- what stands before the statements of a case, as a tree
+-- the part of a case before its statements, as a tree
 abbrev pub case_front_tree : CaseFront → CaseFrontTree
 case_front_tree c = record { word = c.word; endpoint = c.endpoint; message = c.message; open_paren = c.open; binds = c.binds.items }
 
--- whether what follows a name in a type begins with this token
+-- whether the part of a type after its name begins with this token
 abbrev pub opens_tail : Option Kind → Bool
 opens_tail k = kind_is kind.Star k || kind_is kind.Dot k
 
--- by what some bind could go on: a name alone may be a type's
+-- the symbols with which some bind could continue: a name alone may be that of a type
 abbrev pub bind_on : Symbol → Bool
 bind_on = by_kind opens_tail
 
--- by what this one could
+-- the symbols with which this bind could continue
 abbrev pub bind_at : Bind → Symbol → Bool
 bind_at b = optional_at bind_on (λ _. never) b.ty
 
--- by what some list of binds could
+-- the symbols with which some list of binds could continue
 abbrev pub binds_on : Symbol → Bool
 binds_on = listed_open_on (by_kind opens_type) bind_on
 
--- by what this one could
+-- the symbols with which this list of binds could continue
 abbrev pub binds_at : List Bind → Symbol → Bool
 binds_at = listed_open_at (by_kind opens_type) bind_at

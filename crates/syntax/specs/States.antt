@@ -1,4 +1,4 @@
--- States and members by their parts, and by what they could go on.
+-- States and members by their parts, and the symbols with which they could continue.
 use Rattle.std.specs.Prelude.{Bool, ◌||◌, List, [], ◌∷◌}
 use Rattle.std.specs.List.{flat_map}
 use Rattle.source.specs.declared.kind.Kind.TheVariants as kind
@@ -23,29 +23,29 @@ lines = in_braces (flat_map line)
 abbrev pub one : (List PathTree × Span) × Bool → List Symbol
 one p = sequence (word kind.One ∷ lines p.0 ∷ when (word kind.Semicolon) p.1 ∷ [])
 
--- by what such a body could go on
+-- the symbols with which such a body could continue
 abbrev pub one_at : (List PathTree × Span) × Bool → Symbol → Bool
 one_at p = when_at (is_kind kind.Semicolon) p.1
 
--- by what some state could go on: a semicolon behind the brace
+-- the symbols with which some state could continue: a semicolon after the brace
 abbrev pub state_on : Symbol → Bool
 state_on = is_kind kind.Semicolon
 
--- by what this body could go on
+-- the symbols with which this body could continue
 abbrev pub body_at : BodyTree → Symbol → Bool
 body_at Empty = never
 body_at (Path p) = never
 body_at (One paths close semicolon) = when_at state_on semicolon
 
--- by what this state could
+-- the symbols with which this state could continue
 abbrev pub state_at : StateTree → Symbol → Bool
 state_at s = body_at s.body
 
--- by what this member could
+-- the symbols with which this member could continue
 abbrev pub member_at : MemberTree → Symbol → Bool
 member_at (Message m) = never
 member_at (State s) = state_at s
 
--- by what some members could go on
+-- the symbols with which some sequence of members could continue
 abbrev pub members_on : Symbol → Bool
 members_on y = state_on y || by_kind opens_member y

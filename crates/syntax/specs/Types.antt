@@ -1,4 +1,4 @@
--- Types by their fronts: one that begins with a name, one that begins with a scalar.
+-- Types by how they begin: with a name or with a scalar.
 use Rattle.std.specs.Prelude.{Bool, ◌||◌, List, [], ◌∷◌, Option, Some, None, is_some}
 use Rattle.source.specs.declared.kind.Kind.TheVariants as kind
 use Rattle.tree.specs.Symbols.{Symbol, is_kind}
@@ -47,7 +47,7 @@ named_tail (tail.Endpoint e) = endpoint_tail e
 abbrev pub named_type : parts.NamedType.NamedType → List Symbol
 named_type n = sequence (name n.name ∷ named_tail n.tail ∷ [])
 
--- a scalar, or an array of it
+-- a scalar, or an array of scalars
 abbrev pub of_array : Scalar → Option (Option Span) → type_nodes.Type.Type
 of_array scalar None = type.Scalar scalar
 of_array scalar (Some bang) = type.Heap (heap.Array scalar bang)
@@ -56,7 +56,7 @@ of_array scalar (Some bang) = type.Heap (heap.Array scalar bang)
 abbrev pub of_scalar : parts.ScalarType.ScalarType → type_nodes.Type.Type
 of_scalar s = of_array s.scalar s.array
 
--- what a name and what follows it are
+-- the type that a name and what follows it form
 abbrev pub of_tail : Span → parts.NamedTail.NamedTail → type_nodes.Type.Type
 of_tail span (tail.Pointer bang) = type.Heap (heap.Pointer span bang)
 of_tail span (tail.Endpoint e) = type.Heap (heap.Endpoint span e.side e.state e.bang e.in_heap)
@@ -65,33 +65,33 @@ of_tail span (tail.Endpoint e) = type.Heap (heap.Endpoint span e.side e.state e.
 abbrev pub of_named : parts.NamedType.NamedType → type_nodes.Type.Type
 of_named n = of_tail n.name n.tail
 
--- by what the type of some endpoint could go on
+-- the symbols with which the type of some endpoint could continue
 abbrev pub endpoint_on : Symbol → Bool
 endpoint_on y = (is_kind kind.Colon y || is_kind kind.Bang y) || is_kind kind.In y
 
--- by what the type of this one could
+-- the symbols with which the type of this endpoint could continue
 abbrev pub endpoint_at : parts.EndpointTail.EndpointTail → Symbol → Bool
 endpoint_at e = open_at (open_at (optional_at (is_kind kind.Colon) (λ _. never) e.state) (is_kind kind.Bang) (is_some e.bang))
     (is_kind kind.In) e.in_heap
 
--- by what this could go on that follows a name
+-- the symbols with which this part of a type after its name could continue
 abbrev pub tail_at : parts.NamedTail.NamedTail → Symbol → Bool
 tail_at (tail.Pointer bang) = never
 tail_at (tail.Endpoint e) = endpoint_at e
 
--- by what this type could go on that begins with a name
+-- the symbols with which this type that begins with a name could continue
 abbrev pub named_at : parts.NamedType.NamedType → Symbol → Bool
 named_at n = tail_at n.tail
 
--- by what this type could go on that begins with a scalar
+-- the symbols with which this type that begins with a scalar could continue
 abbrev pub scalar_at : parts.ScalarType.ScalarType → Symbol → Bool
 scalar_at s = optional_at (is_kind kind.OpenBracket) (λ _. never) s.array
 
--- by what some type could go on
+-- the symbols with which some type could continue
 abbrev pub type_on : Symbol → Bool
 type_on y = is_kind kind.OpenBracket y || endpoint_on y
 
--- by what this type could go on
+-- the symbols with which this type could continue
 abbrev pub type_at : type_nodes.Type.Type → Symbol → Bool
 type_at (type.Scalar s) = is_kind kind.OpenBracket
 type_at (type.Heap (heap.Array element bang)) = never

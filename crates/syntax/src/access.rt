@@ -21,7 +21,7 @@ pub fn access(cursor: &mut Cursor<'_>) -> Option<Access>
     Some(access)
 }
 
-/// The access word that this token is.
+/// Returns the access word that this token is, if it is one.
 fn access_of(kind: Option<Kind>) -> Option<Access>
     ensures { result ≡ access_of kind }
 {

@@ -1,4 +1,4 @@
-//! Reads what stands before the statements of a case.
+//! Reads the part of a case before its statements.
 
 ghost use Rattle.std.specs.Prelude.{◌≡◌};
 ghost use Rattle.tree.specs.Spelling.{comma, comma_list, parens};
@@ -15,7 +15,7 @@ use source::{Kind, Span};
 use std::alloc::Global;
 use tree::{Awaited, Bind, Type};
 
-/// What stands before the statements of a case.
+/// The part of a case before its statements.
 #[derive(Drop)]
 pub struct CaseFront {
     pub word: Span,
@@ -103,7 +103,7 @@ fn bind(cursor: &mut Cursor<'_>) -> Result<Bind, Stuck>
     }
 }
 
-/// What a name and what follows it bind.
+/// Returns the bind that a name and what follows it form.
 fn bind_of(first: Span, behind: Option<(NamedTail, Span)>) -> Bind
     ensures { result ≡ of_typed first behind }
 {
@@ -119,7 +119,7 @@ fn bind_of(first: Span, behind: Option<(NamedTail, Span)>) -> Bind
     }
 }
 
-/// Whether what follows a name in a type begins with this token.
+/// Returns whether the part of a type after its name begins with this token.
 fn is_tail(kind: Option<Kind>) -> bool
     ensures { result ≡ opens_tail kind }
 {

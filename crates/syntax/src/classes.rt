@@ -45,7 +45,7 @@ fn methods(alloc: Global, cursor: &mut Cursor<'_>) -> Result<(Vec<Method>, Span)
     Ok((all, close))
 }
 
-/// Whether a method begins with this token.
+/// Returns whether a method begins with this token.
 fn is_method(kind: Option<Kind>) -> bool
     ensures { result ≡ opens_method kind }
 {
@@ -108,7 +108,7 @@ fn parameters(alloc: Global, cursor: &mut Cursor<'_>) -> Result<(Span, Vec<Param
     Ok((left, all))
 }
 
-/// Whether a parameter begins with this token.
+/// Returns whether a parameter begins with this token.
 fn is_parameter(kind: Option<Kind>) -> bool
     ensures { result ≡ opens_parameter kind }
 {

@@ -48,7 +48,7 @@ fn messages(alloc: Global, cursor: &mut Cursor<'_>) -> Result<Vec<Message>, Stuc
     Ok(all)
 }
 
-/// Whether a member begins with this token.
+/// Returns whether a member begins with this token.
 fn is_member(kind: Option<Kind>) -> bool
     ensures { result ≡ opens_member kind }
 {

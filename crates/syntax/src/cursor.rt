@@ -1,4 +1,4 @@
-//! A place among tokens.
+//! A position among tokens.
 
 ghost use Rattle.std.specs.Prelude.{◌≡◌, ◌≢◌, ◌+◌, length, ◌↔◌, ◌∷◌, [], List, true, false, IsTrue, IsSome};
 ghost use Rattle.source.specs.declared.kind.Kind.{Kind};
@@ -10,10 +10,10 @@ use source::{Kind, Span, Token};
 use std::alloc::{AllocError, AllocFailed};
 use std::marker::Model;
 
-/// Why there is no tree.
+/// Why tokens have no tree.
 #[derive(Drop)]
 pub enum Stuck {
-    /// No program goes on with the token at which the cursor stands.
+    /// No program continues with the next token of the cursor.
     Unexpected,
     Memory,
 }
@@ -40,7 +40,7 @@ impl<T: Drop> From<AllocFailed<T>> for Stuck {
     }
 }
 
-/// What is left of a text's tokens.
+/// The remaining tokens of a text.
 #[derive(Drop)]
 pub struct Cursor<'a> {
     tokens: &'a [Token],
@@ -59,7 +59,7 @@ impl<'a> Model for Cursor<'a> {
 }
 
 impl<'a> Cursor<'a> {
-    /// At the first of these tokens.
+    /// Returns a cursor at the first of these tokens.
     pub fn new(tokens: &'a [Token]) -> Cursor<'a>
         ensures { result ≡ symbols tokens.now }
     {
@@ -68,14 +68,14 @@ impl<'a> Cursor<'a> {
 }
 
 impl Cursor<'_> {
-    /// How many tokens are left.
+    /// Returns the number of tokens left.
     pub fn tokens_left(&self) -> usize
         ensures { result + 1 ≡ length self.now }
     {
         self.tokens.len() - self.next
     }
 
-    /// The kind of the next token.
+    /// Returns the kind of the next token, or `None` if no token is left.
     pub fn peek(&self) -> Option<Kind>
         ensures kind { result ≡ kind_at self.now }
         ensures some { self.now ≢ [] }
@@ -87,7 +87,7 @@ impl Cursor<'_> {
         }
     }
 
-    /// Whether the next token is of this kind.
+    /// Returns whether the next token is of this kind.
     pub fn is_next(&self, kind: Kind) -> bool
         ensures is { IsTrue result ↔ (kind_at self.now ≡ Some kind) }
         ensures some { self.now ≢ [] }
@@ -98,7 +98,8 @@ impl Cursor<'_> {
         }
     }
 
-    /// Takes a token of this kind, which is no name and keeps no place.
+    /// Takes a token of this kind, which must be neither a name nor a kind whose span the tree keeps. Returns
+    /// `Unexpected` if it is not next.
     pub fn expect(&mut self, kind: Kind) -> Result<(), Stuck>
         requires no_name { kind ≢ Kind.Name }
         requires no_place { is_placed kind ≡ false }
@@ -112,7 +113,8 @@ impl Cursor<'_> {
         }
     }
 
-    /// Takes a token of this kind, which is no name and keeps no place, if it is next.
+    /// Takes a token of this kind if it is next, and returns whether it was. The kind must be neither a name nor
+    /// one whose span the tree keeps.
     pub fn take_if(&mut self, kind: Kind) -> bool
         requires no_name { kind ≢ Kind.Name }
         requires no_place { is_placed kind ≡ false }
@@ -126,7 +128,7 @@ impl Cursor<'_> {
         }
     }
 
-    /// Takes a token of this kind, and answers where it lies.
+    /// Takes a token of this kind and returns its span, or `Unexpected` if it is not next.
     pub fn expect_span(&mut self, kind: Kind) -> Result<Span, Stuck>
         requires { is_placed kind ≡ true }
         ensures { ReadsEnded (λ x. x) (token_at kind) self.old self.new result }
@@ -138,7 +140,7 @@ impl Cursor<'_> {
         }
     }
 
-    /// Takes a token of this kind, if it is next, and answers where it lies.
+    /// Takes a token of this kind if it is next, and returns its span.
     pub fn placed_if(&mut self, kind: Kind) -> Option<Span>
         requires { is_placed kind ≡ true }
         ensures { Takes (optional (token_at kind)) (optional_at (is_kind kind) (λ _. never)) self.old self.new result }
@@ -150,7 +152,7 @@ impl Cursor<'_> {
         }
     }
 
-    /// Takes a name.
+    /// Takes a name and returns its span, or `Unexpected` if none is next.
     pub fn name(&mut self) -> Result<Span, Stuck>
         ensures { ReadsEnded (λ x. x) name self.old self.new result }
     {
@@ -161,7 +163,7 @@ impl Cursor<'_> {
         }
     }
 
-    /// Passes over a token, and answers where it lies.
+    /// Takes the next token and returns its span.
     pub fn skip(&mut self) -> Span
         requires { IsSome (kind_at self.old) }
         ensures fixed { (kind : Kind) → kind ≢ Kind.Name → is_placed kind ≡ false → kind_at self.old ≡ Some kind

@@ -1,4 +1,4 @@
-//! Reads expressions: a level at a time, from the unary that stands first.
+//! Reads expressions level by level, starting from the first unary.
 
 ghost use Rattle.std.specs.Prelude.{◌≡◌, ◌≤◌, ◌++◌, length, map, OnOk};
 ghost use Rattle.std.specs.List.{flat_map};
@@ -29,7 +29,7 @@ use tree::{
     Factors, FieldTarget, Prefix, Prefixed, Relation, RelationStep, Sum, Target, Unary,
 };
 
-/// Whether an expression begins with this token.
+/// Returns whether an expression begins with this token.
 pub fn is_expression(kind: Option<Kind>) -> bool
     ensures { result ≡ opens_expression kind }
 {
@@ -56,7 +56,7 @@ pub fn read_expression(alloc: Global, cursor: &mut Cursor<'_>) -> Result<Express
     expression_from(alloc, cursor, unary)
 }
 
-/// expression = conjunction { "||" conjunction }, from the unary that stands first.
+/// expression = conjunction { "||" conjunction }, given its first unary.
 #[cycle(expression)]
 pub fn expression_from(
     alloc: Global,
@@ -75,7 +75,7 @@ pub fn expression_from(
     Ok(Expression::Joined(Box::new(alloc, disjunction)?))
 }
 
-/// The same with all levels between, from the sum that stands first, as it is kept where operators stand about that.
+/// Reads an expression with all levels between, given its first sum. Used if an operator follows that sum.
 #[cycle(expression)]
 fn disjunction_from(alloc: Global, cursor: &mut Cursor<'_>, sum: Sum) -> Result<Disjunction, Stuck>
     requires { Stops (level_at (sum_tree sum)) cursor.old }
@@ -110,7 +110,7 @@ fn or_conjunction(alloc: Global, cursor: &mut Cursor<'_>) -> Result<Conjunction,
     conjunction_from(alloc, cursor, sum)
 }
 
-/// conjunction = equality { "&&" equality }, from the sum that stands first.
+/// conjunction = equality { "&&" equality }, given its first sum.
 #[cycle(expression)]
 fn conjunction_from(alloc: Global, cursor: &mut Cursor<'_>, sum: Sum) -> Result<Conjunction, Stuck>
     requires { Stops (level_at (sum_tree sum)) cursor.old }
@@ -146,7 +146,7 @@ fn and_equality(alloc: Global, cursor: &mut Cursor<'_>) -> Result<Equality, Stuc
     equality_from(alloc, cursor, sum)
 }
 
-/// equality = relation { ( "==" | "!=" ) relation }, from the sum that stands first.
+/// equality = relation { ( "==" | "!=" ) relation }, given its first sum.
 #[cycle(expression)]
 fn equality_from(alloc: Global, cursor: &mut Cursor<'_>, sum: Sum) -> Result<Equality, Stuck>
     requires { Stops (level_at (sum_tree sum)) cursor.old }
@@ -182,7 +182,7 @@ fn equality_step(alloc: Global, cursor: &mut Cursor<'_>) -> Result<EqualityStep,
     Ok(EqualityStep { operator, relation })
 }
 
-/// relation = sum { ( "<" | "<=" | ">" | ">=" ) sum }, from the sum that stands first.
+/// relation = sum { ( "<" | "<=" | ">" | ">=" ) sum }, given its first sum.
 #[cycle(expression)]
 fn relation_from(alloc: Global, cursor: &mut Cursor<'_>, sum: Sum) -> Result<Relation, Stuck>
     requires { Stops (level_at (sum_tree sum)) cursor.old }
@@ -226,7 +226,7 @@ fn read_sum(alloc: Global, cursor: &mut Cursor<'_>) -> Result<Sum, Stuck>
     sum_from(alloc, cursor, unary)
 }
 
-/// The same, from the unary that stands first.
+/// sum = term { ( "+" | "-" ) term }, given its first unary.
 #[cycle(expression)]
 fn sum_from(alloc: Global, cursor: &mut Cursor<'_>, unary: Unary) -> Result<Sum, Stuck>
     requires { Stops (level_at (unary_tree unary)) cursor.old }
@@ -336,7 +336,7 @@ fn read_target(alloc: Global, cursor: &mut Cursor<'_>) -> Result<Target, Stuck>
     target_from(alloc, cursor, variable)
 }
 
-/// The target that begins with this name.
+/// Reads the rest of a target that begins with this name.
 #[inline(always)]
 #[cycle(expression)]
 pub fn target_from(alloc: Global, cursor: &mut Cursor<'_>, variable: Span) -> Result<Target, Stuck>

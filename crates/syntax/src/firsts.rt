@@ -1,4 +1,4 @@
-//! By which tokens a part of a program begins.
+//! The tokens with which parts of a program begin.
 
 ghost use Rattle.std.specs.Prelude.{◌≡◌, Some};
 ghost use Rattle.syntax.specs.ExpressionReads.{opens_expression};
@@ -10,21 +10,21 @@ use crate::leads::lead_of;
 use crate::values::is_value;
 use source::Kind;
 
-/// Whether a statement begins with a token of this kind.
+/// Returns whether a statement begins with a token of this kind.
 pub fn begins_statement(kind: Kind) -> bool
     ensures { result ≡ opens_statement (Some kind) }
 {
     lead_of(Some(kind)).is_some()
 }
 
-/// Whether what a variable takes begins with a token of this kind: an expression, or a `new`.
+/// Returns whether a value, which is an expression, a call or a `new`, begins with a token of this kind.
 pub fn begins_value(kind: Kind) -> bool
     ensures { result ≡ opens_value (Some kind) }
 {
     is_value(Some(kind))
 }
 
-/// Whether an expression begins with a token of this kind.
+/// Returns whether an expression begins with a token of this kind.
 pub fn begins_expression(kind: Kind) -> bool
     ensures { result ≡ opens_expression (Some kind) }
 {

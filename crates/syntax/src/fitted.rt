@@ -4,7 +4,7 @@ ghost use Rattle.std.specs.Prelude.{◌≡◌, ◌++◌, ◌∷◌, [], OnOk};
 
 use std::alloc::AllocError;
 
-/// Adds an item. The first one gets room for itself alone, since most lists of a tree have no second.
+/// Appends an item. The first one gets room for itself only, since most lists of a tree have no second.
 pub(crate) fn push<T: Drop>(all: &mut Vec<T>, item: T) -> Result<(), AllocError>
     ensures { OnOk result (all.new.items ≡ all.old.items ++ item ∷ []) }
 {
@@ -15,7 +15,8 @@ pub(crate) fn push<T: Drop>(all: &mut Vec<T>, item: T) -> Result<(), AllocError>
     Ok(())
 }
 
-/// The list without room for more items. A list makes room for four with its second item, and most have one or two.
+/// Returns the list without room for more items. A list makes room for four with its second item, and most have one
+/// or two.
 pub(crate) fn shrink<T>(mut all: Vec<T>) -> Vec<T>
     ensures { result.items ≡ all.items }
 {

@@ -1,10 +1,10 @@
-//! Types by their fronts: one that begins with a scalar, one that begins with a name.
+//! Types by how they begin: with a scalar or with a name.
 
 use program::{Scalar, Side};
 use source::Span;
 use tree::{Heap, Type};
 
-/// A type that begins with a scalar; of an array, the `!` behind its brackets.
+/// A type that begins with a scalar. For an array, `array` has the `!` after its brackets, if there is one.
 #[derive(Clone, Copy)]
 pub struct ScalarType {
     pub scalar: Scalar,
@@ -18,7 +18,7 @@ pub struct NamedType {
     pub tail: NamedTail,
 }
 
-/// What follows that name; of a pointer, the `!` behind the star.
+/// What follows that name. A pointer has the `!` after its star, if there is one.
 #[derive(Clone, Copy)]
 pub enum NamedTail {
     Pointer(Option<Span>),

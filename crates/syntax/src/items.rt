@@ -15,7 +15,7 @@ use source::Kind;
 use std::alloc::Global;
 use tree::{Definition, Item};
 
-/// Whether an item begins with this token.
+/// Returns whether an item begins with this token.
 fn is_item(kind: Option<Kind>) -> bool
     ensures { result ≡ opens_item kind }
 {

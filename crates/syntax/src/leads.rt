@@ -1,4 +1,4 @@
-//! What a statement is, by its first token.
+//! Statements by their first token.
 
 ghost use Rattle.std.specs.Prelude.{◌≡◌};
 ghost use Rattle.syntax.specs.StatementFirsts.{lead_of};
@@ -15,7 +15,7 @@ pub enum Lead {
     Plain(PlainLead),
 }
 
-/// A statement that holds no others, by its first token.
+/// A statement that contains no other, by its first token.
 #[derive(Clone, Copy)]
 pub enum PlainLead {
     Name,
@@ -28,7 +28,7 @@ pub enum PlainLead {
     Return,
 }
 
-/// What a statement is that begins with this token.
+/// Returns what a statement that begins with this token is, or `None` if none begins with it.
 pub fn lead_of(kind: Option<Kind>) -> Option<Lead>
     ensures { result ≡ lead_of kind }
 {

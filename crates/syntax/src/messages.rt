@@ -16,14 +16,14 @@ use source::{Kind, Span};
 use std::alloc::Global;
 use tree::{Message, MessageParameter};
 
-/// Whether a message begins with this token.
+/// Returns whether a message begins with this token.
 pub fn is_message(kind: Option<Kind>) -> bool
     ensures { result ≡ opens_message kind }
 {
     direction_of(kind).is_some()
 }
 
-/// The direction that this token names.
+/// Returns the direction that this token names, if it names one.
 fn direction_of(kind: Option<Kind>) -> Option<Direction>
     ensures { result ≡ direction_of kind }
 {

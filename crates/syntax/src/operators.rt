@@ -12,7 +12,7 @@ use tree::{
     EqualityOperator, FactorOperator, Prefix, PrefixOperator, RelationOperator, SumOperator,
 };
 
-/// The equality that this token is.
+/// Returns the equality operator that this token is, if it is one.
 fn equality_of(kind: Option<Kind>) -> Option<EqualityOperator>
     ensures { result ≡ equality_of kind }
 {
@@ -23,14 +23,14 @@ fn equality_of(kind: Option<Kind>) -> Option<EqualityOperator>
     }
 }
 
-/// Whether this token is an equality.
+/// Returns whether this token is an equality.
 pub fn is_equality(kind: Option<Kind>) -> bool
     ensures { result ≡ joins Equal kind }
 {
     equality_of(kind).is_some()
 }
 
-/// Whether an expression goes on with this token, behind its first sum.
+/// Returns whether an expression continues with this token after its first sum.
 pub fn goes_on_behind_sum(kind: Option<Kind>) -> bool
     ensures { result ≡ behind_sum kind }
 {
@@ -48,7 +48,7 @@ pub fn equality_operator(cursor: &mut Cursor<'_>) -> Result<EqualityOperator, St
     Ok(operator)
 }
 
-/// The relation that this token is.
+/// Returns the relation operator that this token is, if it is one.
 fn relation_of(kind: Option<Kind>) -> Option<RelationOperator>
     ensures { result ≡ relation_of kind }
 {
@@ -61,7 +61,7 @@ fn relation_of(kind: Option<Kind>) -> Option<RelationOperator>
     }
 }
 
-/// Whether this token is a relation.
+/// Returns whether this token is a relation.
 pub fn is_relation(kind: Option<Kind>) -> bool
     ensures { result ≡ joins Compare kind }
 {
@@ -79,7 +79,7 @@ pub fn relation_operator(cursor: &mut Cursor<'_>) -> Result<RelationOperator, St
     Ok(operator)
 }
 
-/// Whether this token is "*", "+" or "-".
+/// Returns whether this token is "*", "+" or "-".
 #[inline(always)]
 pub fn is_factor(kind: Option<Kind>) -> bool
     ensures { result ≡ joins_factors kind }
@@ -111,7 +111,7 @@ fn sum_operator(cursor: &mut Cursor<'_>) -> Result<SumOperator, Stuck>
     }
 }
 
-/// The prefix that this token is.
+/// Returns the prefix operator that this token is, if it is one.
 #[inline(always)]
 fn prefix_of(kind: Option<Kind>) -> Option<PrefixOperator>
     ensures { result ≡ prefix_of kind }
@@ -123,7 +123,7 @@ fn prefix_of(kind: Option<Kind>) -> Option<PrefixOperator>
     }
 }
 
-/// Whether this token is a prefix.
+/// Returns whether this token is a prefix.
 pub fn is_prefix(kind: Option<Kind>) -> bool
     ensures { result ≡ opens_prefix kind }
 {

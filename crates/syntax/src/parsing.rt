@@ -13,14 +13,16 @@ use source::Tokens;
 use std::alloc::Global;
 use tree::Tree;
 
-/// The tree of a program, from the first token of a text to its last.
-///
-/// `At(k)` names the first token, counted from 0, with which no program goes on: the tokens before it begin a program, and
-/// with it they begin none. Where all of them begin a program and are none, k is their number, as for a contract whose
-/// last brace is missing. `Memory` comes where a growth of memory is refused; the tokens stay as they were.
+/// Parses the tokens of a whole text into the tree of a program.
 ///
 /// The grammar is that of channel contracts in Sing# (Fähndrich et al., "Language Support for Fast and Reliable
-/// Message-based Communication in Singularity OS", EuroSys 2006), a rule a line in `specs/Grammar.antt`.
+/// Message-based Communication in Singularity OS", EuroSys 2006), one rule a line in `specs/Grammar.antt`.
+///
+/// # Errors
+/// `At(k)` if no program continues with token `k`, counted from 0, which is the first such token: the tokens before
+/// it begin a program, and with it they begin none. If all tokens begin a program but are none, `k` is their
+/// number, for example if the last brace of a contract is missing. `Memory` if an allocation was refused. The
+/// tokens do not change.
 pub fn parse(alloc: Global, tokens: &Tokens) -> Result<Tree, SyntaxFault>
     ensures tree { IfOk result (λ t. Spells program (program_tree t) tokens.now.list.items) }
     ensures few { IfOk result (λ t. length (program (program_tree t)) ≤ length tokens.now.list.items) }

@@ -1,4 +1,4 @@
-//! Reads statements that hold no others, by their first tokens.
+//! Reads statements that contain no other, by their first tokens.
 
 ghost use Rattle.std.specs.Prelude.{◌≡◌, ◌≢◌, ◌++◌};
 ghost use Rattle.tree.specs.Symbols.{kind_at};
@@ -21,7 +21,7 @@ use tree::{
     Assign, Call, Declare, ElementTarget, FieldTarget, Heap, NewChannel, Plain, Target, Type,
 };
 
-/// A statement that begins so and holds no others.
+/// Reads a statement that contains no other and begins with this lead.
 pub fn plain(alloc: Global, cursor: &mut Cursor<'_>, lead: PlainLead) -> Result<Plain, Stuck>
     requires { lead_of (kind_at cursor.old) ≡ Some (Lead.Plain lead) }
     ensures { ReadsEnded plain_tree plain cursor.old cursor.new result }
@@ -58,7 +58,7 @@ pub fn plain(alloc: Global, cursor: &mut Cursor<'_>, lead: PlainLead) -> Result<
     }
 }
 
-/// The rest of a statement that begins with this name.
+/// Reads the rest of a statement that begins with this name.
 fn after_name(alloc: Global, cursor: &mut Cursor<'_>, first: Span) -> Result<Plain, Stuck>
     ensures { ReadsEnded plain_tree plain (name first ++ cursor.old) cursor.new result }
 {
@@ -75,7 +75,8 @@ fn after_name(alloc: Global, cursor: &mut Cursor<'_>, first: Span) -> Result<Pla
     }
 }
 
-/// The rest of a statement that begins with the name of a variable or a method, where no dot stands behind it.
+/// Reads the rest of a statement that begins with the name of a variable or a method, if neither a star nor a dot
+/// is next.
 fn after_variable(alloc: Global, cursor: &mut Cursor<'_>, first: Span) -> Result<Plain, Stuck>
     requires star { kind_at cursor.old ≢ Some Kind.Star }
     requires dot { kind_at cursor.old ≢ Some Kind.Dot }
@@ -107,7 +108,7 @@ fn after_variable(alloc: Global, cursor: &mut Cursor<'_>, first: Span) -> Result
     }
 }
 
-/// The rest of a statement that begins with this name and a dot.
+/// Reads the rest of a statement that begins with this name and a dot.
 fn after_dot(alloc: Global, cursor: &mut Cursor<'_>, first: Span) -> Result<Plain, Stuck>
     ensures { ReadsEnded plain_tree plain (name first ++ (word Kind.Dot ++ cursor.old))
         cursor.new result }
@@ -140,7 +141,7 @@ fn after_dot(alloc: Global, cursor: &mut Cursor<'_>, first: Span) -> Result<Plai
     }
 }
 
-/// The rest of a statement that begins with these names and a dot between them.
+/// Reads the rest of a statement that begins with these names and a dot between them.
 fn after_member(
     alloc: Global,
     cursor: &mut Cursor<'_>,

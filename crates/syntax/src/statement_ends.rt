@@ -1,4 +1,4 @@
-//! Reads pieces of statements that hold no others.
+//! Reads parts of statements that contain no other.
 
 ghost use Rattle.std.specs.Prelude.{◌≡◌, true};
 ghost use Rattle.std.specs.Option.{option_map};
@@ -70,7 +70,7 @@ pub fn called(alloc: Global, cursor: &mut Cursor<'_>) -> Result<(Span, Vec<Expre
     Ok(arguments)
 }
 
-/// What stands behind a contract's name and the dot, where a channel is made.
+/// The part of a `NewChannel` statement after the contract's name and the dot.
 #[derive(Clone, Copy)]
 pub struct ChannelEnds {
     pub word: Span,

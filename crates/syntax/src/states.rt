@@ -86,7 +86,7 @@ fn line(alloc: Global, cursor: &mut Cursor<'_>) -> Result<Path, Stuck>
     Ok(path)
 }
 
-/// The sign of an edge, where it lies, and the name behind it.
+/// The sign of an edge, its span, and the name after it.
 #[derive(Clone, Copy)]
 pub struct Hop {
     pub sign: Sign,
@@ -123,14 +123,14 @@ fn path(alloc: Global, cursor: &mut Cursor<'_>) -> Result<Path, Stuck>
     })
 }
 
-/// Whether this token is a sign.
+/// Returns whether this token is a sign.
 fn is_sign(kind: Option<Kind>) -> bool
     ensures { result ≡ opens_sign kind }
 {
     sign_of(kind).is_some()
 }
 
-/// The sign that this token is.
+/// Returns the sign that this token is, if it is one.
 fn sign_of(kind: Option<Kind>) -> Option<Sign>
     ensures { result ≡ sign_of kind }
 {

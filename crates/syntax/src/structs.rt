@@ -42,7 +42,7 @@ fn fields(alloc: Global, cursor: &mut Cursor<'_>) -> Result<(Vec<Field>, Span), 
     Ok((all, close))
 }
 
-/// Whether a field begins with this token.
+/// Returns whether a field begins with this token.
 fn is_field(kind: Option<Kind>) -> bool
     ensures { result ≡ opens_field kind }
 {

@@ -15,7 +15,7 @@ use program::{Scalar, Side};
 use source::{Kind, Span};
 use tree::Type;
 
-/// Whether a type begins with this token.
+/// Returns whether a type begins with this token.
 pub fn is_type(kind: Option<Kind>) -> bool
     ensures { result ≡ opens_type kind }
 {
@@ -42,7 +42,7 @@ pub fn scalar_type(cursor: &mut Cursor<'_>) -> Result<ScalarType, Stuck>
     Ok(ScalarType { scalar, array })
 }
 
-/// The scalar that this token names.
+/// Returns the scalar that this token names, if it names one.
 fn scalar_of(kind: Option<Kind>) -> Option<Scalar>
     ensures { result ≡ scalar_of kind }
 {
@@ -148,7 +148,7 @@ pub fn endpoint_end(cursor: &mut Cursor<'_>) -> Result<EndpointTail, Stuck>
     })
 }
 
-/// The end of a channel that this token names.
+/// Returns the end of a channel that this token names, if it names one.
 fn side_of(kind: Option<Kind>) -> Option<Side>
     ensures { result ≡ side_of kind }
 {
@@ -159,7 +159,7 @@ fn side_of(kind: Option<Kind>) -> Option<Side>
     }
 }
 
-/// Whether this token is the end of a channel.
+/// Returns whether this token is the end of a channel.
 pub fn is_side(kind: Option<Kind>) -> bool
     ensures { result ≡ opens_side kind }
 {

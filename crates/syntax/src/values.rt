@@ -23,7 +23,7 @@ use source::{Kind, Span};
 use std::alloc::Global;
 use tree::{Atom, Call, Expression, FieldTarget, Made, New, Target, Unary, Value};
 
-/// Whether a value begins with this token.
+/// Returns whether a value begins with this token.
 pub fn is_value(kind: Option<Kind>) -> bool
     ensures { result ≡ opens_value kind }
 {
@@ -44,7 +44,7 @@ pub fn read_value(alloc: Global, cursor: &mut Cursor<'_>) -> Result<Value, Stuck
     }
 }
 
-/// The value that begins with this name.
+/// Reads the rest of a value that begins with this name.
 fn named_value(alloc: Global, cursor: &mut Cursor<'_>, variable: Span) -> Result<Value, Stuck>
     ensures { Reads value_tree value_spelling value_on value_at (name variable ++ cursor.old) cursor.new result }
 {
@@ -60,7 +60,7 @@ fn named_value(alloc: Global, cursor: &mut Cursor<'_>, variable: Span) -> Result
     }
 }
 
-/// The value that begins with these two names.
+/// Reads the rest of a value that begins with these two names.
 fn member_value(
     alloc: Global,
     cursor: &mut Cursor<'_>,
@@ -82,7 +82,7 @@ fn member_value(
     }
 }
 
-/// The expression that begins with this target.
+/// Reads the rest of an expression that begins with this target.
 pub fn expression_of(
     alloc: Global,
     cursor: &mut Cursor<'_>,
@@ -94,7 +94,7 @@ pub fn expression_of(
     expression_from(alloc, cursor, Unary::Atom(Atom::Target(first)))
 }
 
-/// call = ID [ "." ID ] arguments , behind its names.
+/// call = ID [ "." ID ] arguments , given its names.
 pub fn call_from(
     alloc: Global,
     cursor: &mut Cursor<'_>,

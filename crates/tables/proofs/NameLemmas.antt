@@ -1,4 +1,4 @@
--- What seats say of a word, among names and one more.
+-- What seats have for a word, among names and one more.
 use Rattle.std.proofs.Common.{◌≡◌, ◌⊎◌, inl, inr, ℕ, zero, suc, Bool, true, false, not, cond, ltb, ◌+◌, ◌<◌, ◌≤◌, List, [], ◌∷◌, ◌++◌}
 use Rattle.std.proofs.Common.{length, Option, Some, None, sym, refl, ap, subst, ◌∙◌, ⊎_elim, arith}
 use Rattle.std.specs.Prelude.{◌&&◌, IfSome, nat_eq, option_and_then, slice_get}
@@ -16,7 +16,7 @@ use Rattle.tables.specs.declared.seats.Bucket.{Bucket}
 abbrev Name : Type 0
 Name = Bor (List ℕ)
 
--- whether a word may sit in the first seat, or in the second
+-- whether a word may be in the first seat, or in the second
 
 abbrev first_may : Bucket → List ℕ → Bool
 first_may b q = ltb 0 b.taken && nat_eq b.first_mark (mark_of q)
@@ -58,7 +58,7 @@ none_le i n h = ⊎_elim
     (λ ge. grind (arith, ge))
     (cases_Bool (ltb i n))
 
--- where a word stands first, if it is not the first word
+-- the index of the first occurrence of a word, if it is not the first word
 abbrev behind : List Name → List ℕ → Bool → ℕ
 behind names q first = cond (not first) (1 + position_or_len (same_word q) (words_of names)) 0
 
@@ -80,13 +80,13 @@ others_lack n names q h =
     let i = position_or_len (same_word q) (words_of names) in
     cond-false (ltb i (length (words_of names))) (Some i) None (le-ltb i (length (words_of names)) rest)
 
--- a name that a list lacks stands at none of its places
+-- a name that a list lacks is at no index
 lacks : (names : List Name) (q : List ℕ) → first_of (words_of names) q ≡ None → (index k : ℕ) → at names q index k ≡ None
 lacks [] q h index k = refl
 lacks (n ∷ names) q h zero k = cond-false (same_word q n.now) (Some k) None (first_other n names q h)
 lacks (n ∷ names) q h (suc index) k = lacks names q (others_lack n names q h) index k
 
--- one name more, which the list lacked, stands behind it alone
+-- one name more, which the list lacked, is only at the end
 at_one_more : (names : List Name) (w : Name) (index : ℕ) → ((index k : ℕ) → at names w.now index k ≡ None)
     → ((k : ℕ) → at (names ++ w ∷ []) w.now index k ≡ None) ⊎ (index ≡ length names)
 at_one_more [] w zero none = inr refl
@@ -116,7 +116,7 @@ index_one_more names w m p h = none_or_if (length names) m (index_of (names ++ w
     (λ last. inr (ap (λ n. at (names ++ w ∷ []) w.now n n) last ∙ at_there names w (length names)))
     (at_one_more names w p (lacks names w.now h)))
 
--- seats say the same among other names where each of the three does
+-- a bucket has the same among other names if each of its three seats does
 bucket_same : (one two : List Name) (q : List ℕ) (b : Bucket) → first_in one q b ≡ first_in two q b → second_in one q b ≡ second_in two q b
     → third_in one q b ≡ third_in two q b → seated_by one q b ≡ seated_by two q b
 bucket_same one two q b first second third =
@@ -170,7 +170,7 @@ bucket_before names more q (Some b) below = bucket_same (names ++ more) names q 
     (index_before names more q (second_may b q) b.second (λ h. below.second (taken_and 1 b.taken (nat_eq b.second_mark (mark_of q)) h)))
     (index_before names more q (ltb 2 b.taken) b.third (λ h. below.third (ltb-true 2 b.taken h)))
 
--- the place of the last name is its own, and of no other word
+-- the index of the last name is its own, and of no other word
 pub index_there : (names : List Name) (w : Name) → index_of (names ++ w ∷ []) w.now (length names) ≡ Some (length names)
 index_there names w = at_there names w (length names)
 
@@ -178,22 +178,22 @@ pub index_other : (names : List Name) (w : Name) (q : List ℕ) → same_word q 
     → index_of (names ++ w ∷ []) q (length names) ≡ None
 index_other names w q other = at_there_other names w q (length names) other
 
--- seats say of every other word what they said before
+-- seats have for every other word what they had before
 pub seated_apart : (names : List Name) (w : Name) (buckets : List Bucket) (q : List ℕ) → same_word q w.now ≡ false
     → seated_in (names ++ w ∷ []) buckets q ≡ seated_in names buckets q
 seated_apart names w buckets q other = bucket_apart names w q (slice_get buckets (home (length buckets) q)) other
 
--- of the name itself they say nothing, or its place
+-- for the name itself they have nothing, or its index
 pub seated_one_more : (names : List Name) (w : Name) (buckets : List Bucket) → first_of (words_of names) w.now ≡ None
     → NoneOr (length names) (seated_in (names ++ w ∷ []) buckets w.now)
 seated_one_more names w buckets h = bucket_one_more names w (slice_get buckets (home (length buckets) w.now)) h
 
--- of a name that the list lacks they say nothing
+-- for a name that the list lacks they have nothing
 pub seated_lacks : (names : List Name) (buckets : List Bucket) (q : List ℕ) → first_of (words_of names) q ≡ None
     → seated_in names buckets q ≡ None
 seated_lacks names buckets q h = bucket_lacks names q (slice_get buckets (home (length buckets) q)) h
 
--- where no seat is kept for a name to come, they say of every word what they said before it came
+-- if no seat is kept for a later name, they have for every word what they had before it came
 pub seated_before : (names more : List Name) (buckets : List Bucket) (q : List ℕ)
     → IfSome (slice_get buckets (home (length buckets) q)) (IsBelow (length names))
     → seated_in (names ++ more) buckets q ≡ seated_in names buckets q

@@ -1,4 +1,4 @@
--- What seats say once one bucket has another in its place.
+-- What seats have once a bucket is replaced.
 use Rattle.std.proofs.Common.{◌≡◌, ℕ, zero, suc, Bool, true, false, List, [], ◌∷◌, ◌<◌, length, get_or, ltb, Some, None, sym, refl, ap}
 use Rattle.std.proofs.Common.{subst, ◌∙◌, arith}
 use Rattle.std.specs.Prelude.{IfSome, Option, is_some, option_and_then, option_map, slice_get, slice_set, ◌||◌}
@@ -10,7 +10,7 @@ use Rattle.tables.specs.Seats.{home}
 use Rattle.tables.specs.Tables.{IsBelow, crowded_in, seated_by, seated_in}
 use Rattle.tables.specs.declared.seats.Bucket.{Bucket}
 
--- of two lists of buckets, at each place
+-- for two lists of buckets, at each index
 each_set : (R : Option Bucket → Option Bucket → Type 0) → ((o : Option Bucket) → R o o) → (buckets : List Bucket) (i j : ℕ) (b c : Bucket)
     → slice_get buckets i ≡ Some b → R (Some c) (Some b) → R (slice_get (slice_set buckets i c) j) (slice_get buckets j)
 each_set R same [] i j b c is h = same None
@@ -24,7 +24,7 @@ here_set [] i b c is = cc
 here_set (x ∷ buckets) zero b c is = refl
 here_set (x ∷ buckets) (suc i) b c is = here_set buckets i b c is
 
--- of the bucket of a word
+-- for the bucket of a word
 word_set : (R : Option Bucket → Option Bucket → Type 0) → ((o : Option Bucket) → R o o) → (buckets : List Bucket) (i : ℕ)
     → (q : List ℕ) (b c : Bucket) → slice_get buckets i ≡ Some b → R (Some c) (Some b)
     → R (slice_get (slice_set buckets i c) (home (length (slice_set buckets i c)) q)) (slice_get buckets (home (length buckets) q))
@@ -44,7 +44,7 @@ pub seats_kept : (buckets : List Bucket) (i : ℕ) (b c : Bucket) (names : List 
 seats_kept buckets i b c names q is same =
     word_set (λ o p. option_and_then (seated_by names q) o ≡ option_and_then (seated_by names q) p) (λ o. refl) buckets i q b c is same
 
--- whether this bucket is crowded, and none is
+-- whether this bucket is crowded; a missing one is
 abbrev crowded_as : Option Bucket → Bool
 crowded_as o = unwrap_or (option_map (λ (b : Bucket). b.crowded) o) true
 
@@ -63,7 +63,7 @@ pub below_kept : (n : ℕ) (buckets : List Bucket) (i : ℕ) (b c : Bucket) (q :
     → IfSome (slice_get (slice_set buckets i c) (home (length (slice_set buckets i c)) q)) (IsBelow n)
 below_kept n buckets i b c q is h = word_set (λ o p. IfSome p (IsBelow n) → IfSome o (IsBelow n)) (λ o below. below) buckets i q b c is h
 
--- whether one of two is so
+-- if one of two is true, one is
 
 pub or_true : (a : Bool) → (a || true) ≡ true
 or_true true = refl

@@ -1,4 +1,4 @@
--- What a table has once a name was added to it or taken away.
+-- What a table has once a name was added or removed.
 use Rattle.std.proofs.Common.{◌≡◌, ℕ, ◌-◌, take, Bool, true, false, cond, List, [], ◌∷◌, ◌++◌, length, Option, Some, None, sym, refl, ap}
 use Rattle.std.proofs.Common.{subst, ◌∙◌, ⊎_elim, arith}
 use Rattle.std.specs.Prelude.{◌↔◌, is_some}
@@ -22,7 +22,7 @@ Name = Bor (List ℕ)
 abbrev Enters : List ℕ → Option ℕ → Table → Table → Type 0
 Enters word value old new = (q : List ℕ) → entry_of new q ≡ cond (same_word word q) value (entry_of old q)
 
--- every other word is where it was, once a name came behind the others
+-- every other word is where it was, once a name was added at the end
 other_seats : (w : Name) (old new : Table) → new.names.items ≡ old.names.items ++ w ∷ []
     → ((q : List ℕ) → index_of new.names.items q (length old.names.items) ≡ None
     → seated_of new q ≡ seated_in new.names.items old.buckets.items q)
@@ -33,7 +33,7 @@ other_seats w old new more kept q other =
     ∙ ap (λ names. seated_in names old.buckets.items q) more
     ∙ seated_apart old.names.items w old.buckets.items q turned
 
--- a name that comes behind the others and has a seat
+-- a name that is added at the end and has a seat
 pub enters_seated : (w : Name) (old new : Table) → new.names.items ≡ old.names.items ++ w ∷ []
     → seated_of new w.now ≡ Some (length old.names.items)
     → ((q : List ℕ) → index_of new.names.items q (length old.names.items) ≡ None
@@ -54,7 +54,7 @@ none_or_index index a h = ⊎_elim
     (λ some. ap (λ o. option_or o (Some index)) some)
     h
 
--- a name that comes behind the others and finds no seat
+-- a name that is added at the end and finds no seat
 pub enters_beside : (w : Name) (old new : Table) → new.names.items ≡ old.names.items ++ w ∷ []
     → first_of (words_of old.names.items) w.now ≡ None
     → ((q : List ℕ) → seated_of new q ≡ seated_in new.names.items old.buckets.items q)
@@ -82,7 +82,7 @@ more_words : (names : List Name) (w : Name) (all : List Name) (words : List (Lis
     → words_of all ≡ words ++ w.now ∷ []
 more_words names w all words is more = ap words_of more ∙ map-append (λ (v : Name). v.now) names (w ∷ []) ∙ ap (λ l. l ++ w.now ∷ []) is
 
--- how many names a table has
+-- the number of names of a table
 pub table_size : (words : List (List ℕ)) (table : Table) → IsTable words table → length table.names.items ≡ length words
 table_size words table h = sym (length-map table.names.items (λ (v : Name). v.now)) ∙ ap length h.words
 
@@ -115,7 +115,7 @@ table_entered words w old new h some more seats crowds others apart = record {
   apart = ((λ yes. let clash : false ≡ true = sym apart ∙ yes in cc), (λ all. absurd (twice words w.now some all)));
 }
 
--- whoever has no seat has a crowded bucket, once a name found no seat
+-- each name without a seat has a crowded bucket, also once a name found no seat
 pub crowds_beside : (word : List ℕ) (old new : Table) (all : List (List ℕ)) → IsTable all old → (index : ℕ)
     → crowded_in new.buckets.items word ≡ true
     → ((q : List ℕ) → crowded_in new.buckets.items q ≡ false → crowded_in old.buckets.items q ≡ false)
@@ -127,7 +127,7 @@ crowds_beside word old new all h index crowded uncrowded others q free = ⊎_eli
     (λ other. others q ∙ cond-false (same_word word q) (Some index) (other_of old q) other ∙ h.crowded q (uncrowded q free))
     (cases_Bool (same_word word q))
 
--- all but the last name of a list, and the last
+-- all names of a list except the last, and the last
 record LastAway (old new : List Name) (words : List (List ℕ)) (word : List ℕ) : Type 0 where
   pub last : Name
   pub more : old ≡ new ++ last ∷ []
@@ -138,7 +138,7 @@ not_nil : {X : Type 0} (xs : List X) (x : X) → [] ≡ xs ++ x ∷ [] → ⊥
 not_nil [] x h = cc
 not_nil (y ∷ xs) x h = cc
 
--- lists with one more are one where the lists and what is more are one
+-- if two lists with one element more are equal, so are the lists, and so are the elements
 ends_same : {X : Type 0} (xs ys : List X) (v w : X) → xs ++ v ∷ [] ≡ ys ++ w ∷ [] → (xs ≡ ys) × (v ≡ w)
 ends_same [] [] v w h = (refl, cc)
 ends_same {X} [] (y ∷ ys) v w h = let tails : [] ≡ ys ++ w ∷ [] = cc in absurd (not_nil ys w tails)
@@ -169,7 +169,7 @@ none_left : (b : Bool) (o : Option ℕ) → o ≡ None → cond b None o ≡ Non
 none_left true o h = refl
 none_left false o h = h
 
--- a table whose last name is away, also from those that found no seat
+-- a table without its last name, also among those that found no seat
 pub table_left : (words : List (List ℕ)) (word : List ℕ) (old new : Table) (gone : Option Name) → IsTable (words ++ word ∷ []) old
     → first_of words word ≡ None → old.names.items ≡ new.names.items ++ option_to_list gone
     → new.names.items ≡ take (length old.names.items - 1) old.names.items → new.buckets ≡ old.buckets → new.apart ≡ old.apart
@@ -207,7 +207,7 @@ table_left words word old new gone h none more front buckets apart others = reco
         ∙ h.held q ∙ first_added words word q none ∙ cond-false (same_word word q) (Some (length words)) (first_of words q) other)
         (cases_Bool (same_word word q))
 
--- a name that has its seat stands beside no other
+-- a name with an uncrowded bucket is not among those that found no seat
 pub seat_alone : (words : List (List ℕ)) (word : List ℕ) (table : Table) → IsTable words table → crowded_in table.buckets.items word ≡ false
     → (q : List ℕ) → other_of table q ≡ cond (same_word word q) None (other_of table q)
 seat_alone words word table h free q = ⊎_elim

@@ -1,4 +1,4 @@
--- What a bucket says once a name took a seat there.
+-- What a bucket has once a name took a seat there.
 use Rattle.std.proofs.Common.{◌≡◌, ◌⊎◌, inl, inr, ℕ, suc, ◌+◌, ◌<◌, ◌≤◌, max, Bool, false, cond, ltb, List, length}
 use Rattle.std.proofs.Common.{Option, Some, None, sym, refl, ap, subst, ◌∙◌, ⊎_elim, arith}
 use Rattle.std.specs.Prelude.{◌&&◌, nat_eq, option_and_then}
@@ -15,7 +15,7 @@ use Rattle.tables.proofs.NameLemmas.{cond_none}
 abbrev Names : Type 0
 Names = List (Bor (List ℕ))
 
--- where a word is not at the last place, it is at none behind
+-- a word that is not at the last index is at none after it
 gone : (names : Names) (q : List ℕ) (p index : ℕ) → length names ≤ index + 1 → index_of names q index ≡ None → index ≤ p
     → index_of names q p ≡ None
 gone names q p index few none le = ⊎_elim
@@ -24,7 +24,7 @@ gone names q p index few none le = ⊎_elim
     (slice_get_past names p (omega (arith, few, le, more))))
     (cases_eq p index)
 
--- a seat that nobody took, or whose name is gone, says nothing
+-- a seat that is free, or whose name is gone, has nothing
 free_says : (names : Names) (q : List ℕ) (m : Bool) (p index : ℕ) → length names ≤ index + 1 → index_of names q index ≡ None
     → (m ≡ false) ⊎ (index ≤ p) → index_in names q m p ≡ None
 free_says names q m p index few none free = ⊎_elim
@@ -32,13 +32,13 @@ free_says names q m p index few none free = ⊎_elim
     (λ le. ap (λ o. cond m o None) (gone names q p index few none le) ∙ cond_none m)
     free
 
--- the seat of the last place says nothing of a word that is not there
+-- the seat with the last index has nothing for a word that is not there
 last_says : (names : Names) (q : List ℕ) (m : Bool) (seat index : ℕ) → seat ≡ index → index_of names q index ≡ None
     → index_in names q m seat ≡ None
 last_says names q m seat index is none =
     ap (λ o. cond m o None) (subst (λ n. index_of names q n ≡ None) (sym is) none) ∙ cond_none m
 
--- so does a seat that goes to the last place from nobody, or from a name that is gone
+-- the same for a seat before and after it gets the last index, if it was free or its name is gone
 moved : (names : Names) (q : List ℕ) (m n : Bool) (seat p index : ℕ) → seat ≡ index → length names ≤ index + 1
     → index_of names q index ≡ None → (n ≡ false) ⊎ (seat ≤ p) → index_in names q m seat ≡ index_in names q n p
 moved names q m n seat p index is few none free =
@@ -48,7 +48,7 @@ moved names q m n seat p index is few none free =
 marked : (k n : ℕ) (e : Bool) (A : Type 0) → (n < suc k) ⊎ A → ((ltb k n && e) ≡ false) ⊎ A
 marked k n e A free = ⊎_elim (λ lt. inl (ap (λ b. b && e) (le-ltb k n (omega (arith, lt))))) (λ a. inr a) free
 
--- which other seats are taken stays
+-- which other seats are taken does not change
 same_taken : (k n m t : ℕ) → t ≡ max n m → (m ≤ k) ⊎ (k < n) → ltb k t ≡ ltb k n
 same_taken k n m t is apart = ⊎_elim
     (λ le. ⊎_elim
@@ -58,7 +58,7 @@ same_taken k n m t is apart = ⊎_elim
     (λ lt. lt-ltb k t (omega (arith, lt, is)) ∙ sym (lt-ltb k n lt))
     apart
 
--- what the seats say that were not moved
+-- what the unchanged seats have
 
 first_same : (names : Names) (q : List ℕ) (b c : Bucket) (m : ℕ) → c.first ≡ b.first → c.first_mark ≡ b.first_mark → c.taken ≡ max b.taken m
     → 1 ≤ b.taken → first_in names q c ≡ first_in names q b
@@ -85,7 +85,7 @@ three : (a b c x y z : Option ℕ) → a ≡ x → b ≡ y → c ≡ z → optio
 three a b c x y z e f g =
     ap (λ o. option_or o (option_or b c)) e ∙ ap (λ o. option_or x (option_or o c)) f ∙ ap (λ o. option_or x (option_or y o)) g
 
--- where the first, the second or the third seat goes to the last place, a word that is not there is where it was
+-- if the first, the second or the third seat gets the last index, a word that is not there is where it was
 
 pub kept_first : (names : Names) (q : List ℕ) (b : Bucket) (index seat mark taken : ℕ) → seat ≡ index → taken ≡ max b.taken 1
     → length names ≤ index + 1 → index_of names q index ≡ None → (b.taken < 1) ⊎ (seat ≤ b.first)

@@ -16,12 +16,12 @@ use Rattle.tables.specs.declared.tables.Table.{Table}
 abbrev pub words_of : List (Bor (List ℕ)) → List (List ℕ)
 words_of names = map (λ (w : Bor (List ℕ)). w.now) names
 
--- an index, if this is the name there
+-- the index, if this name is at it
 abbrev pub index_of : List (Bor (List ℕ)) → List ℕ → ℕ → Option ℕ
 index_of names name index =
     option_and_then (λ (w : Bor (List ℕ)). cond (same_word name w.now) (Some index) None) (slice_get names index)
 
--- the index in a seat, if it may be the name's and this is the name there
+-- the index in a seat, if the seat may be the name's and this name is at that index
 abbrev pub index_in : List (Bor (List ℕ)) → List ℕ → Bool → ℕ → Option ℕ
 index_in names name may index = cond may (index_of names name index) None
 
@@ -36,15 +36,15 @@ second_in names name bucket = index_in names name (nat_lt 1 bucket.taken && nat_
 abbrev pub third_in : List (Bor (List ℕ)) → List ℕ → Bucket → Option ℕ
 third_in names name bucket = index_in names name (nat_lt 2 bucket.taken) bucket.third
 
--- where a name stands that sits in this bucket
+-- the index of a name that has a seat in this bucket
 abbrev pub seated_by : List (Bor (List ℕ)) → List ℕ → Bucket → Option ℕ
 seated_by names name bucket = option_or (first_in names name bucket) (option_or (second_in names name bucket) (third_in names name bucket))
 
--- where a name stands that sits in its bucket
+-- the index of a name that has a seat in its bucket
 abbrev pub seated_in : List (Bor (List ℕ)) → List Bucket → List ℕ → Option ℕ
 seated_in names buckets name = option_and_then (seated_by names name) (slice_get buckets (home (length buckets) name))
 
--- whether a name of this one's bucket may have found no seat
+-- whether a name with the same bucket may have found no seat
 abbrev pub crowded_in : List Bucket → List ℕ → Bool
 crowded_in buckets name = unwrap_or (option_map (λ (b : Bucket). b.crowded) (slice_get buckets (home (length buckets) name))) true
 
@@ -60,7 +60,8 @@ other_of table name = lookup (λ (w : Bor (List ℕ)). is_eq (slice_cmp nat_cmp 
 abbrev pub entry_of : Table → List ℕ → Option ℕ
 entry_of table name = option_or (seated_of table name) (other_of table name)
 
--- the table has these names, and where each stands first; whoever has no seat has a crowded bucket; it knows whether one stands twice
+-- the table has these names and the first index of each; a name without a seat has a crowded bucket; `apart` is
+-- true if all are different
 pub record IsTable (all : List (List ℕ)) (table : Table) : Type 0 where
   pub words : words_of table.names.items ≡ all
   pub held : (name : List ℕ) → entry_of table name ≡ first_of all name
@@ -71,18 +72,18 @@ pub record IsTable (all : List (List ℕ)) (table : Table) : Type 0 where
 abbrev pub NoneOr : ℕ → Option ℕ → Type 0
 NoneOr index found = (found ≡ None) ⊎ (found ≡ Some index)
 
--- the seats that are taken in this bucket are those of names at indices below a number
+-- the taken seats of this bucket have indices below `n`
 pub record IsBelow (n : ℕ) (bucket : Bucket) : Type 0 where
   pub first : 0 < bucket.taken → bucket.first < n
   pub second : 1 < bucket.taken → bucket.second < n
   pub third : 2 < bucket.taken → bucket.third < n
 
--- no seat is kept for a name that is still to come
+-- all taken seats have indices of the list
 abbrev pub HasNoneToCome : Table → Type 0
 HasNoneToCome table =
     (name : List ℕ) → IfSome (slice_get table.buckets.items (home (length table.buckets.items) name)) (IsBelow (length table.names.items))
 
--- a table that names were added to, and none was taken from
+-- a table to which names were added, and from which none was removed
 pub record IsGrownTable (all : List (List ℕ)) (table : Table) : Type 0 where
   pub is : IsTable all table
   pub behind : HasNoneToCome table

@@ -1,4 +1,4 @@
-//! Tables of names: where each name of a list is declared first.
+//! Tables of names, which find where each name of a list is declared first.
 #![tactic(auto)]
 
 mod seats;

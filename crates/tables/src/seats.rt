@@ -1,13 +1,14 @@
-//! Where the names of a table sit.
+//! The seats of names in a table.
 
 ghost use Rattle.std.specs.Prelude.{◌≡◌, ◌+◌, ◌<◌, ◌≤◌, ℕ, List, IsTrue, Some, None, false, slice_index, length};
 ghost use Rattle.std.specs.Borrow.{Bor};
 ghost use Rattle.tables.specs.Seats.{eight_of, home, last_eight_of, mark_of, number_of};
 ghost use Rattle.tables.specs.Tables.{IsBelow, NoneOr, index_of, seated_by};
 
-/// Three seats for names of a list. A taken seat has the index of its name in the list. The first two have the mark of the name too, so
-/// that most other names are passed over unread; the third is seldom taken. A seat is free until it is taken, and again once its name
-/// is gone: names come and go at the end of the list, so this is so where its index isn't before that of the name that comes.
+/// Three seats for names of a list. A taken seat has the index of its name in the list. The first two also have the
+/// mark of the name, so that most other names are skipped unread; the third is seldom taken. A seat is free until
+/// it is taken, and again once its name is removed. Names are added and removed only at the end of the list, so a
+/// seat is free again if its index is not below that of the name to be added.
 #[derive(Clone, Copy)]
 pub(crate) struct Bucket {
     pub(crate) first: u32,
@@ -15,14 +16,14 @@ pub(crate) struct Bucket {
     pub(crate) third: u32,
     pub(crate) first_mark: u8,
     pub(crate) second_mark: u8,
-    /// So many of the seats were ever taken.
+    /// The number of seats that were ever taken.
     pub(crate) taken: u8,
     /// Whether a name found no free seat here.
     pub(crate) crowded: bool,
 }
 
 impl Bucket {
-    /// Three free seats.
+    /// Returns a bucket of three free seats.
     pub(crate) fn new() -> Bucket
         ensures { result ≡ record { first = 0; second = 0; third = 0; first_mark = 0; second_mark = 0; taken = 0; crowded = false } }
     {
@@ -37,7 +38,8 @@ impl Bucket {
         }
     }
 
-    /// Gives a free seat to the last name of the list, which has this index and this mark, and says whether there was one.
+    /// Gives a free seat to the last name of the list, which has this index and this mark, and returns whether
+    /// there was one.
     pub(crate) fn take(&mut self, index: usize, mark: u8) -> bool
         ensures seated { (names : List (Bor (List ℕ))) (q : List ℕ) → IsTrue result → mark ≡ mark_of q → index_of names q index ≡ Some index
             → NoneOr index (seated_by names q self.old) → seated_by names q self.new ≡ Some index }
@@ -71,10 +73,10 @@ impl Bucket {
     }
 }
 
-/// An odd number by which the ends of a name are multiplied, so that names that look alike sit apart.
+/// An odd factor for the ends of a name, so that similar names get different buckets.
 const SPREAD: u64 = 11_400_714_819_323_198_485;
 
-/// Both ends of a name as one number.
+/// Returns both ends of a name as one number.
 pub(crate) fn number_of(name: &[u8]) -> u32
     ensures { result ≡ number_of name.now }
 {
@@ -83,21 +85,21 @@ pub(crate) fn number_of(name: &[u8]) -> u32
     (ends.wrapping_mul(SPREAD) >> 32) as u32
 }
 
-/// The bucket of a name with this number, where there are so many.
+/// Returns the bucket of a name with this number, among `buckets` of them.
 pub(crate) fn home(buckets: usize, number: u32) -> usize
     ensures { (word : List ℕ) → number ≡ number_of word → result ≡ home buckets word }
 {
     (u64::from(number).wrapping_mul(buckets as u64) >> 32) as usize
 }
 
-/// The mark of a name with this number: the part of it that says least of the bucket.
+/// Returns the mark of a name with this number: the part of the number that depends least on the bucket.
 pub(crate) fn mark_of(number: u32) -> u8
     ensures { (word : List ℕ) → number ≡ number_of word → result ≡ mark_of word }
 {
     (number % 256) as u8
 }
 
-/// The first eight bytes of a name as one number.
+/// Returns the first eight bytes of a name as one number.
 fn eight_of(name: &[u8]) -> u64
     ensures { result ≡ eight_of name.now }
 {
@@ -113,7 +115,7 @@ fn eight_of(name: &[u8]) -> u64
     ])
 }
 
-/// The last eight bytes of a name as one number, and 0 where it has no more than eight.
+/// Returns the last eight bytes of a name as one number, or 0 if it has at most eight.
 fn last_eight_of(name: &[u8]) -> u64
     ensures { result ≡ last_eight_of name.now }
 {
@@ -124,7 +126,7 @@ fn last_eight_of(name: &[u8]) -> u64
     }
 }
 
-/// The byte at an index, and 0 past the end.
+/// Returns the byte at an index, or 0 past the end.
 fn byte_at(name: &[u8], index: usize) -> u8
     ensures { result ≡ slice_index name.now index }
 {

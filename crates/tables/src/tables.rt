@@ -15,24 +15,25 @@ use source::Span;
 use std::alloc::{AllocError, Global};
 use std::collections::BTreeMap;
 
-/// Where each name of a list is declared first. A name has three seats, which few other names have, so it is found at once. Those that
-/// find all taken stand in a sorted map, so no choice of names makes a look-up cost more than one in that map.
+/// A table of where each name of a list is declared first. A name has three seats, which it shares with few other
+/// names, so it is found at once. Names that find all three taken are in a sorted map, so no choice of names makes
+/// a lookup cost more than one in that map.
 #[derive(Drop)]
 pub struct Table<'a> {
     /// All names, in order of declaration.
     names: Vec<&'a [u8]>,
     buckets: Vec<Bucket>,
-    /// The names that found no seat, and where each stands.
+    /// The names that found no seat, each with its index.
     others: BTreeMap<&'a [u8], usize>,
-    /// Whether no name stands twice.
+    /// Whether all names are different.
     apart: bool,
 }
 
-/// A table that makes room for names by itself has so many buckets at least.
+/// The least number of buckets that `grow` makes.
 const LEAST_BUCKETS: usize = 8;
 
 impl<'a> Table<'a> {
-    /// The table of these names, in order of declaration.
+    /// Returns the table of these names, in order of declaration.
     pub fn of(alloc: Global, text: &'a [u8], names: &[Span]) -> Result<Table<'a>, AllocError>
         ensures { IfOk result (IsTable (words_at text.now names.now)) }
     {
@@ -43,7 +44,7 @@ impl<'a> Table<'a> {
         Ok(table)
     }
 
-    /// The table of no names.
+    /// Returns an empty table.
     pub fn new(alloc: Global) -> Table<'a>
         ensures { IsTable [] result }
     {
@@ -51,11 +52,11 @@ impl<'a> Table<'a> {
             names: Vec::new(alloc),
             buckets: Vec::new(alloc),
             others: BTreeMap::new(alloc),
-            apart: true, // as there is none
+            apart: true, // there are no names
         }
     }
 
-    /// The table of no names, with a bucket for each of so many.
+    /// Returns an empty table with room for this many names, and a bucket for each.
     fn with_room(alloc: Global, names: usize) -> Result<Table<'a>, AllocError>
         ensures { IfOk result (IsGrownTable []) }
     {
@@ -69,7 +70,7 @@ impl<'a> Table<'a> {
         })
     }
 
-    /// Enters a name behind the others. One that it has keeps its index.
+    /// Appends a name. One that the table already has keeps its index.
     fn enter(&mut self, name: &'a [u8]) -> Result<(), AllocError>
         ensures { (words : List (List ℕ)) → IsGrownTable words self.old → OnOk result (IsGrownTable (words ++ name.now ∷ []) self.new) }
     {
@@ -82,7 +83,7 @@ impl<'a> Table<'a> {
         self.put(name, number)
     }
 
-    /// Adds a name that it lacks, behind the others. Where memory is refused, the table is as before.
+    /// Appends a name that the table lacks. If an allocation is refused, the table is as before.
     pub fn add(&mut self, alloc: Global, name: &'a [u8]) -> Result<(), AllocError>
         ensures added { (words : List (List ℕ)) → IsTable words self.old → first_of words name.now ≡ None
             → OnOk result (IsTable (words ++ name.now ∷ []) self.new) }
@@ -94,7 +95,7 @@ impl<'a> Table<'a> {
         self.put(name, number_of(name))
     }
 
-    /// Makes room for as many names again.
+    /// Makes room for twice as many names, and for at least `LEAST_BUCKETS`.
     fn grow(&mut self, alloc: Global) -> Result<(), AllocError>
         ensures { (words : List (List ℕ)) → IsTable words self.old → IsTable words self.new }
     {
@@ -107,7 +108,8 @@ impl<'a> Table<'a> {
         Ok(())
     }
 
-    /// Adds a name that it lacks, of this number, with the room that there is. Where memory is refused, the table is as before.
+    /// Appends a name that the table lacks and that has this number, without growing the table. If an allocation is
+    /// refused, the table is as before.
     fn put(&mut self, name: &'a [u8], number: u32) -> Result<(), AllocError>
         ensures added { (words : List (List ℕ)) → number ≡ number_of name.now → IsTable words self.old → first_of words name.now ≡ None
             → OnOk result (IsTable (words ++ name.now ∷ []) self.new) }
@@ -128,8 +130,8 @@ impl<'a> Table<'a> {
         }
     }
 
-    /// Gives a free seat to the last name, which has this index and this number, and says whether there was one; if not, its bucket is
-    /// crowded from now on.
+    /// Gives a free seat to the last name, which has this index and this number, and returns whether there was one.
+    /// If not, its bucket is crowded from now on.
     fn seat(&mut self, index: usize, number: u32) -> bool
         ensures names { self.new.names ≡ self.old.names }
         ensures others { self.new.others ≡ self.old.others }
@@ -155,7 +157,8 @@ impl<'a> Table<'a> {
         seated
     }
 
-    /// Takes the last name away, which no other is. Its seat is free then, since the list has its index no more.
+    /// Removes the last name, which is different from all others. Its seat becomes free, since the list no longer
+    /// has its index.
     pub fn remove(&mut self, name: &[u8])
         ensures { (words : List (List ℕ)) → IsTable (words ++ name.now ∷ []) self.old → first_of words name.now ≡ None
             → IsTable words self.new }
@@ -166,7 +169,7 @@ impl<'a> Table<'a> {
         }
     }
 
-    /// Whether a name of this one's bucket may have found no seat.
+    /// Returns whether a name with the same bucket may have found no seat.
     fn is_crowded(&self, name: &[u8]) -> bool
         ensures { result ≡ crowded_in self.now.buckets.items name.now }
     {
@@ -176,14 +179,14 @@ impl<'a> Table<'a> {
         }
     }
 
-    /// Where the name is declared first, if it is.
+    /// Returns the index at which the name is declared first, if it is.
     pub fn find(&self, name: &[u8]) -> Option<usize>
         ensures { (words : List (List ℕ)) → IsTable words self.now → result ≡ first_of words name.now }
     {
         self.find_numbered(name, number_of(name))
     }
 
-    /// The same, where this is its number.
+    /// Does the same as `find`, for a name with this number.
     fn find_numbered(&self, name: &[u8], number: u32) -> Option<usize>
         ensures { (words : List (List ℕ)) → number ≡ number_of name.now → IsTable words self.now → result ≡ first_of words name.now }
     {
@@ -193,7 +196,7 @@ impl<'a> Table<'a> {
         }
     }
 
-    /// The same, where this is its bucket and its mark.
+    /// Does the same as `find`, for a name with this bucket and this mark.
     fn find_from(&self, bucket: &Bucket, name: &[u8], mark: u8) -> Option<usize>
         ensures { mark ≡ mark_of name.now → result ≡ option_or (seated_by self.now.names.items name.now bucket.now)
             (cond bucket.now.crowded (other_of self.now name.now) None) }
@@ -205,7 +208,7 @@ impl<'a> Table<'a> {
         }
     }
 
-    /// Where the name stands, if it sits in this bucket.
+    /// Returns the index of the name, if it has a seat in this bucket.
     fn seated_by(&self, bucket: &Bucket, name: &[u8], mark: u8) -> Option<usize>
         ensures { mark ≡ mark_of name.now → result ≡ seated_by self.now.names.items name.now bucket.now }
     {
@@ -220,7 +223,7 @@ impl<'a> Table<'a> {
         self.index_in(bucket.taken > 2, bucket.third, name)
     }
 
-    /// The index in a seat, if that may be the name's and this is the name there.
+    /// Returns the index in a seat, if the seat may be the name's and this name is at that index.
     fn index_in(&self, may: bool, at: u32, name: &[u8]) -> Option<usize>
         ensures { result ≡ index_in self.now.names.items name.now may at }
     {
@@ -232,7 +235,7 @@ impl<'a> Table<'a> {
         if name == *there { Some(index) } else { None }
     }
 
-    /// Whether no name stands twice. Then each stands first where it stands, and need not be looked for.
+    /// Returns whether all names are different. Then each index is the first of its name, and no lookup is needed.
     pub fn is_apart(&self) -> bool
         ensures { (words : List (List ℕ)) → IsTable words self.now → IsTrue result ↔ IsApart words }
     {

@@ -6,7 +6,7 @@ use Rattle.tasks.specs.declared.task.Task.{Task}
 abbrev pub number_of : Task → ℕ
 number_of t = t.method.0
 
--- the program whose method it is
+-- the program of its method
 abbrev pub task_program : Task → Program
 task_program t = t.program.value
 

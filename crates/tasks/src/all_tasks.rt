@@ -12,7 +12,7 @@ use std::alloc::Global;
 use std::snapshot::Snapshot;
 use std::vec::IntoIter;
 
-/// Gives up all tasks that are left.
+/// Gives up all remaining tasks.
 pub fn give_up_all(mut tasks: IntoIter<Task, Global>) {
     while let Some(task) = tasks.next() {
         task.give_up();
@@ -20,9 +20,10 @@ pub fn give_up_all(mut tasks: IntoIter<Task, Global>) {
     tasks.destroy_empty();
 }
 
-/// A task for each method of a program, in order of the text. Each remembers the program.
+/// Makes a task for each method of a program, in order of the text. Each remembers the program.
 ///
-/// `Memory` is answered where a growth was refused.
+/// # Errors
+/// `Memory` if out of memory; the tasks made so far are given up.
 pub fn tasks(alloc: Global, program: &Program) -> Result<Vec<Task>, Memory>
     requires few { length (model_of program.now).methods < 2 ^ 32 }
     ensures each { IfOk result (λ tasks. map number_of tasks.items ≡ numbers_below (length (model_of program.now).methods)) }

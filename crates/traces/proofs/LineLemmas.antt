@@ -40,7 +40,7 @@ pub place_later : (taken : List EntranceModel) (c : EntranceModel) (at : Place) 
 place_later [] c at e = cc
 place_later (d ∷ taken) c at e = e
 
--- the lines of a step are its choice, and what it changes
+-- the lines of a step are those of its choice and of its changes
 pub step_is : (p : ProgramModel) (m : MethodModel) (at : Option Instruction) (instruction : Instruction) (watched : List ℕ) (before after : Pair) (came : Place) (old mid new : List LineModel) → at ≡ Some instruction → mid ≡ old ++ choice p m instruction before after
     → came ≡ came_at p m instruction before after → new ≡ mid ++ changes p m came instruction watched before.1 after.1 → new ≡ old ++ step_lines p m at watched before after
 step_is p m at instruction watched before after came old mid new is chose place changed =
@@ -91,14 +91,14 @@ all_inside pairs [] steps zip = All-nil (λ index. index < length pairs)
 all_inside pairs (index ∷ places) [] zip = absurd zip
 all_inside pairs (index ∷ places) (x ∷ steps) zip = All-cons (λ index. index < length pairs) index places (slice_get_within pairs index x zip.0) (all_inside pairs places steps zip.1)
 
--- what a move changes
+-- the changes of a move
 pub changes_of_move : (p : ProgramModel) (m : MethodModel) (came : Place) (i : Instruction) (watched : List ℕ) (before after : List Leaf) (target source : Mention) (kept : Bool) → move_in i ≡ Some (target, source) → list_all (keeps before after) watched ≡ kept
     → changes p m came i watched before after ≡ (if kept then [] else (line target.place (takes (name_of m target.variable.0) (name_of m source.variable.0)) ∷ []))
 changes_of_move p m came i watched before after target source kept is same =
     ap (λ o. changes_with p m o came i watched before after) is
     ∙ ap (λ b. if b then [] else (line target.place (takes (name_of m target.variable.0) (name_of m source.variable.0)) ∷ [])) same
 
--- this is no move
+-- an instruction that is no move
 pub no_move : (o : Option (Mention × Mention)) → ((move : Mention × Mention) → o ≡ Some move → ⊥) → o ≡ None
 no_move None other = refl
 no_move (Some move) other = absurd (other move refl)

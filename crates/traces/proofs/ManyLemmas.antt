@@ -1,4 +1,4 @@
--- That too many pairs are reached.
+-- The finding that too many pairs are reached.
 use Rattle.std.proofs.Common.{◌≡◌, ℕ, zero, suc, ◌<◌, Contains, inl, inr, List, [], ◌∷◌, length, get_or, sym, ap, subst, codes, arith}
 use Rattle.std.specs.List.{All}
 use Rattle.source.specs.Findings.{FindingModel, IsFinding, finding_model}
@@ -14,7 +14,7 @@ use Rattle.analyse.proofs.ListLemmas.{has_here, only_one}
 pub parts_of : (finding : Finding) (place : Place) → IsFinding place A14 (codes "too many pairs") finding → finding_model finding ≡ too_many_pairs place
 parts_of finding place is = λ i. record { place = is.place i; code = is.code i; text = is.text i }
 
--- that alone is the verdict
+-- that finding alone is the verdict
 pub one_verdict : (p : ProgramModel) (method : ℕ) → HasTooMany p method → (found : List FindingModel) → found ≡ too_many_pairs (place_of_method p method) ∷ [] → IsMethodVerdict p method found
 one_verdict p method many found is = record {
   exactly = λ f. (

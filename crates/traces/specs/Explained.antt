@@ -1,4 +1,4 @@
--- Why something is found in a method.
+-- Why a method has a finding.
 use Rattle.std.specs.Prelude.{◌≡◌, ◌++◌, ◌∷◌, [], ℕ, Bool, true, false, List, Option, Some, None, IsSomeAnd, map, slice_get, codes}
 use Rattle.std.specs.Fmt.{decimal}
 use Rattle.source.specs.Findings.{FindingModel, finding_model}
@@ -19,7 +19,7 @@ use Rattle.traces.specs.Watched.{variables_of_reason}
 use Rattle.traces.specs.declared.line.Explained.{Explained}
 use Rattle.traces.specs.declared.line.Line.{Line}
 
--- a finding, and what is told of it
+-- a finding and its lines
 pub record ExplainedModel : Type 0 where
   pub finding : FindingModel
   pub lines : List LineModel
@@ -30,13 +30,13 @@ explained_as finding lines = record { finding = finding; lines = map line_model 
 abbrev pub explained_model : Explained → ExplainedModel
 explained_model e = explained_as (finding_model e.finding) e.lines.items
 
--- the lines of a path from the first pair to where a step of the method fails so
+-- the lines of a path from the first pair to a step of the method that fails with the breach
 abbrev pub trace_lines : ProgramModel → MethodModel → Breach → (first : Pair) → (steps : List Pair) → (at : Pair) → List LineModel
 trace_lines p m breach first steps at =
     let about = variables_of_reason breach.reason (slice_get (graph_of m).instructions at.0) in
     start_lines p m about first.1 ++ path_lines p m about (first ∷ steps)
 
--- a shortest path leads to where a step fails with the finding, and its lines are told
+-- a shortest path leads to a step that fails with the finding, and the lines are those of the path
 pub record HasTrace (p : ProgramModel) (method : ℕ) (e : ExplainedModel) : Type 0 where
   pub breach : Breach
   pub says : breach_in p method breach ≡ e.finding
@@ -44,7 +44,7 @@ pub record HasTrace (p : ProgramModel) (method : ℕ) (e : ExplainedModel) : Typ
   pub trace : IsTrace (outcome p method) (entry_of p method) e.finding steps
   pub told : IsSomeAnd (slice_get p.methods method) (λ m. e.lines ≡ trace_lines p m breach (entry_of p method) steps trace.at)
 
--- that too many pairs are reached has no path: how many may be is told at the method's name
+-- Too many reached pairs have no path: the line at the method's name has the number that may be reached.
 abbrev pub many_lines : ProgramModel → ℕ → List LineModel
 many_lines p method = line (place_of_method p method) (codes "more than " ++ (decimal MOST_PAIRS ++ codes " pairs are reached")) ∷ []
 
@@ -57,7 +57,7 @@ pub data IsExplained (p : ProgramModel) (method : ℕ) (e : ExplainedModel) : Ty
   ByTrace : HasTrace p method e → IsExplained p method e
   ByCount : HasNoTrace p method e → IsExplained p method e
 
--- whether a trace is asked for of what is found at a place: of everything, unless one place is named
+-- whether lines are asked for at a place: everywhere, unless one place is named
 abbrev pub is_asked : Option Place → Place → Bool
 is_asked None place = true
 is_asked (Some named) place = same_place.it named place

@@ -1,4 +1,4 @@
--- What is told of a path through a method: a line for each choice that it makes, and one for each change of what is watched.
+-- The lines of a path through a method: one for each choice that it makes, and one for each change of a watched variable.
 use Rattle.std.specs.Prelude.{ℕ, ◌==◌, ◌-◌, Bool, ◌&&◌, ◌||◌, List, [], ◌∷◌, ◌++◌, Option, Some, None, filter, flat_map, map}
 use Rattle.std.specs.Prelude.{slice_get, codes, if◌then◌else◌}
 use Rattle.std.specs.List.{list_all}
@@ -28,7 +28,7 @@ use Rattle.rows.specs.declared.row.Leaf.{Leaf}
 use Rattle.rows.specs.declared.row.Leaf.TheVariants.{Nothing, Block, CutOff, State}
 use Rattle.traces.specs.declared.line.Line.{Line}
 
--- a line: a place, and what is said there
+-- a line: a place and a text
 pub record LineModel : Type 0 where
   pub place : Place
   pub text : List ℕ
@@ -42,28 +42,28 @@ line place text = record { place = place; text = text }
 abbrev pub takes : (who what : List ℕ) → List ℕ
 takes who what = who ++ (codes " takes " ++ what)
 
--- where a condition went on, unless it goes on at one point in any case
+-- where a condition continued, unless it continues at the same point either way
 abbrev pub branch_lines : Place → Branches → ℕ → List LineModel
 branch_lines place (Only point) next = []
 branch_lines place (Either inside past) next =
     if inside == past then [] else (line place (if next == inside then codes "condition true" else codes "condition false") ∷ [])
 
--- how a state of a contract is printed: states are numbered in a row, from the first one on
+-- how a state of a contract is printed; states have consecutive numbers, from the first one on
 abbrev pub name_of_state : Parts → ℕ → List ℕ
 name_of_state parts q = option_map_or (λ s. s.name) (slice_get parts.states (q - parts.first.0)) []
 
--- the same of the contract of an endpoint
+-- the same for the contract of an endpoint
 abbrev pub state_name : ProgramModel → Option HeapType → ℕ → List ℕ
 state_name p (Some (Endpoint contract side state)) q =
     option_map_or (λ c. name_of_state c.parts q) (slice_get p.contracts contract.0) []
 state_name p _ q = []
 
--- the target and the source of a move, if this is one
+-- the target and the source of a move, if the instruction is one
 abbrev pub move_in : Instruction → Option (Mention × Mention)
 move_in (Act (Move target source) next) = Some (target, source)
 move_in _ = None
 
--- a variable has what it had
+-- whether a variable has what it had
 abbrev pub keeps : (before after : List Leaf) → ℕ → Bool
 keeps before after v = same_leaf.it (leaf_at before v) (leaf_at after v)
 
@@ -78,7 +78,7 @@ module _ (p : ProgramModel) (m : MethodModel) where
   has v CutOff = name_of m v ++ codes " is cut off"
   has v (State q) = name_of m v ++ (codes " in " ++ state_name p (type_of m v) q)
 
-  -- what an instruction does to a variable that has this behind it; of a switch it is told where its case stands
+  -- the line for an instruction after which a variable has this leaf; for a switch, `came` is the place of its case
   abbrev pub change : (came : Place) → Instruction → ℕ → Leaf → List LineModel
   change came (New at arguments next) v Nothing = line at.place (takes (name at) (name_of m v)) ∷ []
   change came (New at arguments next) v leaf = line at.place (name_of m v ++ codes " new") ∷ []
@@ -95,7 +95,7 @@ module _ (p : ProgramModel) (m : MethodModel) where
   change came (Start place method arguments next) v leaf = line place (takes (codes "the process") (name_of m v)) ∷ []
   change came _ v leaf = []
 
-  -- a line for each watched variable that has something else behind the instruction; but one for a move, which changes two
+  -- a line for each watched variable that has something else after the instruction; only one for a move, which changes two
   abbrev pub changes_with : Option (Mention × Mention) → (came : Place) → Instruction → (watched : List ℕ) → (before after : List Leaf)
       → List LineModel
   changes_with (Some (target, source)) came instruction watched before after =
@@ -106,12 +106,12 @@ module _ (p : ProgramModel) (m : MethodModel) where
   abbrev pub changes : (came : Place) → Instruction → (watched : List ℕ) → (before after : List Leaf) → List LineModel
   changes came instruction = changes_with (move_in instruction) came instruction
 
-  -- what an endpoint has behind what is awaited there
+  -- what an endpoint has once what is awaited there has arrived, from what it had before
   abbrev pub awaited_leaf : ℕ → Awaited → Leaf → Leaf
   awaited_leaf e Closed before = CutOff
   awaited_leaf e (Message id) before = in_state before (λ q. option_map_or State (end_on (edges_in p (type_of m e) q) id.0) Nothing) Nothing
 
-  -- Whether a step led to this pair by the case: it goes on there, its endpoint has what its message or close leaves, and the other
+  -- Whether a step led to this pair by the case: it continues there, its endpoint has what its message or close leaves, and the other
   -- endpoints have what they had.
   abbrev pub came_by : List Mention → (before after : Pair) → EntranceModel → Bool
   came_by endpoints before after c =
@@ -127,16 +127,16 @@ module _ (p : ProgramModel) (m : MethodModel) where
   abbrev pub case_line : (front : List ℕ) → EntranceModel → LineModel
   case_line front c = line c.endpoint.place (front ++ (name c.endpoint ++ (codes "." ++ awaited_name c.endpoint.variable.0 c.awaited)))
 
-  -- the case by which a step led on; where several lead to one pair, all of them
+  -- the lines of the cases by which a step continued; several if more than one leads to the pair
   abbrev pub case_lines : List EntranceModel → List LineModel
   case_lines [] = []
   case_lines (c ∷ cases) = case_line (codes "case ") c ∷ map (case_line (codes "or case ")) cases
 
-  -- the cases by which a step of a switch led on
+  -- the cases by which a step of a switch continued
   abbrev pub cases_taken : List EntranceModel → (before after : Pair) → List EntranceModel
   cases_taken cases before after = filter (came_by (first_mentions [] cases) before after) cases
 
-  -- where the first of them stands
+  -- the place of the first of them, or that of the switch if there is none
   abbrev pub case_place : Place → List EntranceModel → Place
   case_place place [] = place
   case_place place (c ∷ cases) = c.endpoint.place
@@ -147,7 +147,7 @@ module _ (p : ProgramModel) (m : MethodModel) where
   choice (Switch place cases) before after = case_lines (cases_taken cases before after)
   choice _ before after = []
 
-  -- where a switch went on; of other instructions it is not asked
+  -- the place where a switch continued; not used for other instructions
   abbrev pub came_at : Instruction → (before after : Pair) → Place
   came_at (Switch place cases) before after = case_place place (cases_taken cases before after)
   came_at _ before after = m.close
@@ -164,6 +164,6 @@ module _ (p : ProgramModel) (m : MethodModel) where
   path_lines watched (a ∷ b ∷ pairs) =
       step_lines (slice_get (graph_of m).instructions a.0) watched a b ++ path_lines watched (b ∷ pairs)
 
-  -- a line for each watched variable that has something where the method begins
+  -- a line for each watched variable that has something when the method begins
   abbrev pub start_lines : (watched : List ℕ) → List Leaf → List LineModel
   start_lines watched row = flat_map (λ v. if is_owned row v then (line m.name (has v (leaf_at row v)) ∷ []) else []) watched

@@ -14,7 +14,7 @@ use Rattle.source.specs.declared.place.Place.{Place}
 use Rattle.traces.specs.Explained.{ExplainedModel, is_asked}
 use Rattle.traces.specs.Lines.{LineModel, line, name_of_state}
 
--- messages are numbered in a row, from the first one on
+-- the name of a message; messages have consecutive numbers, from the first one on
 abbrev pub name_of_message : Parts → ℕ → List ℕ
 name_of_message parts m =
     option_map_or (λ x. x.name) (slice_get parts.messages (m - option_map_or (λ x. x.id.0) (slice_get parts.messages 0) 0)) []
@@ -37,17 +37,17 @@ pub record IsDirectionAt (parts : Parts) (place : Place) (direction : Direction)
   pub same : message.id ≡ edge.message
   pub is : message.direction ≡ direction
 
--- which sign a message takes
+-- the sign that a message takes
 abbrev pub taken_sign_text : Direction → List ℕ
 taken_sign_text In = codes "an in message takes ?"
 taken_sign_text Out = codes "an out message takes !"
 
--- it is said which sign the message of the edge at the place takes
+-- the line with the sign that the message of the edge at the place takes
 abbrev pub HasDirection : Parts → Place → List LineModel → Type 0
 HasDirection parts place lines =
     (direction : Direction) × IsDirectionAt parts place direction × (lines ≡ line place (taken_sign_text direction) ∷ [])
 
--- the edge at the place has the message of an earlier one of its state: that is shown
+-- the edge at the place has the message of an earlier one of its state, which is shown
 pub record ShowsEarlier (parts : Parts) (place : Place) (shown : List Edge) : Type 0 where
   pub at : ℕ
   pub edge : Edge
@@ -61,7 +61,7 @@ pub record ShowsEarlier (parts : Parts) (place : Place) (shown : List Edge) : Ty
   pub message : earlier.message ≡ edge.message
   pub is : shown ≡ earlier ∷ []
 
--- the state at the place has edges of both signs: one of each is shown
+-- the state at the place has edges of both signs, and one of each is shown
 pub record ShowsBoth (parts : Parts) (place : Place) (shown : List Edge) : Type 0 where
   pub state : StateModel
   pub there : Contains parts.states state
@@ -76,7 +76,7 @@ pub record ShowsBoth (parts : Parts) (place : Place) (shown : List Edge) : Type 
   pub receives_sign : receives.sign ≡ Receive
   pub is : shown ≡ sends ∷ receives ∷ []
 
--- edges of one sign lead from the state at the place back to it: they are shown
+-- edges of one sign lead from the state at the place back to it, and are shown
 pub record ShowsRound (parts : Parts) (place : Place) (shown : List Edge) : Type 0 where
   pub state : StateModel
   pub there : Contains parts.states state
@@ -86,7 +86,7 @@ pub record ShowsRound (parts : Parts) (place : Place) (shown : List Edge) : Type
   pub walk : IsWalk parts.edges state.id shown state.id
   pub one_sign : HasSign sign shown
 
--- edges show what is found at a place
+-- the edges show the finding of this code at a place
 pub data Shows (parts : Parts) (code : Code) (place : Place) (shown : List Edge) : Type 0 where
   Earlier : code ≡ C02 → ShowsEarlier parts place shown → Shows parts code place shown
   Both : code ≡ C03 → ShowsBoth parts place shown → Shows parts code place shown
@@ -98,7 +98,7 @@ pub record HasEdges (parts : Parts) (e : ExplainedModel) : Type 0 where
   pub show : Shows parts e.finding.code e.finding.place shown
   pub lines : e.lines ≡ map (edge_line parts) shown
 
--- A finding of a contract has no lines; or it is asked for, and its lines say the sign that its message takes, or are edges that show it.
+-- A finding of a contract has no lines; or it is asked for, and its lines are the sign that its message takes, or edges that show it.
 pub data IsShown (named : Option Place) (parts : Parts) (e : ExplainedModel) : Type 0 where
   Bare : e.lines ≡ [] → IsShown named parts e
   BySign : is_asked named e.finding.place ≡ true → e.finding.code ≡ C01 → HasDirection parts e.finding.place e.lines → IsShown named parts e

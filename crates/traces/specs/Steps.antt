@@ -1,4 +1,4 @@
--- For proofs within the crate: the method of which lines are told, the pairs of a step, and the cases of a switch that were told.
+-- For proofs within the crate: the method that lines are about, the pairs of a step, and the cases of a switch that were added.
 use Rattle.std.specs.Prelude.{◌≡◌, List, [], ◌∷◌, ◌++◌, Option, Some, None, Result, OnOk, map}
 use Rattle.flow.specs.Cases.{EntranceModel}
 use Rattle.program.specs.Methods.{MethodModel, method_model}
@@ -12,7 +12,7 @@ use Rattle.traces.specs.declared.line.Line.{Line}
 use Rattle.traces.specs.declared.step.PathStep.{PathStep}
 use Rattle.traces.specs.declared.teller.Teller.{Teller}
 
--- the program and the method of which lines are told
+-- the program and the method that lines are about
 abbrev pub program_of : Teller → ProgramModel
 program_of teller = model_of teller.program.now
 
@@ -29,12 +29,12 @@ step_before s = (s.point, row_model s.before.now)
 abbrev pub step_after : PathStep → Pair
 step_after s = (s.next, row_model s.after.now)
 
--- where the first of some cases stands, if there is one
+-- the place of the first of these cases, if there is one
 abbrev pub first_place : List EntranceModel → Option Place
 first_place [] = None
 first_place (c ∷ cases) = Some c.endpoint.place
 
--- behind these lines these cases were told, the first of which stands there
+-- after the lines `before` come those of these cases, the first of which is at `place`
 pub record HasCases (p : ProgramModel) (m : MethodModel) (before : List LineModel) (taken : List EntranceModel) (place : Option Place)
     (added : List Line) : Type 0 where
   pub lines : map line_model added ≡ before ++ case_lines p m taken

@@ -12,7 +12,7 @@ abbrev pub endpoints_at : Option Instruction → List ℕ
 endpoints_at (Some (Switch place cases)) = map (λ e. e.variable.0) (first_mentions [] cases)
 endpoints_at _ = []
 
--- what the reason names, and for a switch with nothing to receive its endpoints
+-- the variables that the reason names; for a switch with nothing to receive, its endpoints
 abbrev pub variables_of_reason : Reason → Option Instruction → List ℕ
 variables_of_reason (NotOwned v) at = v.0 ∷ []
 variables_of_reason (NotSent e message) at = e.0 ∷ []

@@ -16,7 +16,7 @@ use program::{Awaited, Mention, VarId};
 use source::{Memory, Place};
 
 impl Teller<'_> {
-    /// Adds the choice that a step makes, if it makes one, and gives the place where a switch went on.
+    /// Adds the choice that a step makes, if it makes one. Returns the place where a switch continued.
     pub(crate) fn add_choice(
         &self,
         instr: &Instr,
@@ -41,7 +41,7 @@ impl Teller<'_> {
         Ok(self.method.close)
     }
 
-    /// Adds whether a condition was true or false, unless it goes on at one point in any case.
+    /// Adds whether a condition was true or false, unless it continues at the same point either way.
     fn add_branch(
         &self,
         place: Place,
@@ -63,8 +63,8 @@ impl Teller<'_> {
         Ok(())
     }
 
-    /// Adds the case by which a step of a switch led on, or all that lead there, and gives the place of the first; where there is none,
-    /// that of the switch.
+    /// Adds the case by which a step of a switch continued, or all cases that lead there. Returns the place of the first, or that of the
+    /// switch if there is none.
     fn add_cases(
         &self,
         place: Place,
@@ -91,7 +91,7 @@ impl Teller<'_> {
         Ok(first.unwrap_or(place))
     }
 
-    /// Adds a case that was taken, behind others if there are some. The place is that of the first.
+    /// Adds a case that was taken, after others if there are any. `first` is the place of the first one.
     fn add_taken(
         &self,
         case: &Entrance,
@@ -133,7 +133,7 @@ impl Teller<'_> {
         Ok(())
     }
 
-    /// How what is awaited at an endpoint is written.
+    /// Returns how what is awaited at an endpoint is written.
     fn awaited_name(&self, endpoint: VarId, awaited: Awaited) -> &[u8]
         ensures { result.now ≡ told.awaited_name (program_of self.now)
             (method_of self.now) endpoint.0 awaited }
@@ -144,8 +144,8 @@ impl Teller<'_> {
         }
     }
 
-    /// Whether a step led on by a case: it goes on there, the case's endpoint has what its message or close leaves, and the other
-    /// endpoints have what they had.
+    /// Returns whether a step continued by a case: it leads there, the case's endpoint has what its message or close leaves, and the
+    /// other endpoints have what they had.
     fn came_by(&self, endpoints: &[Mention], step: &PathStep<'_>, case: &Entrance) -> bool
         ensures { result ≡ told.came_by (program_of self.now) (method_of self.now) endpoints.now
             (step_before step.now) (step_after step.now) (entrance_model case.now) }

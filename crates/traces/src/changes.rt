@@ -1,4 +1,4 @@
-//! What instructions change of the variables that are watched.
+//! The changes of watched variables by instructions.
 
 ghost use Rattle.std.specs.Prelude.{◌≡◌, ◌∷◌, [], IfOk, None, map};
 ghost use Rattle.flow.specs.Graphs.{Call, New, instruction_model};
@@ -17,7 +17,7 @@ use program::{Action, Mention, VarId};
 use rules::{Leaf, Row};
 use source::{Memory, Place};
 
-/// What a variable has in a row: nothing, where there is no such variable.
+/// Returns what a variable has in a row; nothing if there is no such variable.
 pub(crate) fn leaf_of(leaves: &[Leaf], variable: VarId) -> Leaf
     ensures { result ≡ leaf_at leaves.now variable.0 }
 {
@@ -27,7 +27,7 @@ pub(crate) fn leaf_of(leaves: &[Leaf], variable: VarId) -> Leaf
     }
 }
 
-/// The target and the source of a move, if this is one.
+/// Returns the target and the source of a move, if the instruction is one.
 fn move_in(instr: &Instr) -> Option<(Mention, Mention)>
     ensures { result ≡ told.move_in (instruction_model instr.now) }
 {
@@ -44,7 +44,7 @@ fn move_in(instr: &Instr) -> Option<(Mention, Mention)>
 }
 
 impl Teller<'_> {
-    /// That a variable has this, at a place.
+    /// Makes the line for a variable that has this leaf, at a place.
     pub(crate) fn has(&self, place: Place, variable: VarId, leaf: Leaf) -> Result<Line, Memory>
         ensures { IfOk result (λ it. line_model it
             ≡ line place (told.has (program_of self.now) (method_of self.now) variable.0 leaf)) }
@@ -66,14 +66,14 @@ impl Teller<'_> {
         }
     }
 
-    /// That the one takes the other, at a place.
+    /// Makes the line for `who` taking `what`, at a place.
     fn takes(&self, place: Place, who: &[u8], what: &[u8]) -> Result<Line, Memory>
         ensures { IfOk result (λ it. line_model it ≡ line place (told.takes who.now what.now)) }
     {
         line_of(self.alloc, place, who, b" takes ", what)
     }
 
-    /// What comes of a variable that has this behind a new block for the target.
+    /// Makes the line for a variable that has this leaf after a new block for the target.
     fn line_of_new(&self, target: Mention, variable: VarId, leaf: Leaf) -> Result<Line, Memory>
         ensures { IfOk result (λ it. line_model it ∷ []
             ≡ told.change (program_of self.now) (method_of self.now) target.place
@@ -88,7 +88,7 @@ impl Teller<'_> {
         }
     }
 
-    /// What comes of a variable that has this behind a send.
+    /// Makes the line for a variable that has this leaf after a send.
     fn line_of_send(&self, sending: &Sending, variable: VarId, leaf: Leaf) -> Result<Line, Memory>
         ensures { IfOk result (λ it. line_model it ∷ []
             ≡ told.change (program_of self.now) (method_of self.now) sending.now.place
@@ -102,7 +102,7 @@ impl Teller<'_> {
         }
     }
 
-    /// That a variable goes with a message.
+    /// Makes the line for a variable that goes with a message.
     fn goes(&self, sending: &Sending, variable: VarId) -> Result<Line, Memory>
         ensures { IfOk result (λ it. line_model it ∷ []
             ≡ told.change (program_of self.now) (method_of self.now) sending.now.place
@@ -121,7 +121,7 @@ impl Teller<'_> {
         })
     }
 
-    /// What comes of a variable that has this behind a call.
+    /// Makes the line for a variable that has this leaf after a call.
     fn line_of_call(&self, place: Place, variable: VarId, leaf: Leaf) -> Result<Line, Memory>
         ensures { IfOk result (λ it. line_model it ∷ []
             ≡ told.change (program_of self.now) (method_of self.now) place
@@ -133,7 +133,7 @@ impl Teller<'_> {
         }
     }
 
-    /// Adds the line of an instruction behind which a variable has this in place of something else.
+    /// Adds the line for an instruction that changed the leaf of a variable to this one.
     fn add_change(
         &self,
         instr: &Instr,
@@ -166,7 +166,7 @@ impl Teller<'_> {
         Ok(())
     }
 
-    /// Adds what a step changes of what is watched. A switch went on at this place.
+    /// Adds the changes that a step makes to watched variables. `came` is the place where a switch continued.
     pub(crate) fn add_changes(
         &self,
         instr: &Instr,
@@ -197,7 +197,7 @@ impl Teller<'_> {
         Ok(())
     }
 
-    /// Adds a line for each watched variable that has something where the method begins.
+    /// Adds a line for each watched variable that has something when the method begins.
     pub(crate) fn add_start(
         &self,
         watched: &[VarId],

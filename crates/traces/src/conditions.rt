@@ -16,11 +16,12 @@ use program::{Contract, Direction, Edge, Message, MessageId, Sign, State};
 use source::{Code, Finding, Memory, Place};
 use std::alloc::Global;
 
-/// What is found in a contract, each finding with lines that show it: for C01 the sign that the message takes, for C02 the earlier edge,
-/// for C03 an edge of each sign, for C04 a ring of one sign. In a contract with very many rings those of its later states have no lines.
-/// If a place is named, only what is found there has lines.
+/// Returns the findings of a contract, each with lines that show it: for C01 the sign that the message takes, for C02 the earlier edge,
+/// for C03 an edge of each sign, for C04 a ring of one sign. In a contract with very many rings, those of its later states have no
+/// lines. If a place is named, only findings there have lines.
 ///
-/// `Memory` is answered where a growth was refused.
+/// # Errors
+/// `Memory` if out of memory.
 pub fn show_faults(
     alloc: Global,
     contract: &Contract,
@@ -55,7 +56,7 @@ struct Faults<'a> {
 }
 
 impl Faults<'_> {
-    /// The lines of the edges that show a finding, if they are asked for.
+    /// Returns the lines that show a finding, if they are asked for.
     fn lines_of(&self, finding: &Finding, rings: &mut Rings<'_>) -> Result<Vec<Line>, Memory>
         ensures { IfOk result (λ lines. IsShown self.now.named (contract_parts self.now.contract.now)
             (explained_as (finding_model finding.now) lines.items)) }
@@ -70,7 +71,7 @@ impl Faults<'_> {
         edge_lines(self.alloc, self.contract, &shown)
     }
 
-    /// The line that says which sign the message of the edge at this place takes.
+    /// Returns the line with the sign that the message of the edge at this place takes.
     fn direction_lines(&self, place: Place) -> Result<Vec<Line>, Memory>
         ensures { IfOk result (λ lines. lines.items ≢ []
             → HasDirection (contract_parts self.now.contract.now) place (map line_model lines.items)) }
@@ -86,7 +87,7 @@ impl Faults<'_> {
         Ok(lines)
     }
 
-    /// The direction of the message of the edge at this place.
+    /// Returns the direction of the message of the edge at this place.
     fn direction(&self, place: Place) -> Option<Direction>
         ensures { IfSome result (IsDirectionAt (contract_parts self.now.contract.now) place) }
     {
@@ -95,7 +96,7 @@ impl Faults<'_> {
         Some(message.direction)
     }
 
-    /// The edge at this place.
+    /// Returns the edge at this place.
     fn edge_index_at(&self, place: Place) -> Option<Edge>
         ensures { IfSome result (λ edge. Contains self.now.contract.now.edges.items edge × (edge.place ≡ place)) }
     {
@@ -108,7 +109,7 @@ impl Faults<'_> {
         }
     }
 
-    /// The message with this number.
+    /// Returns the message with this number.
     fn message(&self, id: MessageId) -> Option<&Message>
         ensures { IfSome result (λ message. Contains self.now.contract.now.messages.items message.now × (message.now.id ≡ id)) }
     {
@@ -122,7 +123,7 @@ impl Faults<'_> {
         }
     }
 
-    /// The edges that show what is found there; none if it is not one of the conditions that edges show.
+    /// Returns the edges that show a finding; none if its condition is not one that edges show.
     fn edges_of(&self, code: Code, place: Place, rings: &mut Rings<'_>) -> Result<Vec<Edge>, Memory>
         ensures { IfOk result (λ shown. shown.items ≢ [] → Shows (contract_parts self.now.contract.now) code place shown.items) }
     {
@@ -145,7 +146,7 @@ impl Faults<'_> {
         Ok(shown)
     }
 
-    /// The earlier edge with the state and the message of the one at this place.
+    /// Returns the earlier edge with the state and the message of the one at this place.
     fn earlier(&self, place: Place) -> Option<Edge>
         ensures { IfSome result (λ earlier. ShowsEarlier (contract_parts self.now.contract.now) place (earlier ∷ [])) }
     {
@@ -160,14 +161,14 @@ impl Faults<'_> {
         }
     }
 
-    /// The edge with this index.
+    /// Returns the edge with this index.
     fn edge_of(&self, at: usize) -> Option<Edge>
         ensures { result ≡ slice_get self.now.contract.now.edges.items at }
     {
         self.contract.edges.get(at).copied()
     }
 
-    /// Edges of both signs from the state at this place.
+    /// Returns edges of both signs from the state at this place.
     fn both(&self, place: Place) -> Option<(Edge, Edge)>
         ensures { IfSome result (λ both. ShowsBoth (contract_parts self.now.contract.now) place (both.0 ∷ both.1 ∷ [])) }
     {
@@ -177,7 +178,7 @@ impl Faults<'_> {
         Some((sends, receives))
     }
 
-    /// A ring of one sign around the state at this place.
+    /// Returns a ring of one sign around the state at this place.
     fn round(&self, place: Place, rings: &mut Rings<'_>) -> Result<Vec<Edge>, Memory>
         ensures { IfOk result (λ shown. shown.items ≢ [] → ShowsRound (contract_parts self.now.contract.now) place shown.items) }
     {
@@ -191,7 +192,7 @@ impl Faults<'_> {
         self.round_by(state, Sign::Receive, rings)
     }
 
-    /// A ring of edges of this sign around a state, or none.
+    /// Returns a ring of edges of this sign around a state, or none.
     fn round_by(&self, state: State, sign: Sign, rings: &mut Rings<'_>) -> Result<Vec<Edge>, Memory>
         ensures { IfOk result (λ shown. shown.items ≢ []
             → IsWalk self.now.contract.now.edges.items state.id shown.items state.id × HasSign sign shown.items) }
@@ -200,7 +201,7 @@ impl Faults<'_> {
         round_of(self.alloc, &self.contract.edges, &indices, state.id, sign)
     }
 
-    /// The state at this place.
+    /// Returns the state at this place.
     fn state(&self, place: Place) -> Option<State>
         ensures { IfSome result (λ state. Contains self.now.contract.now.states.items state × (state.place ≡ place)) }
     {
@@ -213,7 +214,7 @@ impl Faults<'_> {
         }
     }
 
-    /// An edge of this sign from a state.
+    /// Returns an edge of this sign from a state.
     fn edge(&self, state: State, sign: Sign) -> Option<Edge>
         ensures { IfSome result (λ edge. Contains self.now.contract.now.edges.items edge × (edge.from ≡ state.id) × (edge.sign ≡ sign)) }
     {
@@ -222,7 +223,7 @@ impl Faults<'_> {
     }
 }
 
-/// Whether a later edge, at this place, has the state and the message of an earlier one.
+/// Returns whether a later edge, at this place, has the state and the message of an earlier one.
 fn is_repeated(earlier: Edge, later: Edge, place: Place) -> bool
     ensures { result ≡ true → (later.place ≡ place) × (earlier.from ≡ later.from) × (earlier.message ≡ later.message) }
 {

@@ -1,4 +1,4 @@
-//! Edges of a contract: when they are a walk, and as lines.
+//! Edges of a contract, as walks and as lines.
 
 ghost use Rattle.std.specs.Prelude.{◌≡◌, ◌≢◌, [], Contains, IfOk, IfSome, map};
 ghost use Rattle.contracts.specs.Walks.{HasSign, IsWalk};
@@ -11,7 +11,7 @@ use program::{Contract, Edge, MessageId, Sign, StateId};
 use source::Memory;
 use std::alloc::Global;
 
-/// The edges with these indices, if they are a walk of one sign from a state back to it; otherwise none.
+/// Returns the edges with these indices if they are a walk of one sign from a state back to it, otherwise none.
 pub(crate) fn round_of(
     alloc: Global,
     edges: &[Edge],
@@ -37,7 +37,7 @@ pub(crate) fn round_of(
     }
 }
 
-/// The edge with this index, if it has the sign and begins in the state.
+/// Returns the edge with this index, if it has the sign and begins in the state.
 pub(crate) fn edge_index_from(
     edges: &[Edge],
     index: usize,
@@ -54,7 +54,7 @@ pub(crate) fn edge_index_from(
     }
 }
 
-/// Edges of a contract, each as a line.
+/// Returns a line for each of these edges.
 pub(crate) fn edge_lines(
     alloc: Global,
     contract: &Contract,
@@ -69,7 +69,7 @@ pub(crate) fn edge_lines(
     Ok(lines)
 }
 
-/// `M! -> S`, at the message of the edge.
+/// Returns the line `M! -> S`, at the message of the edge.
 fn edge_line(alloc: Global, contract: &Contract, edge: Edge) -> Result<Line, Memory>
     ensures { IfOk result (λ line. line_model line ≡ edge_line (contract_parts contract.now) edge) }
 {
@@ -86,7 +86,7 @@ fn edge_line(alloc: Global, contract: &Contract, edge: Edge) -> Result<Line, Mem
     )
 }
 
-/// The name of a message of the contract; nothing if there is no such message.
+/// Returns the name of a message of the contract; empty if there is no such message.
 fn message_name(contract: &Contract, message: MessageId) -> &[u8]
     ensures { result.now ≡ name_of_message (contract_parts contract.now) message.0 }
 {
@@ -101,7 +101,7 @@ fn message_name(contract: &Contract, message: MessageId) -> &[u8]
     }
 }
 
-/// How a state of the contract is printed; nothing if there is no such state.
+/// Returns how a state of the contract is printed; empty if there is no such state.
 fn state_name(contract: &Contract, state: StateId) -> &[u8]
     ensures { result.now ≡ name_of_state (contract_parts contract.now) state.0 }
 {

@@ -13,7 +13,7 @@ use program::{Awaited, HeapType, MessageId, Side, StateId, VarId};
 use rules::Leaf;
 
 impl Teller<'_> {
-    /// The name of a variable: none, where there is no such variable.
+    /// Returns the name of a variable; empty if there is no such variable.
     pub(crate) fn name_of(&self, variable: VarId) -> &[u8]
         ensures { result.now ≡ mentioned.name_of (method_of self.now) variable.0 }
     {
@@ -23,7 +23,7 @@ impl Teller<'_> {
         }
     }
 
-    /// What a variable holds, if there is such a variable.
+    /// Returns the type of a variable, if there is such a variable.
     fn type_of(&self, variable: VarId) -> Option<HeapType>
         ensures { result ≡ table.type_of (method_of self.now) variable.0 }
     {
@@ -33,7 +33,7 @@ impl Teller<'_> {
         }
     }
 
-    /// The name of a message of the contract of an endpoint.
+    /// Returns the name of a message of the contract of an endpoint.
     pub(crate) fn message_name(&self, endpoint: VarId, message: MessageId) -> &[u8]
         ensures { result.now ≡ table.message_name (program_of self.now)
             (table.type_of (method_of self.now) endpoint.0) message.0 }
@@ -47,7 +47,7 @@ impl Teller<'_> {
         }
     }
 
-    /// How a state of the contract of an endpoint is printed.
+    /// Returns how a state of the contract of an endpoint is printed.
     pub(crate) fn state_name(&self, endpoint: VarId, state: u32) -> &[u8]
         ensures { result.now ≡ told.state_name (program_of self.now)
             (table.type_of (method_of self.now) endpoint.0) state }
@@ -65,7 +65,7 @@ impl Teller<'_> {
         }
     }
 
-    /// What an endpoint that has this has behind what is awaited there.
+    /// Returns what an endpoint has once what is awaited there has arrived, from what it had before.
     pub(crate) fn awaited_leaf(&self, endpoint: VarId, awaited: Awaited, before: Leaf) -> Leaf
         ensures { result ≡ told.awaited_leaf (program_of self.now)
             (method_of self.now) endpoint.0 awaited before }
@@ -82,7 +82,7 @@ impl Teller<'_> {
         }
     }
 
-    /// Where an endpoint is behind a message that it receives in a state, if it may receive it there.
+    /// Returns the state of an endpoint after it receives a message in a state, if it may receive it there.
     fn next_state(&self, endpoint: VarId, state: u32, message: MessageId) -> Option<StateId>
         ensures { option_map (λ q. q.0) result
             ≡ end_on (table.edges_in (program_of self.now)
@@ -93,7 +93,7 @@ impl Teller<'_> {
     }
 }
 
-/// What is at the other end of an endpoint: what it sends is what this one receives.
+/// Returns the type of the other end of an endpoint, which sends what this one receives.
 fn across(ty: Option<HeapType>) -> Option<HeapType>
     ensures { (p : ProgramModel) (state : ℕ) → table.edges_out p result state ≡ table.edges_in p ty state }
 {

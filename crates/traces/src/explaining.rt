@@ -26,10 +26,11 @@ use rules::{Program, Row};
 use source::{Memory, Place, texts};
 use std::alloc::Global;
 
-/// What is found in a method, each finding once, and why: the lines of a shortest path from the method's entry to where a step fails so.
-/// That too many pairs are reached has no path. If a place is named, only what is found there has lines.
+/// Returns the findings of a method, each once, with the lines of a shortest path from the method's entry to a step that fails with it.
+/// The finding that too many pairs are reached has no path. If a place is named, only findings there have lines.
 ///
-/// `Memory` is answered where a growth was refused.
+/// # Errors
+/// `Memory` if out of memory.
 pub fn explain(
     alloc: Global,
     program: &Program,
@@ -60,7 +61,7 @@ pub fn explain(
     }
 }
 
-/// What is explained: the failures of a method, whose rows stand in a table, or those of them at a place.
+/// What is explained: the failures of a method, whose rows are in a table, or only those at a place.
 #[derive(Clone, Copy)]
 struct ExplainingSite<'a> {
     alloc: Global,
@@ -71,7 +72,7 @@ struct ExplainingSite<'a> {
 }
 
 impl ExplainingSite<'_> {
-    /// Where the name of the method stands.
+    /// Returns the place of the method's name.
     fn place(&self) -> Place
         requires there { self.now.method.0 < length (model_of self.now.program.now).methods }
         ensures { result ≡ place_of_method (model_of self.now.program.now) self.now.method.0 }
@@ -79,7 +80,7 @@ impl ExplainingSite<'_> {
         self.program.methods()[self.method.0 as usize].name
     }
 
-    /// That too many pairs are reached.
+    /// Returns the finding that too many pairs are reached.
     fn explain_too_many(&self) -> Result<Vec<Explained>, Memory>
         requires there { self.now.method.0 < length (model_of self.now.program.now).methods }
         requires many { HasTooMany (model_of self.now.program.now) self.now.method.0 }
@@ -96,7 +97,7 @@ impl ExplainingSite<'_> {
         Ok(found)
     }
 
-    /// The line that says how many pairs may be reached, if it is asked for.
+    /// Returns the line with the number of pairs that may be reached, if it is asked for.
     fn count_lines(&self, place: Place) -> Result<Vec<Line>, Memory>
         requires { place ≡ place_of_method (model_of self.now.program.now) self.now.method.0 }
         ensures asked { IfOk result (λ lines. is_asked self.now.named place ≡ true
@@ -110,7 +111,7 @@ impl ExplainingSite<'_> {
         Ok(lines)
     }
 
-    /// The line that says how many pairs may be reached.
+    /// Returns the line with the number of pairs that may be reached.
     fn count_line(&self, place: Place) -> Result<Line, Memory>
         requires { place ≡ place_of_method (model_of self.now.program.now) self.now.method.0 }
         ensures { IfOk result (λ line. line_model line ∷ [] ≡ many_lines (model_of self.now.program.now) self.now.method.0) }
@@ -127,7 +128,7 @@ impl ExplainingSite<'_> {
         Ok(line)
     }
 
-    /// Why steps of the method fail.
+    /// Explains why steps of the method fail.
     fn explain_failures(
         &self,
         trails: &Trails,
@@ -151,7 +152,7 @@ impl ExplainingSite<'_> {
         Ok(found)
     }
 
-    /// Why a step of the method fails so, if that is asked for.
+    /// Returns the finding of a failure, with its lines if they are asked for.
     fn explain_failure(
         &self,
         trails: &Trails,
@@ -183,7 +184,7 @@ impl ExplainingSite<'_> {
         Ok(Explained { finding, lines })
     }
 
-    /// The lines of a shortest path to where a step fails so.
+    /// Returns the lines of a shortest path to a failure.
     fn trace_lines(
         &self,
         trails: &Trails,

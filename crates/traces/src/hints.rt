@@ -5,7 +5,7 @@ use source::{Memory, Place};
 use std::alloc::Global;
 use std::collections::BTreeMap;
 
-/// Indices of edges and states of a contract. They are hints, of which nothing is proved: whoever shows an edge looks at it first.
+/// Indices of edges and states of a contract. They are hints, and nothing is proved about them: an edge is checked before it is shown.
 #[derive(Drop)]
 pub(crate) struct Hints {
     /// The edge at a line and a column.
@@ -21,7 +21,7 @@ pub(crate) struct Hints {
 }
 
 impl Hints {
-    /// The hints of a contract.
+    /// Collects the hints of a contract.
     pub(crate) fn of(alloc: Global, contract: &Contract) -> Result<Hints, Memory> {
         let mut hints = Hints {
             edges: BTreeMap::new(alloc),
@@ -57,22 +57,22 @@ impl Hints {
         Ok(())
     }
 
-    /// The index of the edge at a place.
+    /// Returns the index of the edge at a place.
     pub(crate) fn edge_index_at(&self, place: Place) -> Option<usize> {
         self.edges.get(&key_of(place)).copied()
     }
 
-    /// The index of the state at a place.
+    /// Returns the index of the state at a place.
     pub(crate) fn state_index_at(&self, place: Place) -> Option<usize> {
         self.states.get(&key_of(place)).copied()
     }
 
-    /// The index of the first edge with the state and the message of this one.
+    /// Returns the index of the first edge with the state and the message of this one.
     pub(crate) fn first_like(&self, edge: Edge) -> Option<usize> {
         self.firsts.get(&(edge.from.0, edge.message.0)).copied()
     }
 
-    /// The index of the first edge of a state with a sign.
+    /// Returns the index of the first edge of a state with a sign.
     pub(crate) fn edge_index_from(&self, state: u32, sign: Sign) -> Option<usize> {
         match sign {
             Sign::Send => self.sends.get(&state).copied(),

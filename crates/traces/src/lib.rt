@@ -1,4 +1,4 @@
-//! Why something is found, as lines: in a method a shortest path to where a step fails, in a contract edges that show it.
+//! Lines that explain findings: for a method a shortest path to a step that fails, for a contract edges that show what is wrong.
 #![tactic(auto)]
 
 mod cases;

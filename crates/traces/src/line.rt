@@ -1,4 +1,4 @@
-//! Lines that are told of a finding.
+//! Lines that explain a finding.
 
 ghost use Rattle.std.specs.Prelude.{◌≡◌, ◌++◌, IfOk};
 ghost use Rattle.traces.specs.Explained.{is_asked};
@@ -6,7 +6,7 @@ ghost use Rattle.traces.specs.Explained.{is_asked};
 use source::{Finding, Memory, Place};
 use std::alloc::Global;
 
-/// What is said at a place of a path.
+/// A text at a place of a path.
 #[derive(Drop)]
 pub struct Line {
     pub place: Place,
@@ -20,7 +20,7 @@ pub struct Explained {
     pub lines: Vec<Line>,
 }
 
-/// Whether lines are asked for of what is found at this place: everywhere, unless one place is named.
+/// Returns whether lines are asked for at this place: everywhere, unless one place is named.
 pub fn is_asked(named: Option<Place>, place: Place) -> bool
     ensures { result ≡ is_asked named place }
 {
@@ -30,9 +30,10 @@ pub fn is_asked(named: Option<Place>, place: Place) -> bool
     }
 }
 
-/// A line of these three pieces.
+/// Makes a line of these three pieces.
 ///
-/// `Memory` is answered where a growth was refused.
+/// # Errors
+/// `Memory` if out of memory.
 pub(crate) fn line_of(
     alloc: Global,
     place: Place,

@@ -23,7 +23,7 @@ use rules::Row;
 use source::Memory;
 
 impl Teller<'_> {
-    /// The instruction at a point, if there is one.
+    /// Returns the instruction at a point, if there is one.
     pub(crate) fn instruction_at(&self, point: usize) -> Option<&Instr>
         requires graph { graph_model self.now.graph.now ≡ graph_of (method_of self.now) }
         ensures { option_map (λ i. instruction_model i.now) result
@@ -35,7 +35,7 @@ impl Teller<'_> {
         }
     }
 
-    /// Adds what a step chooses, and what it changes of what is watched.
+    /// Adds the choice that a step makes, and its changes of watched variables.
     fn add_step(
         &self,
         watched: &[VarId],
@@ -55,9 +55,10 @@ impl Teller<'_> {
         self.add_changes(instr, came, watched, step, lines)
     }
 
-    /// The lines of a path from the first pair that a worker has seen along those of these places.
+    /// Returns the lines of a path: from the first pair that a worker has seen, along those at these indices.
     ///
-    /// `Memory` is answered where a growth was refused.
+    /// # Errors
+    /// `Memory` if out of memory.
     pub(crate) fn path_lines(
         &self,
         watched: &[VarId],

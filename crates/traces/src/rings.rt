@@ -1,28 +1,28 @@
-//! Rings of one sign in a contract. What a search finds is only a proposal: whoever shows it looks at each of its edges.
+//! Rings of one sign in a contract. What a search finds is only a proposal: each of its edges is checked before it is shown.
 
 use program::{Edge, Sign, StateId};
 use source::Memory;
 use std::alloc::Global;
 use std::collections::BTreeMap;
 
-/// How many edges all searches in a contract may look at: so many for each edge, and so many more. So their time is in step with the
-/// contract. In one with very many rings those of its later states are not found.
+/// The number of edges that all searches in a contract may look at: `LOOKS` for each edge, and `MORE_LOOKS` more. So their time is
+/// proportional to the contract. In one with very many rings those of its later states are not found.
 const LOOKS: usize = 8;
 
 const MORE_LOOKS: usize = 100_000;
 
-/// The edges of a contract from each state, as the latest one and, for each edge, the one before it from its state.
+/// The edges of a contract from each state, as the latest one and, for each edge, the previous one from its state.
 #[derive(Drop)]
 pub(crate) struct Rings<'a> {
     alloc: Global,
     edges: &'a [Edge],
     latest: BTreeMap<u32, usize>,
     earlier: Vec<Option<usize>>,
-    /// How many more looks searches may take.
+    /// The number of edges that searches may still look at.
     left: usize,
 }
 
-/// A search breadth first: the states reached, in order, and the edge by which each was reached first.
+/// A breadth-first search: the states reached, in order, and the edge by which each was reached first.
 #[derive(Drop)]
 struct BreadthSearch {
     reached: Vec<StateId>,
@@ -30,7 +30,7 @@ struct BreadthSearch {
 }
 
 impl<'a> Rings<'a> {
-    /// The edges of a contract.
+    /// Links the edges of a contract by state.
     pub(crate) fn of(alloc: Global, edges: &'a [Edge]) -> Result<Rings<'a>, Memory> {
         let mut latest = BTreeMap::new(alloc);
         let mut earlier = Vec::new(alloc);
@@ -46,7 +46,7 @@ impl<'a> Rings<'a> {
         })
     }
 
-    /// The numbers of edges of the sign that lead round from a state to itself, along a shortest way, or none.
+    /// Returns the indices of the edges of a shortest ring of the sign around a state; none if no ring is found.
     pub(crate) fn around(&mut self, state: StateId, sign: Sign) -> Result<Vec<usize>, Memory> {
         let mut search = BreadthSearch {
             reached: Vec::new(self.alloc),
@@ -65,7 +65,7 @@ impl<'a> Rings<'a> {
         Ok(Vec::new(self.alloc))
     }
 
-    /// Notes the states to which edges of the sign lead from a state, those that are new.
+    /// Notes the new states to which edges of the sign lead from a state.
     fn leave(
         &mut self,
         from: StateId,
@@ -90,7 +90,7 @@ impl<'a> Rings<'a> {
         Ok(())
     }
 
-    /// The edges by which a search came back to where it began.
+    /// Returns the indices of the edges by which a search came back to where it began.
     fn way_round(&self, state: StateId, search: &BreadthSearch) -> Result<Vec<usize>, Memory> {
         let mut way = Vec::new(self.alloc);
         let mut to = state;

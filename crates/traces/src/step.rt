@@ -19,14 +19,14 @@ pub(crate) struct PathStep<'a> {
 }
 
 impl PathStep<'_> {
-    /// Whether a variable has behind it what it had before.
+    /// Returns whether a variable has after the step what it had before.
     pub(crate) fn keeps(&self, variable: VarId) -> bool
         ensures { result ≡ keeps (row_model self.now.before.now) (row_model self.now.after.now) variable.0 }
     {
         leaf_of(self.before.leaves(), variable) == leaf_of(self.after.leaves(), variable)
     }
 
-    /// Whether all of these variables have what they had.
+    /// Returns whether all of these variables have what they had.
     pub(crate) fn keeps_all(&self, variables: &[VarId]) -> bool
         ensures { result ≡ list_all (λ v. keeps (row_model self.now.before.now) (row_model self.now.after.now) v.0) variables.now }
     {
@@ -38,7 +38,7 @@ impl PathStep<'_> {
         true
     }
 
-    /// Whether these endpoints have what they had, but for this one.
+    /// Returns whether these endpoints have what they had, except this one.
     pub(crate) fn keeps_others(&self, endpoints: &[Mention], own: VarId) -> bool
         ensures { result ≡ list_all (λ e. (e.variable.0 == own.0)
             || keeps (row_model self.now.before.now) (row_model self.now.after.now) e.variable.0) endpoints.now }

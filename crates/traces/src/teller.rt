@@ -1,11 +1,11 @@
-//! The method of which lines are told.
+//! The method that lines are about.
 
 use flow::Graph;
 use program::Method;
 use rules::Program;
 use std::alloc::Global;
 
-/// The method of which lines are told, and its program.
+/// The method that lines are about, and its program.
 #[derive(Clone, Copy)]
 pub(crate) struct Teller<'a> {
     pub(crate) alloc: Global,

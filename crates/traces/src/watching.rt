@@ -10,9 +10,10 @@ use rules::Reason;
 use source::Memory;
 use std::alloc::Global;
 
-/// The variables that a finding of this reason is about, where its step fails at this instruction.
+/// Returns the variables that a finding with this reason is about, if its step fails at this instruction.
 ///
-/// `Memory` is answered where a growth was refused.
+/// # Errors
+/// `Memory` if out of memory.
 pub(crate) fn watched_variables(
     alloc: Global,
     reason: Reason,

@@ -1,4 +1,4 @@
--- Expressions in memory as trees, a level at a time.
+-- Expressions in memory as trees, one level at a time.
 use Rattle.std.proofs.Common.{◌≡◌, ◌∷◌, Box, map, sym, ap, ◌∙◌}
 use Rattle.std.proofs.lemmas.Simd.{map-map}
 use Rattle.std.specs.Global.{Global}

@@ -1,4 +1,4 @@
--- Statements in memory and as trees, a form at a time.
+-- Statements in memory and as trees, one form at a time.
 use Rattle.std.proofs.Common.{◌≡◌, Box, Vec, map, sym, ap, ◌∙◌}
 use Rattle.std.specs.Prelude.{Option, None, Some}
 use Rattle.std.specs.Global.{Global}

@@ -1,4 +1,4 @@
--- Values and calls, without where they lie in memory, and their spelling.
+-- Values and calls as trees, and their grammar.
 use Rattle.std.specs.Prelude.{List, [], ◌∷◌, map, Option}
 use Rattle.source.specs.declared.kind.Kind.TheVariants as kind
 use Rattle.source.specs.declared.token.Span.{Span}
@@ -19,17 +19,17 @@ pub record CallTree : Type 0 where
   pub open_paren : Span
   pub arguments : List ExpressionTree
 
--- what is made in the heap
+-- what `new` makes: a struct or an array
 pub data MadeTree : Type 0 where
   Struct : Span → Span → List ExpressionTree → MadeTree
   Array : Scalar → ExpressionTree → MadeTree
 
--- what makes something in the heap
+-- a `new`
 pub record NewTree : Type 0 where
   pub word : Span
   pub made : MadeTree
 
--- what may stand behind "="
+-- what may follow `=`: an expression, a call or a `new`
 pub data ValueTree : Type 0 where
   Expression : ExpressionTree → ValueTree
   Call : CallTree → ValueTree
@@ -39,12 +39,12 @@ pub data ValueTree : Type 0 where
 abbrev pub call_tree : values.Call.Call → CallTree
 call_tree c = record { name = c.name; member = c.member; open_paren = c.open; arguments = map expression_tree c.arguments.items }
 
--- what is made, in memory, as a tree
+-- what `new` makes, in memory, as a tree
 abbrev pub made_tree : values.Made.Made → MadeTree
 made_tree (made.Struct name left given) = Struct name left (map expression_tree given.items)
 made_tree (made.Array element length) = Array element (expression_tree length.value)
 
--- what makes it, in memory, as a tree
+-- a `new` in memory, as a tree
 abbrev pub new_tree : values.New.New → NewTree
 new_tree n = record { word = n.word; made = made_tree n.made }
 
@@ -62,7 +62,7 @@ arguments = parens (comma_list expression)
 abbrev pub call : CallTree → List Symbol
 call c = sequence (name c.name ∷ optional dot_name c.member ∷ arguments (c.open_paren, c.arguments) ∷ [])
 
--- made_struct = ID arguments ; what is given is for the fields that own
+-- made_struct = ID arguments . The arguments are for the owning fields.
 abbrev pub made_struct : Span × Span × List ExpressionTree → List Symbol
 made_struct p = sequence (name p.0 ∷ arguments (p.1, p.2) ∷ [])
 

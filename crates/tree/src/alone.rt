@@ -1,4 +1,4 @@
-//! Expressions that are an atom or a name and nothing more.
+//! Expressions that are just an atom or just a name.
 
 ghost use Rattle.std.specs.Prelude.{◌≡◌, option_map};
 ghost use Rattle.tree.specs.Alone.{lone_atom, atom_name, lone_name};
@@ -11,7 +11,7 @@ use crate::expression::{
 };
 use source::Span;
 
-/// The name, if an expression is one and nothing more.
+/// Returns the name if an expression is just a name.
 pub fn name_alone(expression: &Expression) -> Option<Span>
     ensures { result ≡ lone_name (expression_tree expression.now) }
 {
@@ -19,7 +19,7 @@ pub fn name_alone(expression: &Expression) -> Option<Span>
     name_of(atom)
 }
 
-/// The name that an atom is, if it is one.
+/// Returns the name if an atom is just a name.
 fn name_of(atom: &Atom) -> Option<Span>
     ensures { result ≡ atom_name (atom_tree atom.now) }
 {
@@ -42,7 +42,7 @@ fn name_of_target(target: &Target) -> Option<Span>
     }
 }
 
-/// The atom, if an expression is one and nothing more.
+/// Returns the atom if an expression is just an atom.
 pub fn atom_alone(expression: &Expression) -> Option<&Atom>
     ensures { option_map (λ a. atom_tree a.now) result ≡ lone_atom (expression_tree expression.now) }
 {
@@ -52,7 +52,7 @@ pub fn atom_alone(expression: &Expression) -> Option<&Atom>
     }
 }
 
-/// The same of a disjunction.
+/// Returns the atom if a disjunction is just an atom.
 fn in_disjunction(disjunction: &Disjunction) -> Option<&Atom>
     ensures { option_map (λ a. atom_tree a.now) result ≡ lone_atom (disjunction_tree disjunction.now) }
 {
@@ -62,7 +62,7 @@ fn in_disjunction(disjunction: &Disjunction) -> Option<&Atom>
     in_conjunction(&disjunction.first)
 }
 
-/// The same of a conjunction.
+/// Returns the atom if a conjunction is just an atom.
 fn in_conjunction(conjunction: &Conjunction) -> Option<&Atom>
     ensures { option_map (λ a. atom_tree a.now) result ≡ lone_atom (conjunction_tree conjunction.now) }
 {
@@ -72,7 +72,7 @@ fn in_conjunction(conjunction: &Conjunction) -> Option<&Atom>
     in_equality(&conjunction.first)
 }
 
-/// The same of an equality.
+/// Returns the atom if an equality is just an atom.
 fn in_equality(equality: &Equality) -> Option<&Atom>
     ensures { option_map (λ a. atom_tree a.now) result ≡ lone_atom (equality_tree equality.now) }
 {
@@ -82,7 +82,7 @@ fn in_equality(equality: &Equality) -> Option<&Atom>
     in_relation(&equality.first)
 }
 
-/// The same of a relation.
+/// Returns the atom if a relation is just an atom.
 fn in_relation(relation: &Relation) -> Option<&Atom>
     ensures { option_map (λ a. atom_tree a.now) result ≡ lone_atom (relation_tree relation.now) }
 {
@@ -92,7 +92,7 @@ fn in_relation(relation: &Relation) -> Option<&Atom>
     in_sum(&relation.first)
 }
 
-/// The same of a sum.
+/// Returns the atom if a sum is just an atom.
 fn in_sum(sum: &Sum) -> Option<&Atom>
     ensures { option_map (λ a. atom_tree a.now) result ≡ lone_atom (sum_tree sum.now) }
 {
@@ -102,7 +102,7 @@ fn in_sum(sum: &Sum) -> Option<&Atom>
     }
 }
 
-/// The same of an atom with what stands before it.
+/// Returns the atom if a unary is just an atom.
 fn in_unary(unary: &Unary) -> Option<&Atom>
     ensures { option_map (λ a. atom_tree a.now) result ≡ lone_atom (unary_tree unary.now) }
 {
@@ -112,7 +112,7 @@ fn in_unary(unary: &Unary) -> Option<&Atom>
     }
 }
 
-/// The same where something stands before the atom.
+/// Returns the atom if it has no prefixes.
 fn in_prefixed(prefixed: &Prefixed) -> Option<&Atom>
     ensures { option_map (λ a. atom_tree a.now) result ≡ lone_atom (prefixed_tree prefixed.now) }
 {

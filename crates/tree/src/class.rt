@@ -33,7 +33,7 @@ pub struct Class {
 #[derive(Drop)]
 pub struct Method {
     pub access: Option<Access>,
-    /// None where it is `void`.
+    /// `None` if it is `void`.
     pub result: Option<Type>,
     pub name: Span,
     pub open: Span,

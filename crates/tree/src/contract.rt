@@ -14,7 +14,7 @@ pub struct Contract {
     pub close: Span,
 }
 
-/// What may stand behind the first state.
+/// What may follow the first state.
 #[derive(Drop)]
 pub enum Member {
     Message(Message),

@@ -1,11 +1,11 @@
-//! Trees of expressions: a level of operators a type, but for sums and terms, which share one.
+//! Trees of expressions: one type for each level of operators, except that sums and terms share one.
 
 use source::Span;
 
 /// expression = conjunction { "||" conjunction } .
 ///
-/// Most expressions are a sum, or an atom, which is a sum too. Such a one is kept without the levels between, which takes a quarter of the
-/// memory.
+/// Most expressions are a sum, or an atom, which is a sum too. These are stored without the levels between, in a
+/// quarter of the memory.
 #[derive(Drop)]
 #[cycle(expression)]
 pub enum Expression {
@@ -37,7 +37,7 @@ pub struct Equality {
     pub others: Vec<EqualityStep>,
 }
 
-/// An operator, and the relation behind it.
+/// An operator and the relation after it.
 #[derive(Drop)]
 #[cycle(expression)]
 pub struct EqualityStep {
@@ -60,7 +60,7 @@ pub struct Relation {
     pub others: Vec<RelationStep>,
 }
 
-/// An operator, and the sum behind it.
+/// An operator and the sum after it.
 #[derive(Drop)]
 #[cycle(expression)]
 pub struct RelationStep {
@@ -79,7 +79,8 @@ pub enum RelationOperator {
 
 /// sum = term { ( "+" | "-" ) term } . term = unary { "*" unary } .
 ///
-/// The terms are kept as one sequence of their factors, so that a term takes no memory of its own, and a unary alone takes no sequence.
+/// All terms are stored as one sequence of factors, so that a term takes no memory of its own. A single unary takes
+/// no sequence.
 #[derive(Drop)]
 #[cycle(expression)]
 pub enum Sum {
@@ -96,7 +97,7 @@ pub struct Factors {
     pub others: Vec<Factor>,
 }
 
-/// An operator, and the unary behind it.
+/// An operator and the unary after it.
 #[derive(Drop)]
 #[cycle(expression)]
 pub struct Factor {
@@ -134,7 +135,7 @@ pub struct Prefixed {
     pub atom: Atom,
 }
 
-/// An operator before an atom, and where it lies.
+/// An operator before an atom, and its span.
 #[derive(Clone, Copy)]
 pub struct Prefix {
     pub operator: PrefixOperator,
@@ -161,7 +162,7 @@ pub enum Atom {
 
 /// target = ID | ID "." ID | ID "[" expression "]" .
 ///
-/// What is larger than a name stands in a box, so that an atom, of which most are a name or a number, takes little.
+/// Variants larger than a name are boxed, so that atoms, which are mostly names and numbers, stay small.
 #[derive(Drop)]
 #[cycle(expression)]
 pub enum Target {

@@ -1,4 +1,4 @@
-//! Syntax trees: one node a rule of the grammar, every optional piece a field.
+//! Syntax trees: one node for each rule of the grammar, with a field for each optional part.
 
 ghost use Rattle.std.specs.Prelude.{◌≡◌};
 ghost use Rattle.tree.specs.Trees.{defined_name, definition_tree};
@@ -29,7 +29,7 @@ pub enum Definition {
 }
 
 impl Definition {
-    /// The name that it declares.
+    /// Returns the name that it declares.
     pub fn name(&self) -> Span
         ensures { result ≡ defined_name (definition_tree self.now) }
     {

@@ -13,7 +13,7 @@ pub struct Block {
     pub close: Span,
 }
 
-/// A statement. What is larger than a block stands in a box, so that a list of statements takes little for each.
+/// A statement. Variants larger than a block are boxed, so that an element of a list of statements stays small.
 #[cycle(statement)]
 #[derive(Drop)]
 pub enum Statement {
@@ -25,7 +25,7 @@ pub enum Statement {
     Switch(Box<Switch>),
 }
 
-/// A statement that holds no others. A word, as `break` or `return`, is kept by where it lies.
+/// A statement that contains no other. A word such as `break` or `return` is stored as its span.
 #[derive(Drop)]
 pub enum Plain {
     Declare(Box<Declare>),
@@ -96,7 +96,7 @@ pub struct If {
     pub otherwise: Option<Block>,
 }
 
-/// A condition of an `if` or a `while`, with the word before it and the block behind it.
+/// A condition of an `if` or a `while`, with the word before it and the block after it.
 #[cycle(statement)]
 #[derive(Drop)]
 pub struct Test {

@@ -34,7 +34,7 @@ pub enum Made {
     Struct {
         name: Span,
         open: Span,
-        /// What is given for the fields that own.
+        /// The arguments for the owning fields.
         arguments: Vec<Expression>,
     },
     Array {

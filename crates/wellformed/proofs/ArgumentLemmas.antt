@@ -1,4 +1,4 @@
--- What is given for the parameters of a method.
+-- Arguments for the parameters of methods and messages.
 use Rattle.std.proofs.Common.{◌≡◌, ℕ, Bool, true, false, List, [], ◌∷◌, ◌++◌, length, map, if◌then◌else◌, sym, refl, ap, ◌∙◌, subst, arith}
 use Rattle.std.specs.List.{flat_map}
 use Rattle.std.specs.Option.{option_map_or}
@@ -37,7 +37,7 @@ use Rattle.wellformed.proofs.FindingLemmas.{unless_none}
 use Rattle.wellformed.proofs.MentionLemmas.{scalar_not_mentioned}
 use Rattle.wellformed.proofs.HeapTypeLemmas.{type_known, agree_alike, alike_block, alike_held, scalar_holds, block_holds, Holding}
 
--- an argument for each of these headings, of its type, and claimed where the parameter is
+-- an argument for each of these headings, of its type, and claimed if the parameter is
 abbrev pub GivenFor : Setting → List (HeapType × Role) → List Argument → Type 0
 GivenFor s [] [] = Unit {0}
 GivenFor s [] (a ∷ given) = ⊥
@@ -50,7 +50,7 @@ given_sequences s [] (a ∷ given) h = h
 given_sequences s (v ∷ vs) [] h = h
 given_sequences s (v ∷ vs) (a ∷ given) h = (h.0, given_sequences s vs given h.1)
 
--- they are given for parameters that have these headings
+-- the arguments fit parameters with these headings
 pub given_parameters : (s : Setting) (vs : List VariableModel) (headings : List (HeapType × Role)) (given : List Argument) → map (λ v. (v.ty, v.role)) vs ≡ headings
     → GivenFor s headings given → AreGiven s vs given
 given_parameters s vs headings given is h = given_sequences s vs given (subst (λ x. GivenFor s x given) (sym is) h)
@@ -90,11 +90,11 @@ block_given p class s f g standing e none block =
       holds = subst (λ k. IsHeld p k l.mentioned.variable.ty) (sym l.ty) l.mentioned.holds;
     }
 
--- a variable that is there holds a block of a type
+-- a variable of the method holds a block of this type
 pub holds_there : (s : Setting) (k : HeapType) (m : Mention) (v : VariableModel) → slice_get s.variables m.variable.0 ≡ Some v → same_type v.ty k ≡ true → Holds s k m.variable
 holds_there s k m v there same = subst (λ o. IsSomeAnd o (λ x. same_type x.ty k ≡ true)) (sym there) same
 
--- an expression of which a type is asked
+-- an expression that must have a type
 pub record IsAsked (p : ProgramText) (g : names.NameFrame) (k : declared.ValueType.ValueType) (e : ExpressionTree) : Type 0 where
   pub whole : whole_mistakes (scope_of p g) (shape e) ≡ []
   pub like : alike (type_of (scope_of p g) (shape e)) k ≡ true
@@ -108,12 +108,12 @@ asked_known p vs f g standing k e known none =
       like = agree_alike p (type_of (scope_of p g) (shape e)) k (whole_known p vs f g standing (shape e) both.0) known (unless_none _ (agree (type_of (scope_of p g) (shape e)) k) (place_of (shape e)) both.1);
     }
 
--- a scalar for a scalar: nothing is given
+-- for a scalar parameter: the expression gives no block
 pub asked_scalar : (p : ProgramText) (class : ℕ) (vs : List VariableModel) (f : LocalFrame) (g : names.NameFrame) → AreStanding p vs f g → (k : declared.ValueType.ValueType) (e : ExpressionTree)
     → IsAsked p g k e → is_block k ≡ false → lone p class f e ≡ None
 asked_scalar p class vs f g standing k e asked scalar = scalar_lone p class vs f g standing e asked.whole (alike_block (type_of (scope_of p g) (shape e)) k asked.like ∙ scalar)
 
--- a block for a block: a variable that holds one of its type
+-- for a parameter of the exchange heap: a variable that holds a block of its type
 pub record IsBlockGiven (p : ProgramText) (class : ℕ) (s : Setting) (f : LocalFrame) (held : HeapType) (e : ExpressionTree) : Type 0 where
   pub mention : Mention
   pub is : lone p class f e ≡ Some mention
@@ -140,7 +140,7 @@ given_with p class s f x e o m hs gs held lone_is h =
     subst (λ y. GivenFor s (option_map_or (λ k. (k, role_of x) ∷ []) y [] ++ hs) (argument_of x (lone p class f e) ++ gs)) (sym held)
     (subst (λ y. GivenFor s (option_map_or (λ k. (k, role_of x) ∷ []) o [] ++ hs) (argument_of x y ++ gs)) (sym lone_is) h)
 
--- what is given for one parameter, and then what is given for others
+-- the argument for one parameter, then those for the others
 one_given : (p : ProgramText) (class : ℕ) (s : Setting) (f : LocalFrame) (g : names.NameFrame) → AreStanding p s.variables f g → (x : Parameter) (e : ExpressionTree)
     → type_unknown p x.ty ≡ [] → IsAsked p g (type_meant p x.ty) e → (b : Bool) → is_block (type_meant p x.ty) ≡ b
     → (hs : List (HeapType × Role)) (gs : List Argument) → GivenFor s hs gs → GivenFor s (heading p x ++ hs) (argument_of x (lone p class f e) ++ gs)
@@ -151,7 +151,7 @@ one_given p class s f g standing x e known asked true block hs gs rest =
     let b = asked_block p class s f g standing (type_meant p x.ty) h.held e asked block (record { state = state_in x.ty; is = h.is }) in
     given_with p class s f x e (Some h.held) (Some b.mention) hs gs h.is b.is ((b.holds, claimed_role x.claims), rest)
 
--- what is given for the parameters of a method
+-- the arguments for the parameters of a method
 pub arguments_given : (p : ProgramText) (class : ℕ) (s : Setting) (f : LocalFrame) (g : names.NameFrame) → AreStanding p s.variables f g → (params : List Parameter) (es : List ExpressionTree)
     → Each (λ x. type_unknown p x.ty ≡ []) params → length params ≡ length es → argument_mistakes (scope_of p g) (map (λ x. type_meant p x.ty) params) (map shape es) ≡ []
     → GivenFor s (flat_map (heading p) params) (arguments p class f params es)
@@ -164,12 +164,12 @@ arguments_given p class s f g standing (x ∷ params) (e ∷ es) known many none
     let rest = arguments_given p class s f g standing params es known.1 (omega (arith, many)) both.1 in
     one_given p class s f g standing x e known.0 asked (is_block k) refl (flat_map (heading p) params) (arguments p class f params es) rest
 
--- what arguments read
+-- the variables that arguments read
 pub reads_mentioned : (p : ProgramText) (class : ℕ) (s : Setting) (f : LocalFrame) (g : names.NameFrame) → AreStanding p s.variables f g → (es : List ExpressionTree) → Each (IsMention s) (argument_reads p class f es)
 reads_mentioned p class s f g standing [] = tt
 reads_mentioned p class s f g standing (e ∷ es) = each_append (IsMention s) (reads p.text f.locals e) (argument_reads p class f es) (reads_within p s.variables f g standing e) (reads_mentioned p class s f g standing es)
 
--- what is given for one parameter of a message, and then what is given for others
+-- the argument for one parameter of a message, then those for the others
 payload_with : (p : ProgramText) (class : ℕ) (s : Setting) (f : LocalFrame) (x : MessageParameter) (e : ExpressionTree) (o : Option HeapType) (m : Option Mention) (ks : List HeapType) (ms : List Mention)
     → type_held p x.ty ≡ o → lone p class f e ≡ m → HoldAll s (held_listed o ++ ks) (map (λ y. y.variable) (mention_list m ++ ms))
     → HoldAll s (held_listed (type_held p x.ty) ++ ks) (map (λ y. y.variable) (mention_list (lone p class f e) ++ ms))
@@ -187,7 +187,7 @@ one_payload p class s f g standing x e known asked true block ks ms rest =
     let b = asked_block p class s f g standing (type_meant p x.ty) h.held e asked block (record { state = state_in x.ty; is = h.is }) in
     payload_with p class s f x e (Some h.held) (Some b.mention) ks ms h.is b.is (b.holds, rest)
 
--- what is given for the parameters of a message
+-- the arguments for the parameters of a message
 pub payloads_given : (p : ProgramText) (class : ℕ) (s : Setting) (f : LocalFrame) (g : names.NameFrame) → AreStanding p s.variables f g → (params : List MessageParameter) (es : List ExpressionTree)
     → Each (λ x. type_unknown p x.ty ≡ []) params → length params ≡ length es → argument_mistakes (scope_of p g) (map (λ x. type_meant p x.ty) params) (map shape es) ≡ []
     → HoldAll s (params_held p params) (map (λ y. y.variable) (payloads p class f es))

@@ -1,4 +1,4 @@
--- What a case binds: it comes into scope.
+-- The names that a case binds come into scope.
 use Rattle.std.proofs.Common.{◌≡◌, List, [], ◌∷◌, ◌++◌, length, refl, arith}
 use Rattle.std.specs.Prelude.{Option, None, Some}
 use Rattle.source.specs.declared.token.Span.{Span}
@@ -32,13 +32,13 @@ use Rattle.wellformed.proofs.LeadLemmas.{leads_here, leads_then}
 use Rattle.wellformed.proofs.ScopeLemmas.{declared_inner, declared_local, declared_stands}
 use Rattle.wellformed.proofs.Standing.{AreStanding, Within, declares, last_of}
 
--- what is bound comes into scope in turn
+-- the bound names come into scope in turn
 pub record Binding (p : ProgramText) (vs : List VariableModel) (f after : LocalFrame) (behind : names.NameFrame) (bound : List VarId) : Type 0 where
   pub standing : AreStanding p vs after behind
   pub inner : LeadsOut vs (last_of after) (last_of f)
   pub turn : InTurn vs (last_of f) bound (last_of after)
 
--- what is bound behind a variable, with this one before it
+-- the names bound after a variable, with this one before them
 next_bound : (p : ProgramText) (vs : List VariableModel) (name : Span) (ty : ValueType) (held : Option held.HeapType.HeapType) (f after : LocalFrame) (behind : names.NameFrame) (bound : List VarId)
     → Within vs (declares p.text name ty held Local f) → Binding p vs (declares p.text name ty held Local f) after behind bound → Binding p vs f after behind (one_number (next_number held f) ++ bound)
 next_bound p vs name ty None f after behind bound within rest = record { standing = rest.standing; inner = rest.inner; turn = rest.turn }
@@ -56,7 +56,7 @@ bind_bound : (p : ProgramText) (vs : List VariableModel) (param : Option Message
 bind_bound p vs param name (Some t) f after behind bound within rest = next_bound p vs name (type_meant p t) (type_held p t) f after behind bound within rest
 bind_bound p vs param name None f after behind bound within rest = next_bound p vs name (brought_type p param) (heap_type p (brought_type p param) None) f after behind bound within rest
 
--- A name that a case binds comes into scope. What the message brings for it counts where it is of the exchange heap.
+-- A name that a case binds comes into scope. What the message brings for it counts if it is of the exchange heap.
 bind_stands : (p : ProgramText) (vs : List VariableModel) (x : MessageParameter) (name : Span) (ty : Option type_nodes.Type.Type) (f : LocalFrame) (g : names.NameFrame)
     → type_unknown p x.ty ≡ [] → AreStanding p vs f g → Within vs (with_declaration p.text (bound_as p (Some x) name ty) f) → (bind_turn p (Some x) name ty g).found ≡ []
     → AreStanding p vs (with_declaration p.text (bound_as p (Some x) name ty) f) (bind_turn p (Some x) name ty g).frame

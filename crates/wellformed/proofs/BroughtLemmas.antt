@@ -1,4 +1,4 @@
--- What messages bring, and the variables that take it.
+-- The payloads of messages, and the variables that take them.
 use Rattle.std.proofs.Common.{◌≡◌, Bool, true, false, List, [], ◌∷◌, ◌++◌, length, map, sym, refl, ap, ◌∙◌, subst, arith}
 use Rattle.std.specs.List.{flat_map}
 use Rattle.std.specs.Prelude.{Option, None, Some, option_map, slice_get, IsSomeAnd}
@@ -34,7 +34,7 @@ use Rattle.wellformed.proofs.FindingLemmas.{unless_none}
 use Rattle.wellformed.proofs.PlaceLemmas.{at_seam}
 use Rattle.wellformed.proofs.Standing.{IsKnown, Within, declares}
 
--- a variable that is declared takes its number
+-- a declared variable takes its number
 declared_at : (p : ProgramText) (s : Setting) (name : Span) (ty : ValueType) (x : held.HeapType.HeapType) (k : held.HeapType.HeapType) (f : LocalFrame) → same_type x k ≡ true → Within s.variables (declares p.text name ty (Some x) Local f)
     → Holds s k (number_of (length f.variables))
 declared_at p s name ty x k f same within =
@@ -42,7 +42,7 @@ declared_at p s name ty x k f same within =
     let there = ap (λ vs. slice_get vs (length f.variables)) within.is ∙ at_seam f.variables within.rest v in
     subst (λ o. IsSomeAnd o (λ y. same_type y.ty k ≡ true)) (sym there) same
 
--- one name for one parameter, and then others for others
+-- one name for one parameter, then others for the others
 one_with : (p : ProgramText) (s : Setting) (name : Span) (ty : ValueType) (f : LocalFrame) (o x : Option held.HeapType.HeapType) (h y : Option held.HeapType.HeapType) (ks : List held.HeapType.HeapType) (vs : List VarId) → o ≡ h → x ≡ y
     → HoldAll s (held_listed y ++ ks) (one_number (next_number h f) ++ vs) → HoldAll s (held_listed x ++ ks) (one_number (next_number o f) ++ vs)
 one_with p s name ty f o x h y ks vs own asked all =
@@ -75,7 +75,7 @@ bound_holds p s x name None f g known within none ks vs rest =
     let k = type_meant p x.ty in
     one_holds p s name k k None (state_in x.ty) f (is_block k) refl (alike_self p k known) known known within ks vs rest
 
--- what a case binds takes what its message brings
+-- the names that a case binds take the payload of its message
 pub binds_hold : (p : ProgramText) (s : Setting) (params : List MessageParameter) (binds : List made.Bind.Bind) (f : LocalFrame) (g : names.NameFrame)
     → Within s.variables (binds_told p params binds f).frame → Each (λ x. type_unknown p x.ty ≡ []) params → length params ≡ length binds
     → (binds_turn p params binds g).found ≡ [] → HoldAll s (params_held p params) (binds_told p params binds f).what
@@ -91,12 +91,12 @@ binds_hold p s (x ∷ params) (b ∷ binds) f g within known many none =
     let rest = binds_hold p s params binds next turned.frame within known.1 fewer clean.1 in
     bound_holds p s x b.name b.ty f g (type_known p x.ty known.0) here clean.0 (params_held p params) (binds_told p params binds next).what rest
 
--- what is of a type of the exchange heap stands for something
+-- in a type of the exchange heap, the contract and the state exist
 pub types_meant : (p : ProgramText) (t : type_nodes.Type.Type) (o : Option held.HeapType.HeapType) → type_held p t ≡ o → Each (IsType (resolved_contracts p.text (contracts_of p.items))) (held_listed o)
 types_meant p t None is = tt
 types_meant p t (Some h) is = (held_type p (type_meant p t) h (record { state = state_in t; is = is }), tt)
 
--- so does what messages bring
+-- so they do in payloads
 params_types : (p : ProgramText) (params : List MessageParameter) → Each (IsType (resolved_contracts p.text (contracts_of p.items))) (params_held p params)
 params_types p [] = tt
 params_types p (x ∷ params) = each_append (IsType (resolved_contracts p.text (contracts_of p.items))) (held_listed (type_held p x.ty)) (params_held p params) (types_meant p x.ty (type_held p x.ty) refl) (params_types p params)

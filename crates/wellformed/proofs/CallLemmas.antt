@@ -1,4 +1,4 @@
--- Calls with which nothing is wrong.
+-- Calls without mistakes.
 use Rattle.std.proofs.Common.{◌≡◌, ℕ, Bool, true, List, [], ◌∷◌, ◌++◌, length, map, if◌then◌else◌, sym, refl, ap, ◌∙◌, subst, ◌⊎◌, inl, inr}
 use Rattle.std.proofs.lemmas.List.{length-map}
 use Rattle.std.specs.List.{flat_map}
@@ -37,7 +37,7 @@ use Rattle.wellformed.proofs.ScopeLemmas.{same_named}
 use Rattle.wellformed.proofs.SendLemmas.{SendsMessage, local_call}
 use Rattle.wellformed.proofs.Standing.{Around, AreStanding, IsKnown, IsMethod, heading, named, scope_of}
 
--- a call that names a method, among whose arguments nothing is wrong, and which is so
+-- a call of a method for which `Is` holds, with arguments without mistakes
 pub record CallsMethod (p : ProgramText) (class : ℕ) (f : LocalFrame) (g : names.NameFrame) (Is : MethodTree → Type 0) (c : CallTree) : Type 0 where
   pub method : MethodTree
   pub number : ℕ
@@ -120,7 +120,7 @@ named_call : (p : ProgramText) (class : ℕ) (f : LocalFrame) (g : names.NameFra
 named_call p class f g role c word Is fits member free None there none = cc
 named_call p class f g role c word Is fits member free (Some x) there none = class_call p class f g role c word Is fits member free x.0 x.1 there (method_named p.text x.1 word) refl none
 
--- What a call with which nothing is wrong means: a method that is as its role asks, or a send, which stands alone.
+-- A call without mistakes is of a method that fits its role, or a send, which is a statement of its own.
 abbrev Means : ProgramText → ℕ → Setting → LocalFrame → names.NameFrame → (MethodTree → Type 0) → Bool → CallTree → Type 0
 Means p class s f g Is alone c = CallsMethod p class f g Is c ⊎ ((alone ≡ true) × SendsMessage p class s f c)
 
@@ -150,7 +150,7 @@ pub call_means : (p : ProgramText) (t : ClassTree) (class : ℕ) (result : Optio
     → (Is : MethodTree → Type 0) → ((n : MethodTree) (name : Span) → start_mistakes n role name ≡ [] → (F : Option tree.Type.Type → Bool) → ((r : Option tree.Type.Type) → F r ≡ result_fits p r role) → F n.result ≡ true → Is n) → Means p class s f g Is (is_alone role) c
 call_means p t class result s f g role c around standing none Is fits = front_means p t class result s f g role c Is fits around standing c.member refl none
 
--- a call of a method whose result is taken so
+-- a call of a method whose result is used like this
 pub call_of_fits : (p : ProgramText) (t : ClassTree) (class : ℕ) (result : Option tree.Type.Type) (s : Setting) (f : LocalFrame) (g : names.NameFrame) (c : CallTree) (target : Option Mention) (behind : List Mention) (Is : MethodTree → Type 0)
     → Around p t class result s → AreStanding p s.variables f g → (x : CallsMethod p class f g Is c) → IsTarget s (result_held p x.method.result) target → Each (IsMention s) behind
     → IsCallOf s (call_of p class f c target behind (record { number = x.number; method = x.method })) (method_told p x.told.class x.method)

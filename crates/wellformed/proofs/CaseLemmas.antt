@@ -30,17 +30,17 @@ use Rattle.wellformed.proofs.MentionLemmas.{held_known}
 use Rattle.wellformed.proofs.ListLemmas.{both_none, each_append}
 use Rattle.wellformed.proofs.Standing.{AreStanding, IsKnown, scope_of}
 
--- nothing is wrong with the heads of cases, behind these others of the same switch
+-- the heads of cases have no mistakes, given these others before them in the same switch
 abbrev pub HeadsClean : ProgramText → names.NameFrame → List Head → List Head → List Head → Type 0
 HeadsClean p g all before [] = Unit {0}
 HeadsClean p g all before (h ∷ heads) = (head_mistakes (scope_of p g) all before h ≡ []) × HeadsClean p g all (before ++ h ∷ []) heads
 
--- that depends on what is in scope alone
+-- this depends only on what is in scope
 heads_kept : (p : ProgramText) (g h : names.NameFrame) (all before heads : List Head) → scope_of p g ≡ scope_of p h → HeadsClean p g all before heads → HeadsClean p h all before heads
 heads_kept p g h all before [] same clean = tt
 heads_kept p g h all before (x ∷ heads) same clean = (subst (λ s. head_mistakes s all before x ≡ []) same clean.0, heads_kept p g h all (before ++ x ∷ []) heads same clean.1)
 
--- so it is where nothing is wrong with the cases
+-- it holds if the cases have no mistakes
 pub heads_clean : (m : Surroundings) (all before : List Head) (cases : CaseTrees) (f : names.NameFrame) → (cases_turn m all before cases f).found ≡ [] → HeadsClean m.program f all before (heads_of cases)
 heads_clean m all before NoCase f none = tt
 heads_clean m all before (MoreCases (Case word endpoint awaited left binds statements) cases) f none =
@@ -51,11 +51,11 @@ heads_clean m all before (MoreCases (Case word endpoint awaited left binds state
       heads_kept m.program here.frame f all (before ++ h ∷ []) (heads_of cases) refl (heads_clean m all (before ++ h ∷ []) cases here.frame parts.1),
     )
 
--- two names that are written alike
+-- two names with the same spelling
 same_words : (text : List ℕ) (a b : Span) → same_name text a b ≡ true → word_at text a ≡ word_at text b
 same_words text a b same = (bytes_decides (word_at text a) (word_at text b)).0 same
 
--- whatever word says so, a close is a close
+-- all closes are alike, whatever their spans
 closed_alike : (text : List ℕ) (a b : Span) (x : Awaited) → same_awaited text x (Closed a) ≡ same_awaited text x (Closed b)
 closed_alike text a b (Message m) = refl
 closed_alike text a b (Closed word) = refl
@@ -67,11 +67,11 @@ awaits_same text (x ∷ heads) a b same =
     ∙ ap (λ r. (same_name text x.endpoint b && r) || awaits_closed text a heads) (closed_alike text a b x.awaited)
     ∙ ap (λ r. (same_name text x.endpoint b && same_awaited text x.awaited (Closed b)) || r) (awaits_same text heads a b same)
 
--- one of all heads awaits the close of this one's endpoint
+-- one of all heads awaits the close of this head's endpoint
 abbrev HasClose : List ℕ → List Head → Head → Type 0
 HasClose text all h = awaits_closed text h.endpoint all ≡ true
 
--- so it is for an endpoint that one of those names for which it is
+-- if this holds for the heads before, it holds for each endpoint that one of them names
 named_closes : (text : List ℕ) (all before : List Head) (name : Span) → Each (HasClose text all) before → names_endpoint text name before ≡ true → awaits_closed text name all ≡ true
 named_closes text all [] name close named = cc
 named_closes text all (x ∷ before) name close named = ⊎_elim
@@ -83,7 +83,7 @@ other_wrong : (k : ValueType) (h : Head) (a : Awaited) → other_mistakes k h a 
 other_wrong k h (Message word) none = cc
 other_wrong k h (Closed word) none = cc
 
--- a head with which nothing is wrong names an endpoint, and this does not lack its close
+-- if the head of a case has no mistakes, the close of its endpoint is awaited
 no_lack : (p : ProgramText) (s : InScope) (all before : List Head) (h : Head) (k : ValueType) → IsKnown p k → type_head_mistakes s all before k h ≡ [] → lack_mistakes s all before h ≡ []
 no_lack p s all before h (ty.Endpoint end n) known none = (both_none (awaited_mistakes s before end n h h.awaited) (lack_mistakes s all before h) none).1
 no_lack p s all before h (ty.Scalar t) known none = absurd (other_wrong (ty.Scalar t) h h.awaited none)
@@ -120,7 +120,7 @@ number_alone : (name : Span) (o : Option ℕ) → (option_map_or (λ m. m) (opti
 number_alone name None = refl
 number_alone name (Some n) = refl
 
--- names that are written alike have one number
+-- names with the same spelling have one number
 same_number : (p : ProgramText) (f : LocalFrame) (a b : Span) → word_at p.text a ≡ word_at p.text b → end_number p f a ≡ end_number p f b
 same_number p f a b same =
     number_alone a (number_written p.text f.locals (word_at p.text a))
@@ -131,7 +131,7 @@ not_here : (a b : Bool) → ((a && false) || b) ≡ true → b ≡ true
 not_here true b is = is
 not_here false b is = is
 
--- where a head awaits the close of an endpoint, the case for its close is there
+-- if a head awaits the close of an endpoint, there is a case for its close
 close_there : (p : ProgramText) (class : ℕ) (stays : Staying) (cases : CaseTrees) (close : Place) (f : LocalFrame) (name : Span) → awaits_closed p.text name (heads_of cases) ≡ true
     → is_among (closes (cases_told p class stays cases close f).what) (end_number p f name) ≡ true
 close_there p class stays NoCase close f name awaits = cc
@@ -156,7 +156,7 @@ ends_close p class stays (MoreCases (Case word endpoint awaited left binds state
   ends_close p class stays cases close (case_told p class stays (behind_case cases close) (Case word endpoint awaited left binds statements) f).frame all numbers there each.1,
 )
 
--- then each endpoint has a case for its close
+-- so each endpoint has a case for its close
 pub all_close : (p : ProgramText) (class : ℕ) (vs : List VariableModel) (stays : Staying) (first : CaseTree) (cases : CaseTrees) (close : Place) (f : LocalFrame) (g : names.NameFrame) → AreStanding p vs f g
     → HeadsClean p g (head_of first ∷ heads_of cases) [] (head_of first ∷ heads_of cases)
     → Each (λ e. is_among (closes (cases_told p class stays (MoreCases first cases) close f).what) e ≡ true) (endpoints (cases_told p class stays (MoreCases first cases) close f).what)

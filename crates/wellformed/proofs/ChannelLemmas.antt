@@ -1,4 +1,4 @@
--- New channels with which nothing is wrong.
+-- New channels without mistakes.
 use Rattle.std.proofs.Common.{◌≡◌, ℕ, eq-eqb, ◌==◌, ◌&&◌, ◌||◌, Bool, true, false, not, List, [], ◌∷◌, ◌++◌, sym, refl, ap, ◌∙◌, subst}
 use Rattle.std.proofs.lemmas.Bool.{eqb-true}
 use Rattle.std.specs.Option.{option_map_or}
@@ -35,7 +35,7 @@ use Rattle.wellformed.proofs.ListLemmas.{both_none}
 use Rattle.wellformed.proofs.Standing.{AreStanding, Around, IsHeld, IsKnown, last_of, scope_of}
 use Rattle.lemmas.proofs.Bools.{both_true}
 
--- a type that is that of an end of this contract
+-- the type of an end of this contract
 record IsEndType (n : ℕ) (k : declared.ValueType.ValueType) : Type 0 where
   pub side : Side
   pub is : k ≡ ty.Endpoint side n
@@ -61,7 +61,7 @@ right_of true b c quiet h = cc
 right_of false true c quiet h = h
 right_of false false c quiet h = cc
 
--- two variables that hold ends of a contract, and not the same one
+-- two variables that hold ends of a contract, and are different
 ends_fit : (p : ProgramText) (n : ℕ) (a b : Side) (x y : HeapType) → HoldsEnd p n a x → HoldsEnd p n b y → not (is_end_of n (ty.Endpoint a n) && same_end (ty.Endpoint a n) (ty.Endpoint b n)) ≡ true
     → are_ends (contract_number p n).0 x y ≡ true
 ends_fit p n a b x y left right differ =
@@ -70,7 +70,7 @@ ends_fit p n a b x y left right differ =
     let ends = both_true (k.0 == k.0) ((k.0 == k.0) && not (same_side a b)) (same_number k.0) (both_true (k.0 == k.0) (not (same_side a b)) (same_number k.0) apart) in
     subst (λ z. are_ends k.0 z y ≡ true) (sym left.is) (subst (λ z. are_ends k.0 (Endpoint k a left.state) z ≡ true) (sym right.is) ends)
 
--- the contract of an end that is known
+-- the contract of a known end
 channel_contract : (p : ProgramText) (contract : Span) (c : Numbered ContractTree) (side : Side) → items.contract_named p contract ≡ Some c → IsKnown p (ty.Endpoint side c.0) → contract_named p contract ≡ Some (contract_number p c.0)
 channel_contract p contract c side named known =
     let has : HasContract p c.0 = contract_known p c.0 side known in
@@ -109,7 +109,7 @@ found_fits p class s f g n c named here standing first second none =
           (subst (λ o. IsSomeAnd o (λ y. are_ends (contract_number p c.0).0 v.variable.ty y.ty ≡ true)) (sym w.there) ends),
     )
 
--- what is wrong with the ends, if the contract is declared
+-- the mistakes in the ends, if the contract is declared
 abbrev ends_asked : ProgramText → names.NameFrame → made.NewChannel.NewChannel → Option (Numbered ContractTree) → List Mistake
 ends_asked p g n o = option_map_or (λ c. ends_mistakes c.0 (type_named (scope_of p g) n.first) (type_named (scope_of p g) n.second) n.first n.second) o (Unknown n.contract sort.Contract ∷ [])
 

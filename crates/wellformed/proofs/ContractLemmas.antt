@@ -1,4 +1,4 @@
--- The contracts of a program by their places among the items.
+-- The contracts of a program by their indices among the items.
 use Rattle.std.proofs.Common.{◌≡◌, ℕ, zero, suc, ◌+◌, Bool, true, false, List, [], ◌∷◌, ◌++◌, length, take, drop, ap, refl, subst, sym, ◌∙◌, append_assoc, arith}
 use Rattle.std.proofs.lemmas.Grind.{flat_map-append}
 use Rattle.std.proofs.lemmas.Option.{same_Some, slice_get-map}
@@ -23,7 +23,7 @@ use Rattle.resolving.specs.Messages.{Meant, message_named, message_number, messa
 use Rattle.program.specs.WellFormed.{IsStateOf, IsMessageOf}
 use Rattle.wellformed.proofs.PlaceLemmas.{slice_behind, slice_front}
 
--- what something adds in a list, where these stand before it
+-- what an element of a list adds, given the elements before it
 record Adds {X Y : Type 0} (adds : List X → X → Y) (all : List X) (x : X) (o : Option Y) : Type 0 where
   before : List X
   rest : List X
@@ -37,7 +37,7 @@ added_at adds before (y ∷ xs) (suc k) x is =
     let later = added_at adds (before ++ y ∷ []) xs k x is in
     record { before = later.before; rest = later.rest; split = sym (append_assoc before (y ∷ []) xs) ∙ later.split; is = later.is }
 
--- each thing that is added is added by something
+-- each added thing comes from an element
 record AddedBy {X Y : Type 0} (adds : List X → X → Y) (y : Y) : Type 0 where
   before : List X
   by : X
@@ -48,7 +48,7 @@ added_by adds before [] k y is = cc
 added_by adds before (x ∷ xs) zero y is = record { before = before; by = x; is = sym (same_Some (adds before x) y is) }
 added_by adds before (x ∷ xs) (suc k) y is = added_by adds (before ++ x ∷ []) xs k y is
 
--- a contract with its names resolved, where these stand before it
+-- a contract with its names resolved, given the contracts before it
 abbrev pub seen : List ℕ → List ContractTree → ContractTree → ContractModel
 seen text before c = resolved_contract text (message_count before) (state_count before) c.name (messages_of c) (states_of c)
 
@@ -62,14 +62,14 @@ defined_here (Contract x) m y rest is = ap (option_map (λ z. z.1)) is
 defined_here (Struct s) m y rest is = cc
 defined_here (Class s) m y rest is = cc
 
--- the contract of an item stands at its place among the contracts
+-- the contract of an item is at its index among the contracts
 counted_there : (items : List ItemTree) (n m : ℕ) (y : ℕ × ContractTree) → option_and_then (λ i. option_map (λ x. (m, x)) (as_contract i.definition)) (slice_get items n) ≡ Some y
     → slice_get (contracts_of items) (contracts_before items n) ≡ Some y.1
 counted_there [] n m y is = cc
 counted_there (i ∷ items) zero m y is = defined_here i.definition m y (contracts_of items) is
 counted_there (i ∷ items) (suc n) m y is = passed_over i.definition (contracts_of (take n items)) (contracts_of items) ∙ counted_there items n m y is
 
--- the contract that is the item at this place, with its names resolved
+-- the contract that is the item at this index, with its names resolved
 pub record IsContractAt (p : ProgramText) (n : ℕ) (c : ContractTree) : Type 0 where
   pub before : List ContractTree
   pub rest : List ContractTree
@@ -103,7 +103,7 @@ state_there p n r state is =
     let added : AddedBy (seen p.text) r = added_by (seen p.text) [] (contracts_of p.items) (contracts_before p.items n) r is in
     state_meant p n r state (subst (λ c. IsStateOf c c.parts.first) (sym added.is) (first_state_of p.text added.before added.by))
 
--- a look-up answers this message of the contract, with its number
+-- a look-up returns this message of the contract, with its number
 pub record AnswersMessage (p : ProgramText) (n : ℕ) (o : Option Meant) (m : MessageTree) : Type 0 where
   pub meant : Meant
   pub is : o ≡ Some meant
@@ -111,7 +111,7 @@ pub record AnswersMessage (p : ProgramText) (n : ℕ) (o : Option Meant) (m : Me
   pub of : (r : ContractModel) → contract_at p n ≡ Some r → IsMessageOf r meant.id
   pub brings : slice_get (messages_told p) meant.id.0 ≡ Some (payload_types p m)
 
--- what it brings stands at its number
+-- the payload of a message is at its number
 brought_there : (p : ProgramText) (n k : ℕ) (c : ContractTree) (m : MessageTree) → (at : IsContractAt p n c) → slice_get (messages_of c) k ≡ Some m
     → slice_get (messages_told p) (message_count at.before + k) ≡ Some (payload_types p m)
 brought_there p n k c m at there =
@@ -120,7 +120,7 @@ brought_there p n k c m at there =
     let found = ap (λ ms. slice_get ms (message_count at.before + k)) all ∙ slice_behind (flat_map messages_of at.before) (messages_of c ++ rest) k ∙ slice_front (messages_of c) rest k m there in
     slice_get-map (payload_types p) (flat_map messages_of (contracts_of p.items)) (message_count at.before + k) ∙ ap (option_map (payload_types p)) found
 
--- a message at its place among those of its contract
+-- a message at its index among those of its contract
 record IsNumbered (text : List ℕ) (first : ℕ) (messages : List MessageTree) (k : ℕ) (m : MessageTree) : Type 0 where
   is : slice_get (messages_from text first messages) k ≡ Some (numbered_message text (first + k) m)
 

@@ -1,4 +1,4 @@
--- Exchanges with which nothing is wrong.
+-- Exchanges without mistakes.
 use Rattle.std.proofs.Common.{◌≡◌, ℕ, Bool, true, false, ◌||◌, List, [], ◌∷◌, ◌++◌, if◌then◌else◌, length, map, sym, refl, ap, ◌∙◌, subst}
 use Rattle.std.specs.Option.{option_map_or}
 use Rattle.std.specs.Prelude.{Option, None, Some, is_some, option_map, option_and_then, slice_get, take, IsSomeAnd}
@@ -38,7 +38,7 @@ use Rattle.wellformed.proofs.MentionLemmas.{IsMeant, block_mentioned, field_mean
 use Rattle.wellformed.proofs.PlaceLemmas.{each_there}
 use Rattle.wellformed.proofs.Standing.{Around, AreStanding, IsHeld, IsKnown, last_of, scope_of}
 
--- a field that owns: where it stands in its struct, and what it holds
+-- an owning field: its index in its struct, and what it holds
 record IsField (p : ProgramText) (s : StructTree) (field : Span) : Type 0 where
   index : ℕ
   tree : Field
@@ -58,7 +58,7 @@ named_field p s field (Some k) (Some f) known first at there fits =
     let block = loud_left (is_silent (type_meant p f.ty)) (is_block (type_meant p f.ty)) (known_loud p (type_meant p f.ty) sure) fits in
     record { index = k; tree = f; first = first; at = at; holding = block_holds p (type_meant p f.ty) (state_in f.ty) sure block; known = sure }
 
--- so where nothing is wrong with what is exchanged, the variable before the dot has a pointer, and the field owns
+-- if an exchange has no mistakes, the variable before the dot has a pointer, and the field owns
 record IsHolder (p : ProgramText) (g : names.NameFrame) (k : declared.ValueType.ValueType) (field : Span) : Type 0 where
   number : ℕ
   tree : StructTree
@@ -115,7 +115,7 @@ held_there p n s field f there =
     ap (λ ks. slice_get ks (length (fields_held p (take f.index s.fields)))) (types_of_struct p n s there)
     ∙ field_at p s.fields f.index f.tree f.holding.held f.at f.holding.is
 
--- what holds something is of the exchange heap
+-- a type whose variables hold something is of the exchange heap
 held_block : (p : ProgramText) (t : type_nodes.Type.Type) → Holding p (type_meant p t) (state_in t) → is_block (type_meant p t) ≡ true
 held_block p t h = by (is_block (type_meant p t)) refl
   where
@@ -126,7 +126,7 @@ held_block p t h = by (is_block (type_meant p t)) refl
         let some = h.is in
         absurd (cc)
 
--- what an exchange comes to
+-- the exchange in numbers
 exchange_is : (p : ProgramText) (class : ℕ) (f : LocalFrame) (g : names.NameFrame) (vs : List VariableModel) (e : made.Exchange.Exchange) → AreStanding p vs f g → variable_mistakes (scope_of p g) e.holder ≡ [] → (n number : ℕ)
     → type_named (scope_of p g) e.holder ≡ ty.Pointer n → field_number p (ty.Pointer n) e.field ≡ Some number → (v w : Mention) → mention p.text f.locals e.holder ≡ Some v → mention p.text f.locals e.given ≡ Some w
     → exchange_found p class f e ≡ Some (exchange_of p class f e number v w)
@@ -140,7 +140,7 @@ exchange_is p class f g vs e standing none n number is numbered v w holder given
     ∙ ap (option_and_then (λ x. option_map (exchange_of p class f e number x) (mention p.text f.locals e.given))) holder
     ∙ ap (option_map (exchange_of p class f e number v)) given
 
--- an exchange of a variable and of what a field holds, which are of one type
+-- an exchange of a variable and the content of a field, both of one type
 action_fits : (p : ProgramText) (class : ℕ) (s : Setting) (f : LocalFrame) (e : made.Exchange.Exchange) (number : ℕ) (inside : HeapType) (v w : ℕ) (x y : VariableModel)
     → exchange_found p class f e ≡ Some (exchange_of p class f e number (mention_of e.holder v) (mention_of e.given w)) → slice_get s.variables v ≡ Some x → slice_get s.variables w ≡ Some y
     → IsInScope s.variables s.scope (number_of w) → slice_get (field_types s.program.structs x.ty) number ≡ Some inside → same_type y.ty inside ≡ true → IsEffect s (effect_of (exchange_found p class f e))

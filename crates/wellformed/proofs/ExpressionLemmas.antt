@@ -1,4 +1,4 @@
--- Expressions with which nothing is wrong: their types, and what they read.
+-- Expressions without mistakes: their types, and the variables that they read.
 use Rattle.std.proofs.Common.{◌≡◌, ℕ, ◌<◌, Bool, true, false, not, ◌||◌, List, [], ◌∷◌, ◌++◌, length, if◌then◌else◌, refl, sym, ap, subst, arith}
 use Rattle.std.proofs.lemmas.Bool.{not-true}
 use Rattle.std.specs.Option.{option_map_or}
@@ -77,7 +77,7 @@ length_scalar : (p : ProgramText) (b : Bool) → b ≡ true → IsKnown p (if b 
 length_scalar p true is = (tt, refl)
 length_scalar p false is = absurd (cc)
 
--- a field of a struct that does not own
+-- the type of a field that does not own
 type_scalar : (p : ProgramText) (t : type_nodes.Type.Type) → is_heap t ≡ false → IsKnown p (type_meant p t) × (is_block (type_meant p t) ≡ false)
 type_scalar p (type.Scalar s) own = (tt, refl)
 type_scalar p (type.Heap h) own = absurd (cc)
@@ -113,7 +113,7 @@ element_scalar p (ty.Endpoint side n) name known none = absurd (cc)
 element_scalar p ty.Missing name known none = absurd known
 element_scalar p ty.Unknown name known none = absurd known
 
--- what an operator gives, where its operands are known
+-- what an operator gives, if its operands are known
 gives_scalar : (p : ProgramText) (lost : Bool) (k : declared.ValueType.ValueType) → lost ≡ false → IsKnown p k × (is_block k ≡ false) → IsKnown p (if lost then ty.Unknown else k) × (is_block (if lost then ty.Unknown else k) ≡ false)
 gives_scalar p true k certain scalar = absurd (cc)
 gives_scalar p false k certain scalar = scalar

@@ -1,4 +1,4 @@
--- What structs have in fields that own: few types, which stand for something, by the numbers of structs.
+-- The owning fields of structs, by the numbers of the structs: few, and the contracts and states in their types exist.
 use Rattle.declarations.specs.declared.mistake.Limit.TheVariants as limit
 use Rattle.std.proofs.Common.{◌≡◌, ℕ, zero, suc, ◌+◌, ◌≤◌, List, [], ◌∷◌, ◌++◌, length, map, refl, ap, ◌∙◌, arith, length-append}
 use Rattle.std.proofs.lemmas.List.{length-map}
@@ -39,11 +39,11 @@ use Rattle.wellformed.proofs.MethodNumberLemmas.{Declares, struct_item}
 use Rattle.wellformed.proofs.PlaceLemmas.{each_none, slice_behind}
 use Rattle.wellformed.proofs.ProgramLemmas.{item_clean, items_clean}
 
--- what is wrong with the types of the fields of a struct
+-- the mistakes in the types of a struct's fields
 abbrev pub types_unknown : ProgramText → List Field → List Mistake
 types_unknown p fields = flat_map (λ f. type_unknown p f.ty) fields
 
--- nothing is wrong with the structs among items
+-- the structs among the items have no mistakes
 struct_none : (p : ProgramText) (d : DefinitionTree) → definition_mistakes p d ≡ [] → Each (λ s. struct_mistakes p s ≡ []) (struct_among d)
 struct_none p (trees.Contract c) none = tt
 struct_none p (trees.Struct s) none = (none, tt)
@@ -56,7 +56,7 @@ structs_none p (i ∷ items) none =
     let both = both_none (definition_mistakes p i.definition) (flat_map (λ x. definition_mistakes p x.definition) items) none in
     each_append (λ s. struct_mistakes p s ≡ []) (struct_among i.definition) (structs_of items) (struct_none p i.definition both.0) (structs_none p items both.1)
 
--- a struct with which nothing is wrong has few fields that own, and their types are known
+-- a struct without mistakes has few owning fields, and their types are known
 record IsStruct (p : ProgramText) (s : StructTree) : Type 0 where
   known : Each (λ f. type_unknown p f.ty ≡ []) s.fields
   few : length (owning_fields s) ≤ MOST_FIELDS
@@ -72,7 +72,7 @@ struct_is p s none =
       few = omega (arith, few, length-map (owning_fields s) (λ (f : Field). f.name));
     }
 
--- no more hold something than are of types of the exchange heap
+-- no more fields hold something than have types of the exchange heap
 listed_few : (o : Option held.HeapType.HeapType) (n m : ℕ) → n ≤ m → length (held_listed o) + n ≤ suc m
 listed_few None n m le = omega (arith, le)
 listed_few (Some h) n m le = omega (arith, le)
@@ -88,7 +88,7 @@ held_few p (f ∷ fields) = by f.access f.ty f.name (held_few p fields)
         let more = listed_few (type_held p (type.Heap h)) (length (fields_held p fields)) (length (filter (λ g. is_heap g.ty) fields)) le in
         omega (arith, more, length-append (held_listed (type_held p (type.Heap h))) (fields_held p fields))
 
--- what a struct has in its fields that own stands for something
+-- the contracts and states in the types of owning fields exist
 held_types : (p : ProgramText) (fields : List Field) → Each (IsType (resolved_contracts p.text (contracts_of p.items))) (fields_held p fields)
 held_types p [] = tt
 held_types p (f ∷ fields) = each_append (IsType (resolved_contracts p.text (contracts_of p.items))) (held_listed (type_held p f.ty)) (fields_held p fields)
@@ -124,7 +124,7 @@ struct_there (j ∷ items) (suc n) i s there is =
     let on : structs_before (j ∷ items) (suc n) ≡ length own + structs_before items n = length-append own _ in
     ap (slice_get (own ++ structs_of items)) on ∙ slice_behind own (structs_of items) (structs_before items n) ∙ struct_there items n i s there is
 
--- what a struct has in its fields that own, by its number
+-- the types of a struct's owning fields, by its number
 pub types_of_struct : (p : ProgramText) (n : ℕ) (s : StructTree) → item_at as_struct p n ≡ Some (n, s)
     → field_types (structs_told p) (struct_of (structs_before p.items n)) ≡ fields_held p s.fields
 types_of_struct p n s there =
@@ -133,7 +133,7 @@ types_of_struct p n s there =
     ap (λ (o : Option (List held.HeapType.HeapType)). option_map_or (λ types. types) o [])
     (slice_get-map (λ x. fields_held p x.fields) (structs_of p.items) (structs_before p.items n) ∙ ap (option_map (λ (x : StructTree). fields_held p x.fields)) told)
 
--- A field as a parameter of a message: what is given for fields is what is given for these.
+-- A field as a parameter of a message: arguments for fields are arguments for these parameters.
 abbrev pub as_param : Field → MessageParameter
 as_param f = record { ty = f.ty; name = f.name }
 
@@ -163,7 +163,7 @@ params_known p (f ∷ fields) known = by f.access f.ty f.name known.0 (params_kn
     by a (type.Scalar s) n known more = more
     by a (type.Heap h) n known more = (known, more)
 
--- What stands in a field of this place is told at the number of those before it that own.
+-- The type of an owning field is at the number of owning fields before it.
 pub field_at : (p : ProgramText) (fields : List Field) (k : ℕ) (f : Field) (h : held.HeapType.HeapType) → slice_get fields k ≡ Some f
     → type_held p f.ty ≡ Some h → slice_get (fields_held p fields) (length (fields_held p (take k fields))) ≡ Some h
 field_at p [] k f h there is = cc

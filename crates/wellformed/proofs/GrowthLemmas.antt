@@ -1,4 +1,4 @@
--- The variables of a method grow: what it has declared so far stands in front of what it declares later.
+-- The variables of a method grow: those declared so far come before those declared later.
 use Rattle.std.proofs.Common.{◌≡◌, ℕ, zero, suc, ◌<◌, List, [], ◌∷◌, ◌++◌, length, refl, sym, ap, ◌∙◌, subst, append_assoc, append-nil, arith, length-append}
 use Rattle.std.specs.Prelude.{Option, None, Some, option_map, slice_get, IfSome}
 use Rattle.source.specs.declared.place.Place.{Place}
@@ -26,12 +26,12 @@ use Rattle.program.specs.Scopes.{AreNested}
 use Rattle.wellformed.proofs.ListLemmas.{each_append}
 use Rattle.wellformed.proofs.Standing.{Grows, IsLocal, Within, declares}
 
--- each variable of a frame stands behind the one before it in scope, and so does the last one in scope
+-- the variables of a frame are nested, and the last one in scope is among them
 pub record Nests (f : LocalFrame) : Type 0 where
   pub nested : AreNested f.variables
   pub last : IfSome f.last (λ n. n < length f.variables)
 
--- what holds of each element with its place, and of one more behind them
+-- what holds of each element with its index, and of one more after them
 one_more : {X : Type 0} → (P : ℕ → X → Type 0) → (xs : List X) (x : X) → ((n : ℕ) (v : X) → slice_get xs n ≡ Some v → P n v) → P (length xs) x
     → (n : ℕ) (v : X) → slice_get (xs ++ x ∷ []) n ≡ Some v → P n v
 one_more P [] x all last zero v is = let same : x ≡ v = cc in subst (P 0) same last
@@ -44,12 +44,12 @@ numbered : (n : ℕ) (last : Option ℕ) → IfSome last (λ k. k < n) → IfSom
 numbered n None below = tt
 numbered n (Some k) below = below
 
--- what lies below a number lies below a greater one
+-- what is below a number is below a greater one
 pub still_below : (xs more ys : List VariableModel) (last : Option ℕ) → ys ≡ xs ++ more → IfSome last (λ n. n < length xs) → IfSome last (λ n. n < length ys)
 still_below xs more ys None is below = tt
 still_below xs more ys (Some k) is below = let long = ap length is in omega (arith, length-append xs more)
 
--- a variable that is declared is the last one
+-- a declared variable is the last one
 pub declared_nests : (text : List ℕ) (name : Span) (ty : ValueType) (held : Option held.HeapType.HeapType) (role : Role) (f : LocalFrame) → Nests f → Nests (declares text name ty held role f)
 declared_nests text name ty None role f n = record { nested = n.nested; last = n.last }
 declared_nests text name ty (Some held) role f n = record {
@@ -99,7 +99,7 @@ binds_nest p params [] f n = n
 binds_nest p [] (b ∷ binds) f n = binds_nest p [] binds (bind_told p None b f).frame (bind_nests p None b.name b.ty f n)
 binds_nest p (x ∷ params) (b ∷ binds) f n = binds_nest p params binds (bind_told p (Some x) b f).frame (bind_nests p (Some x) b.name b.ty f n)
 
--- behind a block, the last one in scope is again the one before it
+-- after a block, the last one in scope is the one before the block again
 closed_nests : (p : ProgramText) (f after : LocalFrame) → Nests f → Grows p f after → Nests after → Nests (after_block f after)
 closed_nests p f after before grows inside = record { nested = inside.nested; last = still_below f.variables grows.more after.variables f.last grows.is before.last }
 

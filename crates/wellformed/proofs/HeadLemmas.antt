@@ -1,4 +1,4 @@
--- The heads of cases with which nothing is wrong.
+-- Heads of cases without mistakes.
 use Rattle.std.proofs.Common.{◌≡◌, ℕ, List, [], ◌∷◌, length, if◌then◌else◌, refl, sym, ap, ◌∙◌, subst}
 use Rattle.std.specs.Option.{option_map_or}
 use Rattle.std.specs.Prelude.{Option, None, Some, is_some, option_and_then, slice_get, IsSomeAnd}
@@ -41,7 +41,7 @@ use Rattle.wellformed.proofs.ListLemmas.{both_none}
 use Rattle.wellformed.proofs.ProgramLemmas.{message_clean}
 use Rattle.wellformed.proofs.Standing.{Around, AreStanding, IsHeld, IsKnown, scope_of}
 
--- the endpoint and what is awaited there mean something, and a name is bound for each parameter of the message
+-- the endpoint and what is awaited there have a meaning, and a name is bound for each parameter of the message
 pub record HeadFits (p : ProgramText) (s : Setting) (f : LocalFrame) (g : names.NameFrame) (h : Head) : Type 0 where
   pub end : IsEnd s (IsAwaited s (awaited_as h.awaited (awaited_message p f h.endpoint h.awaited))) (case_endpoint p f h.endpoint)
   pub params : awaited_params (awaited_message p f h.endpoint h.awaited) ≡ params_of_case (scope_of p g) h
@@ -49,7 +49,7 @@ pub record HeadFits (p : ProgramText) (s : Setting) (f : LocalFrame) (g : names.
   pub many : length (awaited_params (awaited_message p f h.endpoint h.awaited)) ≡ length h.binds
   pub brings : (bound : List VarId) → HoldAll s (params_held p (awaited_params (awaited_message p f h.endpoint h.awaited))) bound → IsBrought s (awaited_as h.awaited (awaited_message p f h.endpoint h.awaited)) bound
 
--- the endpoint of a case is one of a contract that is there
+-- the endpoint of a case is one of a declared contract
 end_fits : (p : ProgramText) (t : ClassTree) (class : ℕ) (result : Option type_nodes.Type.Type) (s : Setting) (f : LocalFrame) (g : names.NameFrame) (name : Span) (n : ℕ) (side : Side) (P : ContractModel → Type 0)
     → Around p t class result s → AreStanding p s.variables f g → variable_mistakes (scope_of p g) name ≡ [] → type_named (scope_of p g) name ≡ ty.Endpoint side n
     → ((r : ContractModel) → contract_at p n ≡ Some r → P r) → IsEnd s P (case_endpoint p f name)
@@ -59,7 +59,7 @@ end_fits p t class result s f g name n side P around standing none is each =
     let endpoint : case_endpoint p f name ≡ mention_of name m.number = ap (λ o. option_map_or (λ x. x) o (mention_of name 0)) m.is in
     subst (IsEnd s P) (sym endpoint) (is_end p s n side c.tree P (mention_of name m.number) m.variable around.contracts_are c.is m.there (subst (λ k. IsHeld p k m.variable.ty) is m.holds) each)
 
--- what its case awaits is looked up in that contract
+-- what the case awaits is looked up in that contract
 message_looked : (p : ProgramText) (vs : List VariableModel) (f : LocalFrame) (g : names.NameFrame) (name : Span) (n : ℕ) (side : Side) (word : Span) → AreStanding p vs f g
     → variable_mistakes (scope_of p g) name ≡ [] → type_named (scope_of p g) name ≡ ty.Endpoint side n → awaited_message p f name (waits.Message word) ≡ message_named p n word
 message_looked p vs f g name n side word standing none is =
@@ -67,7 +67,7 @@ message_looked p vs f g name n side word standing none is =
     let same : m.local.ty ≡ ty.Endpoint side n = ap variable_type (sym m.meant_is) ∙ is in
     ap (λ o. option_and_then (λ k. message_named p k word) (option_and_then (λ v. contract_of v.ty) o)) m.is ∙ ap (λ k. option_and_then (λ c. message_named p c word) (contract_of k)) same
 
--- what it brings stands at its number
+-- the payload of a message is at its number
 message_brings : (p : ProgramText) (s : Setting) (f : LocalFrame) (name word : Span) (n : ℕ) (m : MessageTree) (a : AnswersMessage p n (message_named p n word) m) → slice_get s.program.messages a.meant.id.0 ≡ Some (payload_types p m)
     → awaited_params (awaited_message p f name (waits.Message word)) ≡ m.params → awaited_message p f name (waits.Message word) ≡ Some a.meant
     → (bound : List VarId) → HoldAll s (params_held p (awaited_params (awaited_message p f name (waits.Message word)))) bound

@@ -88,7 +88,7 @@ scalar_holds p (ty.Endpoint end n) state scalar = cc
 scalar_holds p ty.Missing state scalar = refl
 scalar_holds p ty.Unknown state scalar = refl
 
--- a variable of another type does
+-- a variable of any other type does
 pub record Holding (p : ProgramText) (k : declared.ValueType.ValueType) (state : Option Span) : Type 0 where
   pub held : HeapType
   pub is : heap_type p k state ≡ Some held
@@ -122,7 +122,7 @@ held_none : (p : ProgramText) (k : declared.ValueType.ValueType) (state : Option
 held_none p k state false is known none = is
 held_none p k state true is known none = let holding = block_holds p k state known is in let here = holding.is in cc
 
--- a type is of the exchange heap exactly where a variable of it holds something
+-- a type is of the exchange heap exactly if a variable of it holds something
 pub held_as : (p : ProgramText) (k : declared.ValueType.ValueType) (state : Option Span) → IsKnown p k → IsHeldAs p k (heap_type p k state)
 held_as p k state known = as_held p k state (heap_type p k state) refl (held_none p k state (is_block k) refl known)
 
@@ -202,7 +202,7 @@ alike_held p a b x y fits left right = cc
 some_and : {X : Type 0} (P : X → Type 0) (o : Option X) (x : X) → o ≡ Some x → P x → IsSomeAnd o P
 some_and P o x is holds = subst (λ q. IsSomeAnd q P) (sym is) holds
 
--- the numbers in what a variable holds stand for something
+-- the contract and the state in what a variable holds exist
 pub held_type : (p : ProgramText) (k : declared.ValueType.ValueType) (held : HeapType) → IsHeld p k held → IsType (resolved_contracts p.text (contracts_of p.items)) held
 held_type p (ty.Scalar s) held is = let none = is.is in cc
 held_type p (ty.Array element) held is = subst (IsType (resolved_contracts p.text (contracts_of p.items))) (sym (array_held p element held is)) tt

@@ -1,4 +1,4 @@
--- Scopes: where steps outward lead, what grows, and what goes back.
+-- Scopes: where steps outward lead, how a scope grows, and how it goes back.
 use Rattle.std.proofs.Common.{◌≡◌, ◌≢◌, ℕ, zero, suc, ◌<◌, ◌≤◌, Bool, true, false, if◌then◌else◌, refl, sym, ap, subst, arith, eq-eqb, eqb-true}
 use Rattle.std.specs.Option.{option_map_or}
 use Rattle.std.specs.Prelude.{List, Option, None, Some, option_and_then, option_map, slice_get, IfSome, IsSomeAnd}
@@ -20,7 +20,7 @@ leads_from vs (suc n) a b c is leads = let further = leads_from vs n (option_and
 pub leads_then : (vs : List VariableModel) (a b c : Option VarId) → LeadsOut vs a b → LeadsOut vs b c → LeadsOut vs a c
 leads_then vs a b c first second = leads_from vs first.steps a b c first.is second
 
--- before the first variable stands none
+-- nothing is outside an empty scope
 outward_none : (vs : List VariableModel) (n : ℕ) → outward vs n None ≡ None
 outward_none vs zero = refl
 outward_none vs (suc n) = outward_none vs n
@@ -32,7 +32,7 @@ outer_below : (vs : List VariableModel) (n : ℕ) (o : VarId) (x : Option Variab
 outer_below vs n o None nested at is = cc
 outer_below vs n o (Some v) nested at is = subst (λ y. IfSome y (λ i. i.0 < n)) is (nested.all n v at)
 
--- what lies no later than the variable before this one lies no later than this one
+-- a variable that is no later than the one outside this one is no later than this one
 outer_down : (vs : List VariableModel) (n : ℕ) (a b : VarId) (o : Option VarId) → AreNested vs → outer_of vs a ≡ o → outward vs n o ≡ Some b → IfSome o (λ x. b.0 ≤ x.0) → b.0 ≤ a.0
 outer_down vs n a b None nested outer is down = let none = outward_none vs n in cc
 outer_down vs n a b (Some o) nested outer is down = let before = outer_below vs a.0 o (slice_get vs a.0) nested refl outer in omega arith
@@ -42,11 +42,11 @@ outward_down vs n None b nested is = tt
 outward_down vs zero (Some a) b nested is = let same : a ≡ b = cc in subst (λ x. x.0 ≤ a.0) same (omega arith)
 outward_down vs (suc n) (Some a) b nested is = outer_down vs n a b (outer_of vs a) nested refl is (outward_down vs n (outer_of vs a) b nested is)
 
--- outward stand no later variables
+-- steps outward lead to no later variable
 pub leads_down : (vs : List VariableModel) → AreNested vs → (a b : VarId) → LeadsOut vs (Some a) (Some b) → b.0 ≤ a.0
 leads_down vs nested a b leads = outward_down vs leads.steps (Some a) b nested leads.is
 
--- where nothing is in scope, nothing lies outward
+-- if nothing is in scope, nothing is outside it
 nowhere : (vs : List VariableModel) (outer : Option ℕ) → LeadsOut vs None (option_map number_of outer) → None ≡ option_map number_of outer
 nowhere vs None leads = refl
 nowhere vs (Some n) leads = absurd (leads_nowhere vs (number_of n) leads)
@@ -64,13 +64,13 @@ back_unless : (place : Place) (outer : Option ℕ) (last : ℕ) (same : Bool) �
 back_unless place outer last true is = last_alike last outer is
 back_unless place outer last false is = (last_apart last outer is, (refl, refl))
 
--- what goes out of scope, where the last one that stays lies outward
+-- the variables that go out of scope, if the last one that stays is outside them
 pub goes_back : (vs : List VariableModel) (place : Place) (outer last : Option ℕ) → LeadsOut vs (option_map number_of last) (option_map number_of outer)
     → GoesBack (option_map number_of last) (option_map number_of outer) (forget place outer last)
 goes_back vs place outer None leads = nowhere vs outer leads
 goes_back vs place outer (Some last) leads = back_unless place outer last (same_last last outer) refl
 
--- a step outward, and what the steps behind it come to
+-- one step outward, and the result of the steps after it
 leads_one : (vs : List VariableModel) (P : Option VarId → Type 0) (before : Option VarId) (v : VarId) (o : Option VariableModel) → slice_get vs v.0 ≡ o
     → ((a : Option VarId) → P a → LeadsOut vs a before) → IsSomeAnd o (λ x. (x.role ≡ roles.Local) × P x.outer) → LeadsOut vs (Some v) before
 leads_one vs P before v None is rest all = absurd all

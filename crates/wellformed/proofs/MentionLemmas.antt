@@ -25,7 +25,7 @@ use Rattle.wellformed.proofs.PlaceLemmas.{each_there}
 use Rattle.wellformed.proofs.ScopeLemmas.{same_named}
 use Rattle.wellformed.proofs.Standing.{IsKnown, IsHeld, IsInside, IsNumbered, AreStanding, Stands, last_of, named, scope_of}
 
--- a name in scope means a variable that stands for one of the method
+-- a name in scope means a variable for which `Stands` holds
 pub record IsMeant (p : ProgramText) (vs : List VariableModel) (f : LocalFrame) (g : names.NameFrame) (name : Span) : Type 0 where
   pub local : Local
   pub is : local_named p.text f.locals name ≡ Some local
@@ -61,7 +61,7 @@ variable_type o = option_map_or (λ v. v.ty) o ty.Unknown
 abbrev pub field_meant : ProgramText → Option Field → declared.ValueType.ValueType
 field_meant p o = option_map_or (λ f. type_meant p f.ty) o ty.Unknown
 
--- so its type is known
+-- so the type of a name is known
 pub held_known : (p : ProgramText) (vs : List VariableModel) (f : LocalFrame) (g : names.NameFrame) (name : Span) → AreStanding p vs f g
     → variable_mistakes (scope_of p g) name ≡ [] → IsKnown p (type_named (scope_of p g) name)
 held_known p vs f g name standing none =
@@ -132,7 +132,7 @@ scalar_not_mentioned p vs f g name standing none scalar =
     let m = meant_stands p vs f g name standing none in
     mention_by p.text f name m.local None m.is (scalar_numbered p vs m.local m.local.number refl m.stands (ap (λ o. is_block (variable_type o)) (sym m.meant_is) ∙ scalar))
 
--- whatever is mentioned is a variable of the method
+-- the variable of a mention is one of the method
 number_within : {last : Option VarId} → (p : ProgramText) (vs : List VariableModel) (l : Local) (n : ℕ) → l.number ≡ Some n → Stands p vs last l → n < length vs
 number_within p vs l n number stands =
     let v = numbered_by p vs l n number stands in

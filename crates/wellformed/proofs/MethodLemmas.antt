@@ -1,4 +1,4 @@
--- The methods of a program with whose names and types nothing is wrong are well formed.
+-- The methods of a program without mistakes in names and types are well formed.
 use Rattle.std.proofs.Common.{◌≡◌, ◌≢◌, ◌==◌, ℕ, zero, suc, ◌<◌, ◌≤◌, Bool, true, false, List, [], ◌∷◌, ◌++◌, length, sym, refl, subst, ap, ◌∙◌, append-nil, arith, length-append, eq-eqb, eqb-true}
 use Rattle.std.specs.Prelude.{Option, None, Some, option_map, slice_get, IfSome}
 use Rattle.std.specs.Option.{option_map_or}
@@ -64,7 +64,7 @@ params_stand p (x ∷ params) vs f g standing within none =
     let after = declared_stands p vs x.name (type_meant p x.ty) (type_held p x.ty) (role_of x) (is_heap x.ty) f g (heap_block p x.ty unknown.0) known (held_as p (type_meant p x.ty) (state_in x.ty) known) standing (params_within p params (with_declaration p.text d f) vs within) unknown.1 in
     params_stand p params vs (with_declaration p.text d f) next.frame after within both.1
 
--- what a program's variables hold stands for something
+-- the contracts and states in the types of a program's variables exist
 abbrev contracts : ProgramText → List ContractModel
 contracts p = resolved_contracts p.text (contracts_of p.items)
 
@@ -101,7 +101,7 @@ body_grows p class (trees.Braces statements close) f = statements_grow p class (
 body_nests : (p : ProgramText) (class : ℕ) (b : BlockTree) (f : LocalFrame) → Nests f → Nests (body_told p class b f).frame
 body_nests p class (trees.Braces statements close) f n = statements_nest p class (stays_here f) statements f n
 
--- what stands round it
+-- the surroundings of the body
 abbrev surrounds : ProgramText → ClassTree → Option tree.Type.Type → Surroundings
 surrounds p c result = record { program = p; class = c; result = result; breaks = false; continues = false }
 
@@ -111,7 +111,7 @@ body_fits p c class result s (trees.Braces statements close) f g around staying 
     let r = statements_go (surrounds p c result) class s around (stays_here f) statements f g standing staying within none in
     record { statements = r.fits; few = r.standing.few }
 
--- the parameters of a method are in scope behind them
+-- after the parameters of a method, all of them are in scope
 abbrev AllInScope : List VariableModel → LocalFrame → Type 0
 AllInScope vs f = (n : ℕ) → n < length f.variables → IsInScope vs (last_of f) (number_of n)
 
@@ -138,7 +138,7 @@ params_in_scope p (x ∷ params) vs f within all =
     let next = declared_in_scope p vs x.name (type_meant p x.ty) (type_held p x.ty) (role_of x) f (params_within p params (with_declaration p.text d f) vs within) all in
     params_in_scope p params vs (with_declaration p.text d f) within next
 
--- what stands behind the parameters of a method is none
+-- no variable after the parameters of a method is a parameter
 no_parameter : (p : ProgramText) (more : List VariableModel) (n : ℕ) (v : VariableModel) → Each (IsLocal p) more → slice_get more n ≡ Some v → is_parameter v.role ≡ true → ⊥
 no_parameter p [] n v local at param = cc
 no_parameter p (x ∷ more) zero v local at param = let same : x ≡ v = cc in let is : v.role ≡ role.Local = ap (λ y. y.role) (sym same) ∙ local.0.is in let none = ap is_parameter is in cc

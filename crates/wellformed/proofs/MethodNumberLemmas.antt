@@ -1,4 +1,4 @@
--- The numbers of methods: each is how many methods stand before it in the text.
+-- The numbers of methods: each is the number of methods before it in the text.
 use Rattle.std.proofs.Common.{◌≡◌, ℕ, zero, suc, ◌+◌, List, [], ◌∷◌, ◌++◌, length, map, take, refl, ap, ◌∙◌, subst, arith, length-append}
 use Rattle.std.proofs.lemmas.List.{length-map}
 use Rattle.std.proofs.lemmas.Option.{slice_get-map, some_pair_parts}
@@ -24,14 +24,14 @@ pub record Declares (o : Option ItemTree) (d : DefinitionTree) : Type 0 where
   pub at : o ≡ Some item
   pub is : item.definition ≡ d
 
--- what is looked up by its place among items
+-- what is looked up by its index among the items
 abbrev numbered_as : {X : Type 0} → ℕ → Option X → Option (Numbered X)
 numbered_as n o = option_map (λ x. (n, x)) o
 
 abbrev looked_up : {X : Type 0} → (DefinitionTree → Option X) → ℕ → Option ItemTree → Option (Numbered X)
 looked_up ty n o = option_and_then (λ i. numbered_as n (ty i.definition)) o
 
--- the place that is answered is the one that was asked for
+-- the returned index is the one that was asked for
 same_number : {X : Type 0} → (m n : ℕ) (x : X) (o : Option X) → numbered_as m o ≡ Some (n, x) → m ≡ n
 same_number m n x None h = cc
 same_number m n x (Some y) h = (some_pair_parts m n y x h).0
@@ -40,7 +40,7 @@ same_place : {X : Type 0} → (ty : DefinitionTree → Option X) (m n : ℕ) (x 
 same_place ty m n x None h = cc
 same_place ty m n x (Some i) h = same_number m n x (ty i.definition) h
 
--- what is found as a class is one, and what is found as a contract is one
+-- an item found as a class is one, and an item found as a contract is one
 declares_class : (n : ℕ) (c : ClassTree) (d : DefinitionTree) → numbered_as n (as_class d) ≡ Some (n, c) → d ≡ Class c
 declares_class n c (Contract x) h = cc
 declares_class n c (Struct x) h = cc
@@ -78,12 +78,12 @@ contract_item p n c there = contract_in n c (slice_get p.items n) there
 pub struct_item : (p : ProgramText) (n : ℕ) (s : StructTree) → item_at as_struct p n ≡ Some (n, s) → Declares (slice_get p.items n) (Struct s)
 struct_item p n s there = struct_in n s (slice_get p.items n) there
 
--- the class of a name, by its place
+-- the class of a name, by its index
 class_at : (p : ProgramText) (n : ℕ) (c : ClassTree) (o : Option ℕ) → option_and_then (item_at as_class p) o ≡ Some (n, c) → item_at as_class p n ≡ Some (n, c)
 class_at p n c None h = cc
 class_at p n c (Some k) h = subst (λ x. item_at as_class p x ≡ Some (n, c)) (same_place as_class k n c (slice_get p.items k) h) h
 
--- the methods of items that stand behind others
+-- the methods of items that come after others
 abbrev told_from : ProgramText → ℕ → List ItemTree → List MethodModel
 told_from p n items = flat_map (item_told p) (enumerate_from n items)
 
@@ -146,7 +146,7 @@ method_answers p class c name m there named =
     let a = answers_at p class c m (place_in p c name) there named in
     record { number = a.number; is = ap (callee_in p class name) there ∙ a.is; method = a.method }
 
--- the same in the class of a name
+-- the same for the class of a name
 pub member_answers : (p : ProgramText) (class name : Span) (n : ℕ) (c : ClassTree) (m : MethodTree) → class_named p class ≡ Some (n, c)
     → method_named p.text c name ≡ Some m → Answers p (method_of p class name) m
 member_answers p class name n c m named found =

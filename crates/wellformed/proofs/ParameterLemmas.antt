@@ -29,7 +29,7 @@ use Rattle.wellformed.proofs.ListLemmas.{each_append}
 use Rattle.wellformed.proofs.PlaceLemmas.{mapped_each}
 use Rattle.wellformed.proofs.Standing.{IsLocal, heading}
 
--- the parameters among variables, and what they hold with how the method comes to it
+-- the parameters among variables, and what they hold, with their roles
 abbrev passed : List VariableModel → List VariableModel
 passed vs = filter (λ v. is_parameter v.role) vs
 
@@ -51,7 +51,7 @@ headed_one : (claims : Bool) (v : VariableModel) → v.role ≡ as_role claims �
 headed_one true v is = ap (λ r. map (λ w. (w.ty, w.role)) (cond (is_parameter r) (v ∷ []) [])) is ∙ ap (held_by v.ty) is
 headed_one false v is = ap (λ r. map (λ w. (w.ty, w.role)) (cond (is_parameter r) (v ∷ []) [])) is ∙ ap (held_by v.ty) is
 
--- those of variables that are no parameters
+-- variables that are no parameters have no headings
 headed_none : (p : ProgramText) (vs : List VariableModel) → Each (IsLocal p) vs → headed vs ≡ []
 headed_none p [] all = refl
 headed_none p (v ∷ vs) all = ap (λ r. map (λ w. (w.ty, w.role)) (cond (is_parameter r) (v ∷ passed vs) (passed vs))) all.0.is ∙ headed_none p vs all.1
@@ -70,7 +70,7 @@ headed_all p (x ∷ params) f =
     ∙ ap (λ l. l ++ flat_map (heading p) params) (headed_declared p x f (type_held p x.ty))
     ∙ append_assoc (headed f.variables) (heading p x) (flat_map (heading p) params)
 
--- The body of a method declares none.
+-- The body of a method declares no parameters.
 headed_body : (p : ProgramText) (class : ℕ) (b : BlockTree) (f : LocalFrame) → headed (body_told p class b f).frame.variables ≡ headed f.variables
 headed_body p class (trees.Braces statements close) f =
     let grows = statements_grow p class (stays_here f) statements f in
@@ -102,7 +102,7 @@ claimed_all p (x ∷ params) none =
     let both = either_false (is_lent x) (any_lent params) none in
     each_append (λ q. is_claimed q.1 ≡ true) (heading p x) (flat_map (heading p) params) (claimed_typed p x.claims x.ty both.0) (claimed_all p params both.1)
 
--- where none is lent, all are claimed
+-- if none is lent, all are claimed
 pub all_claimed : (p : ProgramText) (class : ℕ) (m : MethodTree) → Each (λ x. type_unknown p x.ty ≡ []) m.params → any_lent m.params ≡ false
     → Each (λ v. is_claimed v.role ≡ true) (parameters (method_told p class m))
 all_claimed p class m known none =

@@ -1,4 +1,4 @@
--- Statements that hold no others, and with which nothing is wrong.
+-- Statements without mistakes that hold no others.
 use Rattle.std.proofs.Common.{◌≡◌, ℕ, Bool, true, false, not, List, [], ◌++◌, length, sym, refl, ap, ◌∙◌, subst}
 use Rattle.std.specs.Option.{option_map_or}
 use Rattle.std.specs.Prelude.{Option, None, Some, option_map, slice_get}
@@ -92,7 +92,7 @@ assign_fits p t class result s f g (trees.Element name index) value around here 
     part_taken_fits p t class result s f g (target_type (scope_of p g) (trees.Element name index)) (reads p.text f.locals index) (mention p.text f.locals name) value around standing
     (subst (λ b. IsKnown p (element_type k b)) (sym certain) scalar.0) (subst (λ b. is_block (element_type k b) ≡ false) (sym certain) scalar.1) (reads_within p s.variables f g standing index) (name_mentioned p s f g standing name) given
 
--- a variable that is declared takes its first value
+-- a declared variable takes its first value
 first_fits : (p : ProgramText) (t : ClassTree) (class : ℕ) (result : Option tree.Type.Type) (s : Setting) (f : LocalFrame) (g : names.NameFrame) (name : Span) (k : declared.ValueType.ValueType) (state : Option Span) (role : Role) (value : ValueTree)
     (o : Option HeapType) (rest : List VariableModel) → heap_type p k state ≡ o → s.variables ≡ (declared_as p.text (record { name = name; ty = k; held = o; role = role }) o f).variables ++ rest → IsHeldAs p k o
     → s.scope ≡ last_of (declared_as p.text (record { name = name; ty = k; held = o; role = role }) o f) → Around p t class result s → AreStanding p s.variables f g → IsKnown p k

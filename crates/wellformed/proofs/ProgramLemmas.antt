@@ -1,4 +1,4 @@
--- What is known of the methods of a program with whose names and types nothing is wrong.
+-- What is known of the methods of a program without mistakes in names and types.
 use Rattle.std.proofs.Common.{◌≡◌, ℕ, List, [], ◌∷◌, ◌++◌, map, sym, refl, ap, ◌∙◌}
 use Rattle.std.specs.List.{flat_map}
 use Rattle.std.specs.Prelude.{Option, None, Some, option_and_then, slice_get}
@@ -26,18 +26,18 @@ pub use Rattle.wellformed.proofs.ParameterLemmas.{all_claimed, parameters_are}
 use Rattle.wellformed.proofs.PlaceLemmas.{each_none, none_there}
 use Rattle.wellformed.proofs.Standing.{IsMethod}
 
--- nothing is wrong with the items
+-- the items have no mistakes
 pub items_clean : (p : ProgramText) → program_mistakes p ≡ [] → flat_map (λ i. definition_mistakes p i.definition) p.items ≡ []
 items_clean p clean =
     let items = flat_map (λ i. definition_mistakes p i.definition) p.items in
     (both_none (counted_mistakes p) items (both_none (items_mistakes p) (counted_mistakes p ++ items) clean).1).1
 
--- nor with one of them
+-- nor has one of them
 pub item_clean : (p : ProgramText) (n : ℕ) (d : DefinitionTree) → program_mistakes p ≡ [] → Declares (slice_get p.items n) d → definition_mistakes p d ≡ []
 item_clean p n d clean there =
     sym (ap (definition_mistakes p) there.is) ∙ none_there (λ i. definition_mistakes p i.definition) p.items n there.item (items_clean p clean) there.at
 
--- nothing is wrong with a method of a class
+-- a method of a class has no mistakes
 pub method_clean : (p : ProgramText) (class : ℕ) (c : ClassTree) (m : MethodTree) (index : ℕ) → program_mistakes p ≡ [] → item_at as_class p class ≡ Some (class, c)
     → slice_get c.methods index ≡ Some m → (method_turn p c m).found ≡ []
 method_clean p class c m index clean there at =
@@ -68,7 +68,7 @@ message_at : (p : ProgramText) (messages : List MessageTree) (m : MessageTree) (
 message_at p messages m None none at = cc
 message_at p messages m (Some n) none at = none_there (message_mistakes p) messages n m none at
 
--- nothing is wrong with the messages of a contract
+-- the messages of a contract have no mistakes
 messages_clean : (p : ProgramText) (messages : List MessageTree) (c : ContractTree) → messages ≡ messages_of c → contract_mistakes p c ≡ [] → flat_map (message_mistakes p) messages ≡ []
 messages_clean p messages c is none =
     let names = names_of_messages (messages_of c) in

@@ -1,4 +1,4 @@
--- Calls and starts that stand alone, and returns, with which nothing is wrong.
+-- Calls and starts as statements, and returns, without mistakes.
 use Rattle.std.proofs.Common.{◌≡◌, ℕ, ◌&&◌, Bool, true, false, not, [], ◌∷◌, sym, refl, subst, ◌⊎◌, inl, inr}
 use Rattle.std.specs.Option.{option_map_or}
 use Rattle.std.specs.Prelude.{Option, None, Some, is_some, option_map, IsSomeAnd}
@@ -35,7 +35,7 @@ use Rattle.wellformed.proofs.ListLemmas.{both_none}
 use Rattle.wellformed.proofs.Standing.{AreStanding, Around, IsKnown, last_of, scope_of}
 use Rattle.wellformed.proofs.ValueLemmas.{alone_call, by_none, gives_none, no_send}
 
--- a call that stands alone, of a method or a send
+-- a call as a statement, of a method or a send
 stated_by : (p : ProgramText) (t : ClassTree) (class : ℕ) (result : Option tree.Type.Type) (s : Setting) (f : LocalFrame) (g : names.NameFrame) (c : CallTree) (alone : Bool) → Around p t class result s → AreStanding p s.variables f g
     → CallsMethod p class f g (λ m. gives_none p m.result ≡ true) c ⊎ ((alone ≡ true) × SendsMessage p class s f c) → IsStatement s (stated_call p class f c)
 stated_by p t class result s f g c alone around standing (inl x) =

@@ -1,4 +1,4 @@
--- What is declared comes into scope, and goes out of it where its block ends.
+-- Declared variables come into scope, and go out of it at the end of their block.
 use Rattle.std.proofs.Common.{◌≡◌, ◌≢◌, ◌==◌, ◌+◌, ℕ, ◌<◌, ◌≤◌, Bool, true, false, List, [], ◌∷◌, ◌++◌, length, map, if◌then◌else◌, is_some, refl, sym, ap, ◌∙◌, subst, append_assoc, arith, length-append, eq-eqb}
 use Rattle.std.proofs.lemmas.Option.{slice_get-map}
 use Rattle.std.specs.Prelude.{Option, None, Some, option_and_then, option_map, slice_get, IfSome, IsSomeAnd}
@@ -40,21 +40,21 @@ at_same locals (Some n) = slice_get-map named locals n
 pub same_named : (text : List ℕ) (locals : List Local) (name : Span) → variable_named text (map named locals) name ≡ option_map named (local_named text locals name)
 same_named text locals name = ap (λ ns. option_and_then (slice_get (map named locals)) (first_among text ns name)) (names_same locals) ∙ at_same locals (first_among text (map (λ l. l.name) locals) name)
 
--- the element behind these
+-- the element after these
 here_get : {X : Type 0} → (xs : List X) (x : X) (ys : List X) → slice_get (xs ++ x ∷ ys) (length xs) ≡ Some x
 here_get [] x ys = refl
 here_get (y ∷ xs) x ys = here_get xs x ys
 
--- the variable that is declared is the method's
+-- the declared variable is the method's
 declared_there : (vs xs : List VariableModel) (x : VariableModel) (rest : List VariableModel) → vs ≡ (xs ++ x ∷ []) ++ rest → slice_get vs (length xs) ≡ Some x
 declared_there vs xs x rest is = ap (λ ys. slice_get ys (length xs)) (is ∙ append_assoc xs (x ∷ []) rest) ∙ here_get xs x rest
 
--- the one before it in scope is the last one that was there
+-- the variable outside it is the last one that was in scope
 pub declared_outer : (p : ProgramText) (vs : List VariableModel) (name : Span) (ty : ValueType) (held : held.HeapType.HeapType) (role : Role) (f : LocalFrame) → Within vs (declares p.text name ty (Some held) role f)
     → outer_of vs (number_of (length f.variables)) ≡ last_of f
 declared_outer p vs name ty held role f within = ap (λ x. option_and_then (λ v. v.outer) x) (declared_there vs f.variables _ within.rest within.is)
 
--- one that is no parameter
+-- it is no parameter
 pub declared_local : (p : ProgramText) (vs : List VariableModel) (name : Span) (ty : ValueType) (held : held.HeapType.HeapType) (f : LocalFrame) → Within vs (declares p.text name ty (Some held) roles.Local f)
     → IsLocalBehind vs (number_of (length f.variables)) (λ outer. outer ≡ last_of f)
 declared_local p vs name ty held f within =
@@ -69,7 +69,7 @@ declared_grows p vs name ty (Some held) f within = record {
   by = subst (λ o. IsSomeAnd o (λ x. (x.role ≡ roles.Local) × (last_of f ≡ x.outer))) (sym (declared_there vs f.variables _ within.rest within.is)) (refl, refl);
 }
 
--- it stands right before those that were in scope
+-- it comes right before those that were in scope
 pub declared_inner : (p : ProgramText) (vs : List VariableModel) (name : Span) (ty : ValueType) (held : Option held.HeapType.HeapType) (role : Role) (f : LocalFrame) → Within vs (declares p.text name ty held role f)
     → LeadsOut vs (last_of (declares p.text name ty held role f)) (last_of f)
 declared_inner p vs name ty None role f within = leads_here vs (last_of f)
@@ -97,7 +97,7 @@ entered_same text name ls vs l same =
     let alike = entered ∙ sym (ap (λ b. if b then map named ls else map named ls ++ named l ∷ []) taken) in
     subst (λ xs. map named (if is_some (local_named text ls name) then ls else ls ++ l ∷ []) ≡ (if is_some (variable_named text xs name) then xs else xs ++ named l ∷ [])) same alike
 
--- what was in scope is in scope behind it
+-- what was in scope is in scope after it
 inside_then : (vs : List VariableModel) (a b : Option VarId) (o : Option ℕ) → LeadsOut vs b a → IsInside vs a o → IsInside vs b o
 inside_then vs a b None leads inside = tt
 inside_then vs a b (Some n) leads inside = leads_then vs b a (Some (number_of n)) leads inside
@@ -107,7 +107,7 @@ stands_then p vs a b [] leads all = tt
 stands_then p vs a b (l ∷ ls) leads all =
     (record { known = all.0.known; numbered = all.0.numbered; inside = inside_then vs a b l.number leads all.0.inside }, stands_then p vs a b ls leads all.1)
 
--- a type is that of a block where a variable of it holds something
+-- a type is that of a block if a variable of it holds something
 pub block_held : (p : ProgramText) (k : ValueType) (held : held.HeapType.HeapType) → IsHeld p k held → is_block k ≡ true
 block_held p (types.Pointer n) held is = refl
 block_held p (types.Array element) held is = refl
@@ -123,7 +123,7 @@ not_most name heap n false is none same few = let differ : n ≢ MOST_VARIABLES 
 not_past : (name : Span) (heap : ℕ) (n : ℕ) → past_heap name heap ≡ [] → heap ≡ n → n ≤ MOST_VARIABLES → n < MOST_VARIABLES
 not_past name heap n none is few = not_most name heap n (heap == MOST_VARIABLES) refl none is few
 
--- a variable that is declared comes into scope
+-- a declared variable comes into scope
 pub declared_stands : (p : ProgramText) (vs : List VariableModel) (name : Span) (ty : ValueType) (held : Option held.HeapType.HeapType) (role : Role) (heap : Bool) (f : LocalFrame) (g : names.NameFrame)
     → heap ≡ is_block ty → IsKnown p ty → IsHeldAs p ty held → AreStanding p vs f g → Within vs (declares p.text name ty held role f)
     → (declared_variable p.text name ty heap g).found ≡ [] → AreStanding p vs (declares p.text name ty held role f) (declared_variable p.text name ty heap g).frame
@@ -154,7 +154,7 @@ declared_stands p vs name ty (Some held) role heap f g block known holds standin
       few = omega (arith, length-append {A = VariableModel});
     }
 
--- what was declared since is in scope no more
+-- what was declared since is no longer in scope
 pub closed_stands : (p : ProgramText) (vs : List VariableModel) (f after : LocalFrame) (g behind : names.NameFrame)
     → AreStanding p vs f g → Grows p f after → AreStanding p vs after behind → AreStanding p vs (after_block f after) (record { variables = g.variables; heap = behind.heap })
 closed_stands p vs f after g behind standing grows inner = record {

@@ -1,4 +1,4 @@
--- Sends with which nothing is wrong.
+-- Sends without mistakes.
 use Rattle.std.proofs.Common.{◌≡◌, ℕ, ◌&&◌, Bool, true, false, List, [], ◌∷◌, ◌++◌, length, map, take, drop, codes, if◌then◌else◌, sym, refl, ap, ◌∙◌, subst}
 use Rattle.std.proofs.lemmas.List.{length-map}
 use Rattle.std.specs.Prelude.{Option, None, Some, is_some, option_map, option_and_then, slice_get, IsSomeAnd}
@@ -42,7 +42,7 @@ use Rattle.wellformed.proofs.ListLemmas.{both_none}
 use Rattle.wellformed.proofs.ProgramLemmas.{message_clean}
 use Rattle.wellformed.proofs.Standing.{Around, AreStanding, IsHeld, IsKnown, named, scope_of}
 
--- the contract of an endpoint that is there
+-- the contract of an endpoint
 pub is_end : (p : ProgramText) (s : Setting) (n : ℕ) (side : Side) (c : ContractTree) (P : ContractModel → Type 0) (m : Mention) (v : VariableModel) → s.program.contracts ≡ resolved_contracts p.text (contracts_of p.items)
     → item_at as_contract p n ≡ Some (n, c) → slice_get s.variables m.variable.0 ≡ Some v → IsHeld p (ty.Endpoint side n) v.ty
     → ((r : ContractModel) → contract_at p n ≡ Some r → P r) → IsEnd s P m

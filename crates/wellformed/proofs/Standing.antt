@@ -1,4 +1,4 @@
--- What holds of the variables in scope at a place of a program with whose names and types nothing is wrong.
+-- The variables in scope at a place of a program without mistakes in names and types.
 use Rattle.std.proofs.Common.{◌≡◌, ℕ, ◌<◌, ◌≤◌, false, List, [], ◌∷◌, ◌++◌, length, map}
 use Rattle.std.specs.Option.{option_map_or}
 use Rattle.std.specs.Prelude.{Option, None, Some, option_map, slice_get, IfSome, IsSomeAnd}
@@ -52,12 +52,13 @@ abbrev pub IsHeldAs : ProgramText → declared.ValueType.ValueType → Option He
 IsHeldAs p k None = is_block k ≡ false
 IsHeldAs p k (Some held) = IsHeld p k held
 
--- a variable in scope has a number where it is of the exchange heap, and of this number the method has one that holds what its type says
+-- a variable in scope has a number if it is of the exchange heap; the method's variable of that number holds what the
+-- type says
 abbrev pub IsNumbered : ProgramText → List VariableModel → declared.ValueType.ValueType → Option ℕ → Type 0
 IsNumbered p vs k None = is_block k ≡ false
 IsNumbered p vs k (Some n) = IsSomeAnd (slice_get vs n) (λ v. IsHeld p k v.ty)
 
--- it is in scope where this one is the last
+-- the variable of this number is in scope, if this one is the last
 abbrev pub IsInside : List VariableModel → Option VarId → Option ℕ → Type 0
 IsInside vs last None = Unit {0}
 IsInside vs last (Some n) = IsInScope vs last (number_of n)
@@ -75,8 +76,8 @@ named l = record { name = l.name; ty = l.ty }
 abbrev pub last_of : LocalFrame → Option VarId
 last_of f = option_map number_of f.last
 
--- The variables of a frame are those in scope, and each stands for one of the method. Those of the exchange heap are counted, and
--- not past their limit.
+-- The variables of a frame are those in scope, and `Stands` holds for each. Those of the exchange heap are counted,
+-- and are within their limit.
 pub record AreStanding (p : ProgramText) (vs : List VariableModel) (f : LocalFrame) (g : names.NameFrame) : Type 0 where
   pub same : map named f.locals ≡ g.variables
   pub locals : Each (Stands p vs (last_of f)) f.locals
@@ -91,7 +92,7 @@ pub record IsLocal (p : ProgramText) (v : VariableModel) : Type 0 where
   pub ty : declared.ValueType.ValueType
   pub held : IsHeld p ty v.ty
 
--- the first frame's variables, and others behind them that are no parameters
+-- the first frame's variables, and others after them that are no parameters
 pub record Grows (p : ProgramText) (f g : LocalFrame) : Type 0 where
   pub more : List VariableModel
   pub is : g.variables ≡ f.variables ++ more
@@ -102,7 +103,7 @@ pub record Within (vs : List VariableModel) (f : LocalFrame) : Type 0 where
   pub rest : List VariableModel
   pub is : vs ≡ f.variables ++ rest
 
--- the last variable in scope, and what stays in scope at a break and at a continue, which lies outward
+-- the last variable in scope, and what stays in scope at a break and at a continue, which is outside it
 pub record AreStaying (s : Setting) (f : LocalFrame) (stays : Staying) : Type 0 where
   pub scope : s.scope ≡ last_of f
   pub break_is : s.at_break ≡ option_map number_of stays.at_break
@@ -110,8 +111,8 @@ pub record AreStaying (s : Setting) (f : LocalFrame) (stays : Staying) : Type 0 
   pub at_break : LeadsOut s.variables (last_of f) (option_map number_of stays.at_break)
   pub at_continue : LeadsOut s.variables (last_of f) (option_map number_of stays.at_continue)
 
--- Where a statement stands: in a method of the class that is the item at this place, which gives this result, of a program with
--- whose names and types nothing is wrong.
+-- The surroundings of a statement: a method with this result, of the class that is the item at this index, in a
+-- program without mistakes in names and types.
 pub record Around (p : ProgramText) (c : ClassTree) (class : ℕ) (result : Option tree.Type.Type) (s : Setting) : Type 0 where
   pub clean : program_mistakes p ≡ []
   pub class_is : item_at as_class p class ≡ Some (class, c)
@@ -131,19 +132,19 @@ declares text name ty held role f = locals.with_declaration text (record { name 
 abbrev pub scope_of : ProgramText → names.NameFrame → InScope
 scope_of p g = record { program = p; variables = g.variables }
 
--- a piece of a method that is well formed, and the frame behind it, in which variables have come into scope
+-- a part of a method that is well formed, and the frame after it, in which variables have come into scope
 pub record Goes (p : ProgramText) (vs : List VariableModel) (X : Type 0) (f after : LocalFrame) (behind : names.NameFrame) : Type 0 where
   pub fits : X
   pub standing : AreStanding p vs after behind
   pub grows : scopes.Grows vs (last_of f) (last_of after)
 
--- the same of a piece that leaves the scope as it is
+-- the same for a part that leaves the scope as it is
 pub record Passes (p : ProgramText) (vs : List VariableModel) (X : Type 0) (f after : LocalFrame) (behind : names.NameFrame) : Type 0 where
   pub fits : X
   pub standing : AreStanding p vs after behind
   pub same : last_of after ≡ last_of f
 
--- what a parameter holds, where it is of the exchange heap, and how the method comes to it
+-- what a parameter holds, if it is of the exchange heap, and its role
 abbrev pub heading : ProgramText → Parameter → List (HeapType × Role)
 heading p x = option_map_or (λ k. (k, role_of x) ∷ []) (type_held p x.ty) []
 
@@ -156,7 +157,7 @@ pub record IsMethod (p : ProgramText) (m : MethodTree) (number : ℕ) : Type 0 w
   pub at : slice_get tree.methods index ≡ Some m
   pub told : slice_get (methods_told p) number ≡ Some (method_told p class m)
 
--- a look-up answers this method, with its number
+-- a look-up returns this method, with its number
 pub record Answers (p : ProgramText) (o : Option NumberedMethod) (m : MethodTree) : Type 0 where
   pub number : ℕ
   pub is : o ≡ Some (record { number = number; method = m })

@@ -1,4 +1,4 @@
--- Statements with which nothing is wrong are well formed, and leave the variables in scope standing.
+-- Statements without mistakes are well formed, and `AreStanding` holds after them.
 use Rattle.std.proofs.Common.{◌≡◌, ℕ, List, [], ◌∷◌, ◌++◌, ◌∙◌, refl, sym, subst}
 use Rattle.std.specs.Option.{option_map_or}
 use Rattle.std.specs.Prelude.{Option, option_map}
@@ -44,11 +44,11 @@ use Rattle.wellformed.proofs.LeadLemmas.{goes_back, grown, grows_none, grows_on,
 use Rattle.wellformed.proofs.ScopeLemmas.{closed_stands, declared_grows, declared_stands}
 use Rattle.wellformed.proofs.Standing.{Around, AreStanding, AreStaying, Goes, Passes, Within, last_of, scope_of}
 
--- where a statement of a method stands
+-- the surroundings of a statement of a method
 abbrev pub InMethod : Surroundings → ℕ → Setting → Type 0
 InMethod m class s = Around m.program m.class class m.result s
 
--- the same place in another scope, where these stay
+-- the same place with another scope, and with these staying at a break and at a continue
 abbrev placed : Setting → (scope at_break at_continue : Option VarId) → Setting
 placed s scope at_break at_continue = record s { scope = scope; at_break = at_break; at_continue = at_continue }
 
@@ -65,11 +65,11 @@ around_at m class s scope at_break at_continue a = record {
   nested = a.nested;
 }
 
--- behind another statement
+-- after another statement
 around_behind : (m : Surroundings) (class : ℕ) (s : Setting) (scope : Option VarId) → InMethod m class s → InMethod m class (with_last s scope)
 around_behind m class s scope a = around_at m class s scope s.at_break s.at_continue a
 
--- what stays in scope lies outward still, where the scope is the same
+-- what stays in scope is still outside, if the scope is the same
 staying_same : (s : Setting) (f after : LocalFrame) (stays : Staying) → last_of after ≡ last_of f → AreStaying s f stays → AreStaying s after stays
 staying_same s f after stays same staying = record {
   scope = staying.scope ∙ sym same;
@@ -79,7 +79,7 @@ staying_same s f after stays same staying = record {
   at_continue = subst (λ o. LeadsOut s.variables o (option_map number_of stays.at_continue)) (sym same) staying.at_continue;
 }
 
--- and where it has grown
+-- and if it has grown
 staying_then : (s : Setting) (f after : LocalFrame) (stays : Staying) → LeadsOut s.variables (last_of after) (last_of f) → AreStaying s f stays → AreStaying (with_last s (last_of after)) after stays
 staying_then s f after stays inner staying = record {
   scope = refl;
@@ -89,7 +89,7 @@ staying_then s f after stays inner staying = record {
   at_continue = leads_then s.variables (last_of after) (last_of f) _ inner staying.at_continue;
 }
 
--- a piece behind which the same variables are in scope
+-- a part after which the same variables are in scope
 same_frame : (p : ProgramText) (s : Setting) (X : Type 0) (f : LocalFrame) (g : names.NameFrame) → X → AreStanding p s.variables f g → Passes p s.variables X f f g
 same_frame p s X f g fits standing = record { fits = fits; standing = standing; same = refl }
 
@@ -106,7 +106,7 @@ stands_still : (p : ProgramText) (s : Setting) (x : StatementModel) (f : LocalFr
     → Goes p s.variables (IsStatement (with_last s (last_of f)) x) f f g
 stands_still p s x f g here fits standing = statement_passes p s x f f g here (same_frame p s (IsStatement s x) f g fits standing)
 
--- one piece, and then another
+-- one part, and then another
 both_pass : (p : ProgramText) (vs : List VariableModel) (X Y : Type 0) (f middle after : LocalFrame) (g behind : names.NameFrame) → Passes p vs X f middle g → Passes p vs Y middle after behind → Passes p vs (X × Y) f after behind
 both_pass p vs X Y f middle after g behind first second = record { fits = (first.fits, second.fits); standing = second.standing; same = second.same ∙ first.same }
 
@@ -129,17 +129,17 @@ declaration_goes m class s around d f g standing within none =
       grows = declared_grows p s.variables d.name (type_meant p d.ty) (type_held p d.ty) f within;
     }
 
--- a scope that has grown, from where a statement stands
+-- a scope that has grown from that of the statement
 grows_here : (s : Setting) (f : LocalFrame) (after : Option VarId) → s.scope ≡ last_of f → scopes.Grows s.variables (last_of f) after → scopes.Grows s.variables s.scope after
 grows_here s f after here grows = subst (λ o. scopes.Grows s.variables o after) (sym here) grows
 
--- what a `break` or a `continue` leaves
+-- what a `break` or a `continue` leaves in scope
 left_fits : (s : Setting) (f : LocalFrame) (place : Place) (to : Option VarId) (stays : Option ℕ) → s.scope ≡ last_of f → to ≡ option_map number_of stays
     → LeadsOut s.variables (last_of f) (option_map number_of stays) → GoesBack s.scope to (forget place stays f.last)
 left_fits s f place to stays here is leads =
     subst (λ o. GoesBack o to (forget place stays f.last)) (sym here) (subst (λ o. GoesBack (last_of f) o (forget place stays f.last)) (sym is) (goes_back s.variables place stays f.last leads))
 
--- a scope that goes back to where a statement stands
+-- a scope that goes back to that of the statement
 back_here : (s : Setting) (f last : LocalFrame) (place : Place) → s.scope ≡ last_of f → LeadsOut s.variables (last_of last) (last_of f) → GoesBack (last_of last) s.scope (forget place f.last last.last)
 back_here s f last place here leads = subst (λ o. GoesBack (last_of last) o (forget place f.last last.last)) (sym here) (goes_back s.variables place f.last last.last leads)
 

@@ -13,7 +13,7 @@ use Rattle.declarations.specs.Program.{Numbered, ProgramText, as_contract, as_st
 use Rattle.declarations.specs.declared.value_type.ValueType.TheVariants as ty
 use Rattle.wellformed.proofs.Standing.{IsKnown}
 
--- an item of some kind has the number of its place
+-- an item that is looked up as some sort has the number of its index
 numbered_so : {X : Type 0} (n : ℕ) (o : Option X) (y : ℕ × X) → option_map (λ x. (n, x)) o ≡ Some y → n ≡ y.0
 numbered_so n None y is = cc
 numbered_so n (Some x) y is = ap (λ z. z.0) (same_Some (n, x) y is)
@@ -33,11 +33,11 @@ there_is : {X : Type 0} (o : Option X) (x : X) → o ≡ Some x → IsSomeAnd o 
 there_is None x is = cc
 there_is (Some y) x is = tt
 
--- the struct that a name means stands at its place
+-- the struct that a name means is at its index
 pub struct_found : (p : ProgramText) (name : Span) (s : Numbered StructTree) → struct_named p name ≡ Some s → item_at as_struct p s.0 ≡ Some (s.0, s.1)
 struct_found p name s named = found_itself as_struct p (first_among p.text (item_names p) name) s named
 
--- what a type means whose names are declared is known
+-- a type whose names are declared is known
 pub pointer_known : (p : ProgramText) (name : Span) (o : Option _) → struct_named p name ≡ o → pointer_unknown o name ≡ [] → IsKnown p (pointer_type o)
 pointer_known p name None is none = cc
 pointer_known p name (Some s) is none = there_is (item_at as_struct p s.0) s (found_itself as_struct p (first_among p.text (item_names p) name) s is)

@@ -48,7 +48,7 @@ use Rattle.wellformed.proofs.ProgramLemmas.{result_clean}
 use Rattle.wellformed.proofs.TypeLemmas.{struct_found}
 use Rattle.wellformed.proofs.Standing.{Around, AreStanding, IsHeld, IsKnown, scope_of}
 
--- whether what a method gives fits a type that is asked
+-- whether the result of a method fits the demanded type
 abbrev pub gives_asked : ProgramText → Option tree.Type.Type → declared.ValueType.ValueType → Bool
 gives_asked p None k = false
 gives_asked p (Some t) k = agree (type_meant p t) k
@@ -58,7 +58,7 @@ by_result : (p : ProgramText) (k : declared.ValueType.ValueType) (F : Option tre
 by_result p k F None fits none some = cc
 by_result p k F (Some t) fits none some = sym (some t) ∙ fits
 
--- whether it gives no block
+-- whether it is no block
 abbrev pub gives_none : ProgramText → Option tree.Type.Type → Bool
 gives_none p None = true
 gives_none p (Some t) = not (is_block (type_meant p t))
@@ -74,7 +74,7 @@ pub no_send : (p : ProgramText) (class : ℕ) (s : Setting) (f : LocalFrame) (g 
 no_send p class s f g Is c alone (inl x) not_alone = x
 no_send p class s f g Is c alone (inr x) not_alone = cc
 
--- A call as a value gives a block of the type that is asked.
+-- A call as a value gives a block of the demanded type.
 block_result : (p : ProgramText) (s : Setting) (k : declared.ValueType.ValueType) (target : Mention) (v : VariableModel) (result : Option tree.Type.Type) → option_map_or (type_unknown p) result [] ≡ []
     → IsKnown p k → is_block k ≡ true → slice_get s.variables target.variable.0 ≡ Some v → IsHeld p k v.ty → gives_asked p result k ≡ true → IsTaken s (result_held p result) (Some target)
 block_result p s k target v None known asked block there holds fits = cc
@@ -84,7 +84,7 @@ block_result p s k target v (Some t) known asked block there holds fits =
     let same = alike_held p k (type_meant p t) v.ty h.held (alike_sym (type_meant p t) k like) holds (record { state = state_in t; is = h.is }) in
     subst (λ o. IsTaken s o (Some target)) (sym h.is) (holds_there s h.held target v there same)
 
--- or nothing, where a scalar is asked
+-- or no block, if a scalar is demanded
 scalar_result : (p : ProgramText) (k : declared.ValueType.ValueType) (result : Option tree.Type.Type) → option_map_or (type_unknown p) result [] ≡ [] → IsKnown p k → is_block k ≡ false
     → gives_asked p result k ≡ true → result_held p result ≡ None
 scalar_result p k None known asked scalar fits = refl
@@ -96,7 +96,7 @@ alone_result : (p : ProgramText) (result : Option tree.Type.Type) → gives_none
 alone_result p None fits = refl
 alone_result p (Some t) fits = scalar_holds p (type_meant p t) (state_in t) (not-true (is_block (type_meant p t)) fits)
 
--- a call of a method, told
+-- a call of a method, in numbers
 pub told_call : (p : ProgramText) (class : ℕ) (s : Setting) (f : LocalFrame) (g : names.NameFrame) (c : CallTree) (target : Option Mention) (behind : List Mention) (Is : MethodTree → Type 0) → (x : CallsMethod p class f g Is c)
     → IsStatement s (Call (call_of p class f c target behind (record { number = x.number; method = x.method }))) → IsStatement s (call_statement p class f c target behind)
 told_call p class s f g c target behind Is x fits = subst (λ o. IsStatement s (option_map_or Call (option_map (call_of p class f c target behind) o) (seen.Simple [] effects.Nothing))) (sym x.is) fits
@@ -107,13 +107,13 @@ pub void_call : (p : ProgramText) (t : ClassTree) (class : ℕ) (result : Option
 void_call p t class result s f g c behind Is around standing x void mentioned =
     told_call p class s f g c None behind Is x (call_fits p t class result s f g c None behind Is around standing x (subst (λ o. IsTaken s o None) (sym void) tt, tt) mentioned)
 
--- a call that stands alone
+-- a call as a statement
 pub alone_call : (p : ProgramText) (t : ClassTree) (class : ℕ) (result : Option tree.Type.Type) (s : Setting) (f : LocalFrame) (g : names.NameFrame) (c : CallTree)
     → Around p t class result s → AreStanding p s.variables f g → (x : CallsMethod p class f g (λ m. gives_none p m.result ≡ true) c) → IsStatement s (call_statement p class f c None [])
 alone_call p t class result s f g c around standing x =
     void_call p t class result s f g c [] (λ m. gives_none p m.result ≡ true) around standing x (alone_result p x.method.result x.fits) tt
 
--- a call as a value: a method that gives the type that is asked
+-- a call as a value: a method that gives the demanded type
 asked_call : (p : ProgramText) (t : ClassTree) (class : ℕ) (result : Option tree.Type.Type) (s : Setting) (f : LocalFrame) (g : names.NameFrame) (k : declared.ValueType.ValueType) (c : CallTree)
     → Around p t class result s → AreStanding p s.variables f g → value_mistakes (record { scope = scope_of p g; class = t }) k (values.Call c) ≡ []
     → CallsMethod p class f g (λ m. gives_asked p m.result k ≡ true) c
@@ -121,7 +121,7 @@ asked_call p t class result s f g k c around standing none =
     no_send p class s f g (λ m. gives_asked p m.result k ≡ true) c _
     (call_means p t class result s f g _ c around standing none (λ m. gives_asked p m.result k ≡ true) (λ m name starts F same fits. by_result p k F m.result fits (same None) (λ x. same (Some x)))) refl
 
--- what a new block reads
+-- the variables that a new block reads
 made_within : (p : ProgramText) (class : ℕ) (s : Setting) (f : LocalFrame) (g : names.NameFrame) → AreStanding p s.variables f g → (m : MadeTree) → Each (IsMention s) (made_reads p class f m)
 made_within p class s f g standing (values.Struct name left given) = tt
 made_within p class s f g standing (values.Array element length) = reads_within p s.variables f g standing length
@@ -131,11 +131,11 @@ move_fits : (s : Setting) (target : Mention) (v : VariableModel) (o : Option Men
 move_fits s target v o source is there holds inside =
     subst (λ x. IsEffect s (effect_on (Move target) x)) (sym is) (inside, subst (λ x. IsSomeAnd x (λ w. Holds s w.ty source.variable)) (sym there) holds)
 
--- what takes a new block is no end of a channel, and what is given is of the types that the block has in its fields that own
+-- the taker of a new block is no end of a channel, and the arguments have the types of the block's owning fields
 abbrev pub IsMade : Setting → HeapType → List Mention → Type 0
 IsMade s held given = (is_end held ≡ false) × HoldAll s (field_types s.program.structs held) (map (λ m. m.variable) given)
 
--- a type that is like a pointer is one to the same struct
+-- a type that is like a pointer is a pointer to the same struct
 pointer_made : (p : ProgramText) (n : ℕ) (k : declared.ValueType.ValueType) (held : HeapType) → alike (ty.Pointer n) k ≡ true → IsHeld p k held → held ≡ struct_of (structs_before p.items n)
 pointer_made p n (ty.Pointer m) held fits is = pointer_held p m held is ∙ ap (λ x. struct_of (structs_before p.items x)) (sym (eqb-true n m fits))
 pointer_made p n k held fits is = cc
@@ -144,7 +144,7 @@ array_made : (p : ProgramText) (s : Setting) (element : Scalar) (k : declared.Va
 array_made p s element (ty.Array e) held fits is = subst (λ h. IsMade s h []) (sym (array_held p e held is)) (refl, tt)
 array_made p s element k held fits is = cc
 
--- what is given for a new struct
+-- the arguments for a new struct
 given_fits : (p : ProgramText) (class : ℕ) (s : Setting) (f : LocalFrame) (g : names.NameFrame) (x : Numbered StructTree) (name : Span) (given : List ExpressionTree) → program_mistakes p ≡ [] → AreStanding p s.variables f g
     → item_at as_struct p x.0 ≡ Some (x.0, x.1) → struct_made_mistakes (scope_of p g) (Some x) name (map shape given) ≡ [] → HoldAll s (fields_held p x.1.fields) (map (λ m. m.variable) (payloads p class f given))
 given_fits p class s f g x name given clean standing there none =

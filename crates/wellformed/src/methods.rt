@@ -20,10 +20,12 @@ use source::Memory;
 use std::alloc::Global;
 use tree::Tree;
 
-/// The methods of a program with whose names and types nothing is wrong, and of which these are the contracts.
+/// Returns the methods of a program without mistakes in its names and types. `contracts` are its resolved contracts.
 ///
-/// A method that takes nothing has no parameter of the exchange heap either. `Memory` is answered where a growth was refused; the contracts
-/// are lost then.
+/// A method that takes nothing has no parameter of the exchange heap either.
+///
+/// # Errors
+/// `Memory` if an allocation fails; the contracts are dropped.
 pub fn well_formed_methods(
     alloc: Global,
     tree: &Tree,

@@ -8,7 +8,7 @@ use std::test::Fail;
 
 const PLACE: Place = Place { line: 3, col: 7 };
 
-/// A finding of each text.
+/// Returns a finding of each text.
 fn all(alloc: Global) -> Result<Vec<Finding>, Memory> {
     let mut all = Vec::new(alloc);
     all.push(texts::stray_byte(alloc, PLACE)?)?;

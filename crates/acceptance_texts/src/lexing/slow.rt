@@ -1,5 +1,5 @@
-//! The cutting written down plainly: each beginning of what is left is looked at, and the longest that is a piece is
-//! taken. Small texts are cut both ways.
+//! The cutting of a text, written down plainly: every beginning of the rest is tried, and the longest that is a piece
+//! is taken. Small texts are cut both ways.
 
 use source::{Kind, Place, Span, TextFault, Token, lex};
 use std::alloc::Global;
@@ -47,7 +47,7 @@ fn is_comment(bytes: &[u8]) -> bool {
     first.is_some_and(|first| first.saturating_add(2) == block.len())
 }
 
-/// The kind of what is one token as a whole.
+/// Returns the kind of these bytes, if they are one token as a whole.
 fn token_kind(bytes: &[u8]) -> Option<Kind> {
     let first = bytes.first()?;
     if bytes.iter().all(|b| b.is_ascii_digit()) {
@@ -74,7 +74,7 @@ fn is_blank(bytes: &[u8]) -> bool {
     matches!(bytes, b" " | b"\t" | b"\r" | b"\n")
 }
 
-/// How many bytes the longest piece at the front has, and of which kind it is where it is a token.
+/// Returns the length of the longest piece at the front, and its kind if it is a token.
 fn longest(rest: &[u8]) -> Option<(usize, Option<Kind>)> {
     let mut longest = None;
     for len in 1..=rest.len() {
@@ -88,7 +88,7 @@ fn longest(rest: &[u8]) -> Option<(usize, Option<Kind>)> {
     longest
 }
 
-/// The place behind these bytes.
+/// Returns the place after these bytes.
 fn place_behind(before: &[u8]) -> Place {
     let mut place = Place { line: 1, col: 1 };
     for b in before {
@@ -102,7 +102,7 @@ fn place_behind(before: &[u8]) -> Place {
     place
 }
 
-/// The tokens of a text of few bytes.
+/// Returns the tokens of a text of few bytes.
 fn slow_lex(alloc: Global, text: &[u8]) -> Result<Vec<Token>, TextFault> {
     let mut list = Vec::new(alloc);
     let mut at = 0usize;

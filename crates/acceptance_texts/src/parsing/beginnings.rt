@@ -1,4 +1,4 @@
-//! By which tokens a part of a program begins, against the slow reading of the grammar.
+//! Which tokens can begin a part of a program, against the slow reading of the grammar.
 
 use super::WORDS;
 use super::recogniser::{Rests, start, step};
@@ -7,7 +7,7 @@ use std::alloc::{AllocError, Global};
 use std::test::Fail;
 use syntax::{begins_expression, begins_statement, begins_value};
 
-/// What may come behind these words.
+/// Returns what may come after these words.
 fn behind(alloc: Global, front: &str) -> Result<Rests, AllocError> {
     let mut rests = start(alloc)?;
     for word in front.split_whitespace() {
@@ -16,7 +16,7 @@ fn behind(alloc: Global, front: &str) -> Result<Rests, AllocError> {
     Ok(rests)
 }
 
-/// Whether this word may come next.
+/// Returns whether this word may come next.
 fn goes_on(alloc: Global, rests: &Rests, word: &str) -> Result<bool, AllocError> {
     let after = step(alloc, rests.clone()?, word)?;
     Ok(!after.is_empty())

@@ -1,4 +1,4 @@
-//! Values and expressions: each form once, and where the first wrong token stands.
+//! Values and expressions: each form once, and the first wrong token of others.
 
 use super::answers;
 use source::{Kind, Place, Span, Token, Tokens};
@@ -10,7 +10,7 @@ use tree::{
     Unary, Value,
 };
 
-/// What stands before a value here, in so many words.
+/// The words before a value.
 const FRONT: &str = "class K { static void F ( ) { v = ";
 
 const BEFORE: usize = 11;
@@ -50,7 +50,7 @@ const WORDS: [(&str, Kind); 31] = [
     (";", Kind::Semicolon),
 ];
 
-/// The tokens that these words are.
+/// Returns the tokens of these words.
 fn tokens_of(alloc: Global, text: &str) -> Result<Tokens, AllocError> {
     let place = Place { line: 1, col: 1 };
     let mut list = Vec::new(alloc);
@@ -71,7 +71,7 @@ fn tokens_of(alloc: Global, text: &str) -> Result<Tokens, AllocError> {
     Ok(Tokens { list, end: place })
 }
 
-/// Whether this value stands well in a method, or the token of this number in it is the first wrong one.
+/// Returns whether this value is correct in a method; with a number, whether its token of that number is the first wrong one.
 fn value_answers(alloc: Global, value: &str, wanted: Option<usize>) -> Result<bool, AllocError> {
     let text = format!(in alloc; "{FRONT}{value}")?;
     let tokens = tokens_of(alloc, text.as_str())?;
@@ -158,7 +158,7 @@ fn first_wrong_tokens_of_values(rt: HostRuntime) -> Result<(), Fail> {
     Ok(())
 }
 
-/// The expression that the first statement of the first method assigns.
+/// Returns the expression that the first statement of the first method assigns.
 fn first_assigned(tree: &Tree) -> Result<&Expression, Fail> {
     let Some(item) = tree.items.first() else {
         return Err(Fail::from("no item"));

@@ -1,8 +1,9 @@
-//! A slow reading of the grammar, which tries every alternative of every rule and looks at no token ahead.
+//! A slow reading of the grammar. It tries every alternative of every rule and looks at no token ahead.
 
 use std::alloc::{AllocError, Global};
 
-/// An alternative of a rule; of the operators of expressions, which differ in the tree alone, some. What stands in angles is a rule, any
+/// The alternatives of the rules. Of the operators of expressions, which differ only in the tree, it has some. A word
+/// in angles is a rule, any other word a token, and `END` the end of the text.
 /// other word a token, `END` the end of the text.
 const RULES: [(&str, &str); 121] = [
     ("<program>", "END"),
@@ -131,14 +132,14 @@ const RULES: [(&str, &str); 121] = [
 /// What may still come: lists of parts, each with its first part last.
 pub type Rests = Vec<Vec<&'static str>>;
 
-/// What may come before the first token.
+/// Returns what may come at the beginning of a text.
 pub fn start(alloc: Global) -> Result<Rests, AllocError> {
     let mut rests = Vec::new(alloc);
     rests.push(vec![in alloc; "<program>"]?)?;
     Ok(rests)
 }
 
-/// What may come behind this token. Nothing, where it is wrong.
+/// Returns what may come after this token; nothing if it is wrong.
 pub fn step(alloc: Global, mut rests: Rests, word: &str) -> Result<Rests, AllocError> {
     let mut after = Vec::new(alloc);
     for _ in 0..1_000_000 {
@@ -157,7 +158,7 @@ pub fn step(alloc: Global, mut rests: Rests, word: &str) -> Result<Rests, AllocE
     Ok(after)
 }
 
-/// Adds what may come where this rule is next: a list for each of its alternatives.
+/// Adds what may come if this rule is next: a list for each of its alternatives.
 fn expand(rests: &mut Rests, rest: &Vec<&'static str>, rule: &str) -> Result<(), AllocError> {
     for (name, alternative) in RULES.iter() {
         if *name == rule {

@@ -1,4 +1,4 @@
--- Each text has an answer: stage by stage, that there is none is refuted.
+-- Each text has a result: for each stage, that there is none is refuted.
 use Rattle.std.proofs.Common.{◌≡◌, ℕ, ◌⊎◌, List, [], ◌∷◌, ◌++◌, refl, sym, subst, ⊎_elim, map}
 use Rattle.std.specs.Prelude.{All, Contains, length, slice_get}
 use Rattle.std.specs.List.{AllZip, concat}
@@ -34,7 +34,7 @@ use Rattle.singcheck.specs.Lines.{bounds_line, clear_line, ok_line}
 use Rattle.singcheck.proofs.one_answer.ExactLemmas.{all_sound, broken_some, empty_or_not, nothing_so, wrong_some}
 use Rattle.singcheck.proofs.one_answer.InsertLemmas.{report_there}
 
--- what the crates below say: each of their stages has an answer
+-- laws of the crates below: each of their stages has a result
 pub record Answered : Type 0 where
   pub cut : (text : List ℕ) → ((tokens : List Token) × AreTokens text tokens) ⊎ ((fault : TextFault) × IsFault text fault)
   pub parsed : (tokens : List Token)
@@ -46,7 +46,7 @@ pub record Answered : Type 0 where
       → ((n : ℕ) → IsBound parts.edges parts.first (sign_to side) n → ⊥) → ⊥
   pub verdicts : (p : ProgramModel) (n : ℕ) → ((found : List FindingModel) → IsMethodVerdict p n found → ⊥) → ⊥
 
--- where no stage before the methods finds something
+-- no stage before the methods finds anything
 module _ (laws : Answered) (text : List ℕ) (clean : (found : List FindingModel) → AreFindings text found → ⊥) where
   -- the text is a program
   program_some : ((items : List ItemTree) → IsProgram text items → ⊥) → ⊥
@@ -63,7 +63,7 @@ module _ (laws : Answered) (text : List ℕ) (clean : (found : List FindingModel
   nothing_told [] none = refl
   nothing_told (m ∷ mistakes) none = cc
 
-  -- nothing is wrong with its names
+  -- there are no mistakes in its names
   names_clean : (items : List ItemTree) → IsProgram text items → program_mistakes (record { text = text; items = items }) ≡ []
   names_clean items parsed =
       let found = program_findings (record { text = text; items = items }) in
@@ -73,7 +73,7 @@ module _ (laws : Answered) (text : List ℕ) (clean : (found : List FindingModel
       (λ some. absurd (clean found (OfNames (record { items = items; parsed = parsed; some = some; are = all }))))
       (empty_or_not found)
 
-  -- nor with its contracts
+  -- and none in its contracts
   contracts_sound : (contracts : List ContractModel) → IsResolved text contracts → (All (λ c. IsSound c.parts) contracts → ⊥) → ⊥
   contracts_sound contracts resolved none = broken_some laws.judged contracts (λ found are. ⊎_elim
       (λ empty. none (all_sound contracts (nothing_so (IsBroken contracts) found are empty)))
@@ -86,7 +86,7 @@ module _ (laws : Answered) (text : List ℕ) (clean : (found : List FindingModel
       let resolved : IsResolved text contracts = record { items = items; parsed = parsed; clean = names_clean items parsed; are = refl } in
       contracts_sound contracts resolved (none contracts resolved))
 
--- each contract has its line
+-- each contract has a line
 line_some : Answered → (c : ContractModel) → IsWhole c.parts → IsSound c.parts → ((line : List ℕ) → IsBoundsLine c line → ⊥) → ⊥
 line_some laws c whole sound none =
     laws.bounded c.parts whole sound Exp (λ to_exp exp. laws.bounded c.parts whole sound Imp (λ to_imp imp.
@@ -111,7 +111,7 @@ bounds_some laws text none = sound_some laws text
     none (concat lines ++ ok_line (length contracts)) Empty
     (record { contracts = contracts; resolved = resolved; sound = sound; lines = lines; each = each; are = refl })))
 
--- what a text comes to whose contracts are sound
+-- the program of a text whose contracts are sound
 pub program_there : (text : List ℕ) (contracts : List ContractModel) (resolved : IsResolved text contracts) → All (λ c. IsSound c.parts) contracts
     → HasProgram text (program_told (record { text = text; items = resolved.items }))
 program_there text contracts resolved sound = record {
@@ -120,7 +120,7 @@ program_there text contracts resolved sound = record {
   is = refl;
 }
 
--- a program is clear, or something is wrong in its methods
+-- either nothing is found in the methods of a program, or something is
 methods_some : Answered → (text : List ℕ) (p : ProgramModel) → HasProgram text p → ((bytes : List ℕ) (status : Status) → Checks text bytes status → ⊥) → ⊥
 methods_some laws text p has none = wrong_some laws.verdicts p (λ found are. ⊎_elim
     (λ empty.

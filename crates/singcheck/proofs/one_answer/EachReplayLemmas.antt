@@ -1,4 +1,4 @@
--- Each text, entry and schedule has an answer of `replay`, no entry, or a malformed line.
+-- Each text, entry and schedule has a result of `replay`, or there is no such entry, or a line is malformed.
 use Rattle.std.proofs.Common.{◌≡◌, ℕ, List, Option, None, Some, slice_get, refl, sym, ap, subst, ◌∙◌}
 use Rattle.std.proofs.Math.Path.{fun_ext}
 use Rattle.std.specs.Option.{option_map}
@@ -21,7 +21,7 @@ use Rattle.singcheck.specs.Replays.{struct_names}
 use Rattle.singcheck.proofs.one_answer.EachLemmas.{Answered, program_there, sound_some}
 use Rattle.singcheck.proofs.one_answer.InsertLemmas.{report_there}
 
--- what the crates below say: a program has bounds, a schedule is read, and events have a replay
+-- laws of the crates below: a program has bounds, a schedule is read, and events have a replay
 pub record Replaying : Type 0 where
   pub bounds : (text : List ℕ) (p : ProgramModel) → HasProgram text p → ((bound : QueueBounds) → AreBounds p bound → ⊥) → ⊥
   pub read : (bytes : List ℕ) → ((events : List Event) → ¬ IsSchedule bytes events) → ((n : ℕ) → ¬ IsFirstMalformed bytes n) → ⊥
@@ -38,7 +38,7 @@ bound_at p a b n side are also (Some c) there =
 one_bounds : (p : ProgramModel) (a b : QueueBounds) → AreBounds p a → AreBounds p b → a ≡ b
 one_bounds p a b are also = fun_ext (λ n. fun_ext (λ side. bound_at p a b n side are also (slice_get p.contracts n) refl))
 
--- from an entry, the events of a schedule come to something
+-- from an entry, the events of a schedule have a result
 pub ran_some : Replaying → (entry lines text : List ℕ) (p : ProgramModel) (n : ℕ) (events : List Event) → HasEntry text entry p n
     → IsSchedule lines events
     → ((bytes : List ℕ) (status : Status) → ¬ IsRan entry lines text bytes status) → ⊥
@@ -57,7 +57,7 @@ ran_some laws entry lines text p n events entered told none = laws.bounds text p
       is = refl;
     })))
 
--- a schedule is read there, or has a malformed line
+-- for an entry, the schedule is read or has a malformed line
 scheduled_some : Replaying → (entry lines text : List ℕ) (p : ProgramModel) (n : ℕ) → HasEntry text entry p n
     → (ComesTo entry lines text → ⊥) → ⊥
 scheduled_some laws entry lines text p n entered none = laws.read lines

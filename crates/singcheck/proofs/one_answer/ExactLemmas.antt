@@ -1,4 +1,4 @@
--- All that is wrong with contracts, or with methods, is a list where it is one for each of them.
+-- All findings of contracts, or of methods, are a list if those of each one are.
 use Rattle.std.proofs.Common.{◌≡◌, ◌<◌, ℕ, zero, suc, ◌⊎◌, inl, inr, List, [], ◌∷◌, ◌++◌, refl, sym, subst, arith, ⊎_elim}
 use Rattle.std.specs.Prelude.{◌≢◌, All, Contains, length}
 use Rattle.std.proofs.Math.Nat.{eq-or-lt_of_le}
@@ -22,7 +22,7 @@ empty_or_not (f ∷ fs) = inr (λ e. cc)
 pub nothing_so : (P : FindingModel → Type 0) (found : List FindingModel) → AreExactly P found → found ≡ [] → (f : FindingModel) → P f → ⊥
 nothing_so P found are none f p = nothing_in f (subst (λ l. Contains l f) none (are.all f p))
 
--- what is so for one reason or for another
+-- what holds for one of two reasons
 both : (P Q R : FindingModel → Type 0) (xs ys : List FindingModel) → AreExactly P xs → AreExactly Q ys
     → ((f : FindingModel) → P f ⊎ Q f → R f) → ((f : FindingModel) → R f → P f ⊎ Q f) → AreExactly R (xs ++ ys)
 both P Q R xs ys one other so why = record {
@@ -47,11 +47,11 @@ broken_some judged (c ∷ cs) none =
         (λ behind. inr (b.0, behind, b.2))
         (front_or_behind c b.0 cs b.1)
 
--- where nothing is broken, each contract is sound
+-- if no contract is broken, each is sound
 pub all_sound : (contracts : List ContractModel) → ((f : FindingModel) → IsBroken contracts f → ⊥) → All (λ c. IsSound c.parts) contracts
 all_sound contracts none = λ k d lt f fault. none f (_, Contains-get_or contracts k d lt, fault)
 
--- what is found in the first methods, so many
+-- a finding of a method with a number less than this
 abbrev IsWrongBelow : ProgramModel → ℕ → FindingModel → Type 0
 IsWrongBelow p most f = (n : ℕ) × (n < most) × IsFoundIn p n f
 

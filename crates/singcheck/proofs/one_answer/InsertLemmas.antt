@@ -1,4 +1,4 @@
--- Any findings have a report: one after another is put at its place in order, unless it stands there.
+-- Any findings have a report: each is inserted in order unless it is there already.
 use Rattle.std.proofs.Common.{◌≡◌, ℕ, List, [], ◌∷◌, refl, sym, ap, ◌∙◌, subst}
 use Rattle.std.specs.Prelude.{All, Contains}
 use Rattle.std.specs.BTreeSet.{insert_key}
@@ -18,12 +18,12 @@ use Rattle.sound.proofs.Quiet.{contains_first}
 abbrev put : List FindingModel → FindingModel → List FindingModel
 put = insert_key report_cmp
 
--- each once, in order
+-- the findings in order, each once
 abbrev in_order : List FindingModel → List FindingModel
 in_order [] = []
 in_order (f ∷ fs) = put (in_order fs) f
 
--- one that is put among others is there, and so are they
+-- after an insertion, the new finding and the others are there
 put_keeps : (f : FindingModel) (fs : List FindingModel) → All (Contains (put fs f)) (f ∷ fs)
 put_keeps f [] = All-contains_itself (f ∷ [])
 put_keeps f (x ∷ xs) = by (report_cmp f x) refl (put_keeps f xs)
@@ -42,7 +42,7 @@ put_keeps f (x ∷ xs) = by (report_cmp f x) refl (put_keeps f xs)
 abbrev Precedes : FindingModel → FindingModel → Type 0
 Precedes f g = report_cmp f g ≡ Less
 
--- and they stay in order
+-- after an insertion, they are still in order
 put_sorted : (f : FindingModel) (fs : List FindingModel) → IsStrictlySortedBy report_cmp fs → IsStrictlySortedBy report_cmp (put fs f)
 unfolding IsStrictlySortedBy
 put_sorted f [] up = (tt, tt)

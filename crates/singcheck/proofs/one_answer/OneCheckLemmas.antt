@@ -1,4 +1,4 @@
--- A text has one answer of a check.
+-- A text has one result of `check`.
 use Rattle.std.proofs.Common.{◌≡◌, ℕ, List, length, refl, sym, ap, ◌∙◌, subst}
 use Rattle.source.specs.Findings.{FindingModel}
 use Rattle.tree.specs.Trees.{ItemTree}
@@ -16,7 +16,7 @@ use Rattle.singcheck.proofs.one_answer.SameLemmas.{AreAlike, alike_exactly, one_
 pub one_items : Laws → (text : List ℕ) (p q : ProgramModel) (one : HasProgram text p) (other : HasProgram text q) → one.resolved.items ≡ other.resolved.items
 one_items laws text p q one other = one_program laws text one.resolved.items other.resolved.items one.resolved.parsed other.resolved.parsed
 
--- what the items of the text come to is that program
+-- the items of a text yield this program
 pub told_of : Laws → (text : List ℕ) (items : List ItemTree) (p : ProgramModel) → HasProgram text p → IsProgram text items
     → p ≡ program_told (record { text = text; items = items })
 told_of laws text items p has parsed =
@@ -25,7 +25,7 @@ told_of laws text items p has parsed =
 pub one_seen : Laws → (text : List ℕ) (p q : ProgramModel) → HasProgram text p → HasProgram text q → p ≡ q
 one_seen laws text p q one other = told_of laws text other.resolved.items p one other.resolved.parsed ∙ sym other.is
 
--- what an earlier stage found is not found in a program with which nothing is wrong so far
+-- a program without findings before its methods has no finding of an earlier stage
 pub before_or_methods : Laws → (text : List ℕ) (found : List FindingModel) (p : ProgramModel) → AreFindings text found → HasProgram text p → ⊥
 before_or_methods laws text found p are has = found_or_sound laws text found p.contracts are has.resolved has.sound
 

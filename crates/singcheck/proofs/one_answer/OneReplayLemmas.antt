@@ -1,4 +1,4 @@
--- A text, an entry and a schedule have one answer of `replay`.
+-- A text, an entry and a schedule have one result of `replay`.
 use Rattle.std.proofs.Common.{◌≡◌, ℕ, Bool, true, false, List, refl, sym, ap, ◌∙◌, subst}
 use Rattle.std.specs.Prelude.{nat_eq}
 use Rattle.std.specs.Cmp.Lexicographic.{pointwise, same_text, other_text}
@@ -20,7 +20,7 @@ use Rattle.singcheck.proofs.one_answer.OneCheckLemmas.{before_or_methods, one_it
 use Rattle.singcheck.proofs.one_answer.OnlyLemmas.{Laws, one_findings}
 use Rattle.singcheck.proofs.one_answer.SameLemmas.{one_report}
 
--- what the crates below say of replays
+-- laws of the crates below about replays
 pub record ReplayLaws : Type 0 where
   pub laws : Laws
   pub bounds : (text : List ℕ) (p : ProgramModel) → HasProgram text p → ((bound : QueueBounds) → AreBounds p bound → ⊥) → ⊥
@@ -43,7 +43,7 @@ status_never_differs Found Found both = refl
 status_never_differs Empty Found both = absurd (both (λ e. cc))
 status_never_differs Found Empty both = absurd (both (λ e. cc))
 
--- two runs are of one program, from one method, by the same events
+-- two runs have the same program, the same method and the same events
 module _ (known : ReplayLaws) (entry lines text a b : List ℕ) (s t : Status) (x : IsRan entry lines text a s)
     (y : IsRan entry lines text b t) where
   one_program : x.program ≡ y.program
@@ -108,7 +108,7 @@ one_status known entry lines text a b s t (OfRun x) (OfFindings y found) =
     absurd (before_or_methods known.laws text y.found x.program y.are x.entered.has)
 one_status known entry lines text a b s t (OfRun x) (OfRun y) = ran_status known entry lines text a b s t x y
 
--- where there is no entry, or a line is malformed, there is no answer of a run
+-- if there is no such entry, or a line is malformed, there is no result of a run
 entered_or_lacking : ReplayLaws → (text entry : List ℕ) (p : ProgramModel) (n : ℕ) → HasEntry text entry p n → LacksEntry text entry → ⊥
 entered_or_lacking known text entry p n has lacks =
     let program = one_seen known.laws text p lacks.program has.has lacks.has in

@@ -1,4 +1,4 @@
--- A text has one program, one list of contracts, and findings in one stage alone.
+-- A text has one program, one list of contracts, and findings in only one stage.
 use Rattle.std.proofs.Common.{◌≡◌, ℕ, ◌+◌, ◌<◌, ◌≤◌, List, [], ◌∷◌, ◌++◌, length, take, drop, slice_get, refl, sym, ap, ◌∙◌, subst, arith, ⊎_elim, take-append-drop, map}
 use Rattle.std.specs.Prelude.{Contains, ◌≢◌, All}
 use Rattle.std.specs.List.{AllZip, concat}
@@ -31,7 +31,7 @@ use Rattle.singcheck.specs.Lines.{bounds_line, ok_line}
 use Rattle.singcheck.proofs.one_answer.SameLemmas.{AreAlike, alike_exactly, alike_same, nothing_in}
 use Rattle.machine.proofs.BoundLemmas.{least}
 
--- what the crates below say of their own answers
+-- laws of the crates below about their own results
 pub record Laws : Type 0 where
   pub tokens : (text : List ℕ) (a b : List Token) → AreTokens text a → AreTokens text b → a ≡ b
   pub fault : (text : List ℕ) (f g : TextFault) → IsFault text f → IsFault text g → f ≡ g
@@ -49,7 +49,7 @@ one_resolved laws text a b one other =
     let items = one_program laws text one.items other.items one.parsed other.parsed in
     one.are ∙ ap (λ l. resolved_contracts text (contracts_of l)) items ∙ sym other.are
 
--- a shorter front of what begins a spelling does too
+-- if tokens begin a spelling, so does each front of them
 shorter : (ss : List Symbol) (k j : ℕ) → k ≤ j → Viable (whole program) (take j ss) → Viable (whole program) (take k ss)
 shorter ss k j le v = record {
   piece = v.piece;
@@ -96,7 +96,7 @@ names_or_clean laws text found contracts wrong resolved =
 broken_or_sound : (contracts : List ContractModel) (f : FindingModel) → All (λ c. IsSound c.parts) contracts → IsBroken contracts f → ⊥
 broken_or_sound contracts f sound broken = All-contains (λ c. IsSound c.parts) contracts broken.0 sound broken.1 f broken.2
 
--- a text with findings is no sound program
+-- a text with findings is not a program with sound contracts
 pub found_or_sound : Laws → (text : List ℕ) (found : List FindingModel) (contracts : List ContractModel) → AreFindings text found → IsResolved text contracts → All (λ c. IsSound c.parts) contracts → ⊥
 found_or_sound laws text found contracts (OfText h) resolved sound = text_or_program laws text found resolved.items h resolved.parsed
 found_or_sound laws text found contracts (OfSyntax h) resolved sound = syntax_or_program laws text found resolved.items h resolved.parsed
@@ -110,7 +110,7 @@ found_or_sound laws text found contracts (OfContracts h) resolved sound =
 pub found_or_bounds : Laws → (text bytes : List ℕ) (found : List FindingModel) → AreFindings text found → IsBoundsReport text bytes → ⊥
 found_or_bounds laws text bytes found h are = found_or_sound laws text found are.contracts h are.resolved are.sound
 
--- the findings of a text are the same
+-- a text has one set of findings
 pub one_findings : Laws → (text : List ℕ) (a b : List FindingModel) → AreFindings text a → AreFindings text b → AreAlike a b
 one_findings laws text a b (OfText x) (OfText y) = alike_same a b (x.are ∙ ap fault_findings (laws.fault text x.fault y.fault x.first y.first) ∙ sym y.are)
 one_findings laws text a b (OfText x) (OfSyntax y) = absurd (laws.none text y.tokens x.fault y.lexed x.first)

@@ -12,7 +12,7 @@ use Rattle.singcheck.specs.Reports.{IsReport, report_bytes}
 use Rattle.reports.proofs.OrderLemmas.{report_total}
 use Rattle.sound.proofs.Quiet.{contains_first}
 
--- these have the same findings
+-- the two lists have the same findings
 pub record AreAlike (xs ys : List FindingModel) : Type 0 where
   pub from : (f : FindingModel) → Contains xs f → Contains ys f
   pub back : (f : FindingModel) → Contains ys f → Contains xs f
@@ -69,7 +69,7 @@ one_order (x ∷ xs) (y ∷ ys) up down alike =
     } in
     ap (λ z. z ∷ xs) first ∙ ap (λ l. y ∷ l) (one_order xs ys up.1 down.1 rest)
 
--- and so are their reports
+-- so their reports are the same
 pub one_report : (xs ys : List FindingModel) (a b : List ℕ) → AreAlike xs ys → IsReport xs a → IsReport ys b → a ≡ b
 one_report xs ys a b alike one other =
     let listed : one.listed ≡ other.listed = one_order one.listed other.listed one.ordered other.ordered (record {
@@ -78,7 +78,7 @@ one_report xs ys a b alike one other =
     }) in
     one.is ∙ ap report_bytes listed ∙ sym other.is
 
--- findings that are exactly those of which something holds
+-- two lists of exactly the findings with a property have the same findings
 pub alike_exactly : (P : FindingModel → Type 0) (xs ys : List FindingModel) → AreExactly P xs → AreExactly P ys → AreAlike xs ys
 alike_exactly P xs ys one other = record {
   from = λ f c. other.all f (one.right f c);

@@ -1,4 +1,4 @@
--- What an event of any run does to blocks, whatever is found: what it gives is its own, and it is given once.
+-- What an event of any run does to blocks, whatever is found: a process gives only what it owns, and gives it once.
 use Rattle.std.proofs.Common.{◌≡◌, ◌≢◌, ◌==◌, ◌&&◌, ℕ, ◌<◌, ◌≤◌, Bool, true, false, not, List, [], ◌∷◌, ◌++◌, Some, None, length, refl}
 use Rattle.std.proofs.Common.{sym, ap, ◌∙◌, subst, arith, ⊎_elim}
 use Rattle.std.proofs.lemmas.Bool.{cases_Bool, cases_lt, eqb-true}
@@ -34,7 +34,7 @@ use Rattle.rules.proofs.TransferLemmas.{of_not}
 use Rattle.machine.proofs.ChangeLemmas.{changed_length, true≢false}
 use Rattle.machine.proofs.Holding.{owned_there}
 
--- ---- the invariant of the blocks: beside channels and what stands in queues, what is no end has nothing in its queue
+-- ---- the invariant of the blocks: besides channels and queues, a block that is no end has an empty queue
 abbrev pub ArePlain : List Block → Type 0
 ArePlain bs = (a : ℕ) → is_end (block_at bs a).ty ≡ false → (block_at bs a).queue ≡ []
 
@@ -42,7 +42,7 @@ pub record RunFits (p : ProgramModel) (bs : List Block) : Type 0 where
   pub fits : BlocksFit p bs
   pub plain : ArePlain bs
 
--- what an event of any run comes to: blocks of which this holds, or a fault that is not F6
+-- what an event of any run may yield: blocks with this invariant, or a fault other than F6
 abbrev pub IsFine : ProgramModel → Outcome → Type 0
 IsFine p (Moved v) = RunFits p v.blocks
 IsFine p (Faulty F6) = ⊥
@@ -81,14 +81,14 @@ end_of_type (Struct n) c side e = absurd (cc)
 end_of_type (Array n) c side e = absurd (cc)
 end_of_type (Endpoint d s q) c side e = refl
 
--- ---- blocks behind the others
+-- ---- appended blocks
 pub plain_append : (self : ℕ) (bs more : List Block) → AreFresh self more → ArePlain bs → ArePlain (bs ++ more)
 plain_append self bs more fresh h a no_end = queue_append self bs more a fresh ∙ ⊎_elim
     (λ short. h a (ap (λ (b : Block). is_end b.ty) (sym (block_append bs more a short)) ∙ no_end))
     (λ past. ap (λ (b : Block). b.queue) (block_past bs a past)) (cases_lt a (length bs))
 
 module _ (p : ProgramModel) (bound : QueueBounds) (w : World) (self : ℕ) (f : Frame) (rest : List Frame) (h : RunFits p w.blocks) where
-  -- a variable of which the process has the block
+  -- a variable whose block the process owns
   pub record OwnAt (x : Option ℕ) : Type 0 where
     pub at : ℕ
     pub is : x ≡ Some at
@@ -171,7 +171,7 @@ module _ (p : ProgramModel) (bound : QueueBounds) (w : World) (self : ℕ) (f : 
         (cases_Bool (goes_with w.blocks a j));
   }
 
-  -- ---- a block and the one that a field holds change places
+  -- ---- a block and the one in a field change places
   pub exchange_fits : (at field given held : ℕ) → owns w.blocks self at ≡ true → owns w.blocks self given ≡ true → given ≢ at
       → slice_get (block_at w.blocks at).fields field ≡ Some held
       → RunFits p (change_each (exchanged_block self at field given held) w.blocks)
@@ -200,7 +200,7 @@ module _ (p : ProgramModel) (bound : QueueBounds) (w : World) (self : ℕ) (f : 
       ap (λ (b : Bool). record { ty = no_type; owner = if b then to else Channel; peer = 0; state = 0; queue = []; fields = [] })
       (⊎_elim (λ t. absurd (let k = owned_there w.blocks self j (mine j t) in omega arith)) (λ e. e) (cases_Bool (is_among given j)))))
 
-  -- a message whose sender's peer is gone
+  -- a message to a freed peer: what it brings goes to the channel
   pub sent_lost : (a state' to : ℕ) (g : Bool) (m : MessageHeld) (j : ℕ) (b : Block) → g ≡ true → (j ≡ a → state' ≡ b.state)
       → sent_block a state' to g m j b ≡ with_new_owner Channel m.payload j b
   sent_lost a state' to g m j b gone same =

@@ -1,4 +1,4 @@
--- Blocks where ends stay, and where some are added behind the others.
+-- Blocks with unchanged ends, and appended blocks.
 use Rattle.std.proofs.Common.{◌≡◌, ◌≢◌, ◌==◌, ◌&&◌, ℕ, zero, suc, ◌+◌, ◌<◌, ◌≤◌, true, false, List, [], ◌∷◌, ◌++◌, Some, length, map, refl}
 use Rattle.std.proofs.Common.{sym, ap, ◌∙◌, subst, arith, inl, ⊎_elim}
 use Rattle.std.proofs.lemmas.Bool.{cases_lt}
@@ -30,8 +30,8 @@ use Rattle.sound.proofs.Quiet.{end_stateless}
 use Rattle.machine.proofs.ChangeLemmas.{eqb_same, eqb_apart, true≢false}
 use Rattle.rules.proofs.RepeatLemmas.{suc_suc}
 
--- ---- channels where ends stay
--- an end that lives now lived before, and is as it was
+-- ---- channels with unchanged ends
+-- an end that is not freed now was not freed before, and is unchanged
 pub record SameEnd (b b' : Block) : Type 0 where
   pub ty : b'.ty ≡ b.ty
   pub peer : b'.peer ≡ b.peer
@@ -100,14 +100,14 @@ same_end b b' e = record {
   queue = λ l. ap (λ (x : Block). x.queue) e;
 }
 
--- ---- blocks behind the others
--- blocks of a process, with nothing in their queues
+-- ---- appended blocks
+-- blocks of a process, with empty queues
 pub record AreFresh (self : ℕ) (more : List Block) : Type 0 where
   pub queue : (k : ℕ) → (block_at more k).queue ≡ []
   pub no_queue : (k a : ℕ) → is_queue (block_at more k).owner a ≡ false
   pub theirs : (k q : ℕ) → q ≢ self → is_process (block_at more k).owner q ≡ false
 
--- blocks that hold nothing and lie in none
+-- blocks with empty fields that are inside no other
 pub record AreBare (more : List Block) : Type 0 where
   pub fields : (k : ℕ) → (block_at more k).fields ≡ []
   pub outside : (k a : ℕ) → is_inside (block_at more k).owner a ≡ false
@@ -138,7 +138,7 @@ owner_append self [] more x a fresh = fresh.no_queue x a
 owner_append self (b ∷ bs) more zero a fresh = refl
 owner_append self (b ∷ bs) more (suc x) a fresh = owner_append self bs more x a fresh
 
--- what stands in queues stays
+-- queues still bring what they own after blocks are appended
 pub queues_append : (self : ℕ) (bs more : List Block) → AreFresh self more
     → ((a x : ℕ) → in_queue x (block_at bs a).queue ≡ one_if (is_queue (block_at bs x).owner a)) → (a x : ℕ)
     → in_queue x (block_at (bs ++ more) a).queue ≡ one_if (is_queue (block_at (bs ++ more) x).owner a)
@@ -172,7 +172,7 @@ kept_append bs more P a some within = record {
   state = inl (ap (λ (b : Block). b.state) (block_append bs more a within));
 }
 
--- fields stay where blocks are added
+-- fields are unchanged when blocks are appended
 pub same_append : (p : ProgramModel) (bs more : List Block) → SameFields p bs (bs ++ more)
 same_append p bs more = record {
   cut = cut_append bs more;
@@ -189,7 +189,7 @@ brought_append p self bs more a fresh h =
     (brought_kept p bs (bs ++ more) (block_at bs a).queue (cut_append bs more)
     (kept_append bs more (λ x. 0 < in_queue x (block_at bs a).queue)) h)
 
--- a block of the process behind the others
+-- the process owns an appended block of its own
 pub new_counts : (self : ℕ) (bs : List Block) (b : Block) (a : ℕ) → b.owner ≡ Process self
     → one_at a (Some (length bs)) + one_if (owns bs self a) ≡ one_if (owns (bs ++ b ∷ []) self a)
 new_counts self [] b zero own =
@@ -229,7 +229,7 @@ new_type [] b (suc a) past e = refl
 new_type (x ∷ bs) b zero past e = absurd (omega arith)
 new_type (x ∷ bs) b (suc a) past e = let short : length bs ≤ a = omega arith in new_type bs b a short e
 
--- a block behind the others that is no end
+-- an appended block that is no end leaves the channels unchanged
 pub channels_new : (p : ProgramModel) (bs : List Block) (b : Block) → is_end b.ty ≡ false → ChannelsFit p bs → ChannelsFit p (bs ++ b ∷ [])
 channels_new p bs b plain h =
     channels_same p bs (bs ++ b ∷ []) (simp length-append (omega arith))

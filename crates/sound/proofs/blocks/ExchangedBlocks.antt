@@ -23,7 +23,7 @@ use Rattle.sound.proofs.blocks.SentBlocks.{process_not_freed}
 use Rattle.rules.specs.Endpoints.{declared_leaf}
 use Rattle.machine.proofs.ChangeLemmas.{changed_length, eqb_same, eqb_apart}
 
--- addresses are still as declared where one of them is another that is declared so too
+-- addresses are still as declared after one is replaced by another that is declared in the same way
 declared_set : (bs : List Block) (types : List HeapType) (xs : List ℕ) (i x : ℕ) (k : HeapType) → slice_get types i ≡ Some k
     → HasLeaf bs k x (declared_leaf k) → AreDeclared bs types xs → AreDeclared bs types (set xs i x)
 declared_set bs [] xs i x k e leaf h = absurd (cc)
@@ -33,7 +33,7 @@ declared_set bs (y ∷ types) (z ∷ xs) zero x k e leaf h =
     (subst (λ (t : HeapType). HasLeaf bs t x (declared_leaf t)) (sym s) leaf, h.1)
 declared_set bs (y ∷ types) (z ∷ xs) (suc i) x k e leaf h = (h.0, declared_set bs types xs i x k e leaf h.1)
 
--- how one of them is declared
+-- the address at an index is as declared there
 pub declared_get : (bs : List Block) (types : List HeapType) (xs : List ℕ) (i : ℕ) (k : HeapType) → slice_get types i ≡ Some k
     → AreDeclared bs types xs → (x : ℕ) × (slice_get xs i ≡ Some x) × HasLeaf bs k x (declared_leaf k)
 declared_get bs [] xs i k e h = absurd (cc)
@@ -73,7 +73,7 @@ module _ (p : ProgramModel) (w : World) (self : ℕ) (h : BlocksFit p w.blocks) 
   pub held_now : FieldsHold bs'
   held_now = held_exchange.exchange_held w.blocks self at field given held h.held owned_at owned_given apart found
 
-  -- nothing is freed, and nothing goes into a queue or out of one
+  -- nothing is freed, and no queue gains or loses a block
   freed_now : (j : ℕ) → is_freed_at bs' j ≡ is_freed_at w.blocks j
   freed_now j = ⊎_elim
       (λ g. ap is_freed (owner_given j g) ∙ sym (ap (λ (n : ℕ). is_freed_at w.blocks n) g

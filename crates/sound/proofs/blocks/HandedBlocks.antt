@@ -1,4 +1,4 @@
--- Blocks of a process that go to another owner, which is no queue and no block: channels, queues and fields stay.
+-- Blocks of a process go to another owner, which is no queue and no block: channels, queues and fields are unchanged.
 use Rattle.std.proofs.Common.{◌≡◌, ℕ, ◌<◌, Bool, true, false, List, length, refl, sym, ap, ◌∙◌, subst, arith, inl}
 use Rattle.std.specs.Prelude.{if◌then◌else◌}
 use Rattle.program.specs.Lists.{is_among}
@@ -81,7 +81,7 @@ module _ (p : ProgramModel) (bs bs' : List Block) (self : ℕ) (given : List ℕ
     fields = λ j short l. ap (λ (b : Block). b.fields) (at j);
   }
 
-  -- to an owner that is no block
+  -- the new owner is no block
   module _ (no_block : (b : ℕ) → is_inside to b ≡ false) where
     handed_inside : (j b : ℕ) → is_inside (block_at bs' j).owner b ≡ is_inside (block_at bs j).owner b
     handed_inside j b = ap (λ (o : Owner). is_inside o b) (owner_now j) ∙ by (is_among given j) refl

@@ -124,7 +124,7 @@ module _ (p : ProgramModel) (w : World) (self : ℕ) (h : BlocksFit p w.blocks) 
       by true e = sym (process_apart (block_at w.blocks j).owner self q (mine j e) (λ s. n2 (sym s)))
       by false e = refl
 
-  -- the new block counts for the process, and what is given does no more
+  -- the process owns the new block, and no longer what it gave
   pub counted_now : (j before after : ℕ) → after + one_if (is_among given j) ≡ before
       → (after + one_at j (Some n)) + one_if (owns w.blocks self j) ≡ before + one_if (owns grown self j)
   counted_now j before after e =
@@ -146,7 +146,7 @@ module _ (p : ProgramModel) (w : World) (self : ℕ) (h : BlocksFit p w.blocks) 
           ap one_if (owns_put self j ∙ ap (λ (s : Bool). not s && owns w.blocks self j) t) in
           omega arith
 
-  -- what is no end has nothing in its queue
+  -- a block that is no end has an empty queue
   pub plain_now : ((j : ℕ) → is_end (block_at w.blocks j).ty ≡ false → (block_at w.blocks j).queue ≡ [])
       → (j : ℕ) → is_end (block_at grown j).ty ≡ false → (block_at grown j).queue ≡ []
   plain_now were j no_end = queue_append self put (b ∷ []) j fresh ∙ (ap (λ (x : Block). x.queue) (at j) ∙ ⊎_elim

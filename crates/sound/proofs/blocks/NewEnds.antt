@@ -187,7 +187,7 @@ module _ (p : ProgramModel) (bs : List Block) (self : ℕ) (c : made.Channel) (h
         (places j past within)) (cases_lt j n);
   }
 
-  -- an end holds nothing
+  -- an end has empty fields
   empty_end : (j : ℕ) (b : Block) → block_at bs' j ≡ b → field_types p.structs b.ty ≡ [] → b.fields ≡ []
       → AreDeclared bs' (field_types p.structs (block_at bs' j).ty) (block_at bs' j).fields
   empty_end j b is types fields =

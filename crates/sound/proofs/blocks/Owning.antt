@@ -32,12 +32,12 @@ use Rattle.sound.proofs.events.GivenBack.{away, each_number}
 use Rattle.sound.proofs.Here.{outcome_at}
 use Rattle.machine.proofs.HeldExchange.{one_if_true}
 
--- Of a process: what a variable has, it owns, and what it owns stands in one variable, lent copies not counted.
+-- A process owns what its variables have, and what it owns is in one variable, lent copies not counted.
 pub record OwnsWhatItHolds (p : ProgramModel) (w : World) (q : ℕ) : Type 0 where
   pub holds : (v a : ℕ) → Each (λ f. read f.variables v ≡ Some a → owns w.blocks q a ≡ true) (stack_at w.processes q)
   pub once : (a : ℕ) → owns w.blocks q a ≡ true → stands_in_frames p (stack_at w.processes q) a ≡ 1
 
--- an address that a frame has is its process's
+-- the process owns each address that a frame has
 abbrev FrameOwns : List Block → ℕ → Frame → Type 0
 FrameOwns bs q f = (v a : ℕ) → read f.variables v ≡ Some a → owns bs q a ≡ true
 
@@ -151,7 +151,7 @@ no_lent a (x ∷ xs) (y ∷ ys) h =
     let z : (if is_lent_role x.role then one_at a y else 0) ≡ 0 = ap (λ (b : Bool). if b then one_at a y else 0) (h 0 x refl) in
     omega arith
 
--- no argument of a call that waits was given twice
+-- no argument of a waiting call was given twice
 waits_apart : (p : ProgramModel) (bs : List Block) (g above : Frame) (w : WaitsFor p bs g above) → IsClean p g.method → PairApart w.arguments
 waits_apart p bs g above w clean =
     let i = Call w.place record { 0 = above.method } w.arguments w.target w.next in

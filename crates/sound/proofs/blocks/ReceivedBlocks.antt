@@ -197,7 +197,7 @@ module _ (p : ProgramModel) (w : World) (self : ℕ) (h : BlocksFit p w.blocks) 
     not_me j x q e = true≢false q (ap (λ (n : ℕ). is_queue (block_at w.blocks n).owner j) e
         ∙ process_no_queue (block_at w.blocks a).owner self j owned)
 
-    -- what lies in a block, and in which, stays so
+    -- what is inside which block is unchanged
     inside_now : (j b : ℕ) → is_inside (block_at got j).owner b ≡ is_inside (block_at w.blocks j).owner b
     inside_now j b = ap (λ (o : Owner). is_inside o b) (owner_now j) ∙ by (is_among m.payload j) refl
       where

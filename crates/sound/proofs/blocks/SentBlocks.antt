@@ -283,7 +283,7 @@ module _ (p : ProgramModel) (w : World) (self : ℕ) (h : BlocksFit p w.blocks) 
                 ap one_if (given_no_queue x j f ∙ (sym (eqb_apart to j (λ s. n (sym s))) ∙ sym (owner_is false true e f)))
             other_queue n false f = sym (ap one_if (owner_is false false e f))
 
-    -- what lies in a block, and in which, stays so
+    -- what is inside which block is unchanged
     inside_now : (j b : ℕ) → is_inside (block_at sent j).owner b ≡ is_inside (block_at w.blocks j).owner b
     inside_now j b = ap (λ (o : Owner). is_inside o b) (owner_now j) ∙ by (is_among m.payload j) refl
       where

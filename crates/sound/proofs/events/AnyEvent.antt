@@ -1,4 +1,4 @@
--- What an event keeps of channels and queues, whatever is found: it is no fault of a queue that is full.
+-- What an event preserves of channels and queues, whatever is found: none has the fault of a full queue.
 use Rattle.std.proofs.Common.{◌≡◌, ℕ, ◌<◌, Bool, true, false, List, [], ◌∷◌, Some, None, length, map, refl, sym, ap, ◌∙◌, subst, inl, inr}
 use Rattle.std.proofs.Common.{⊎_elim}
 use Rattle.std.proofs.lemmas.Bool.{cases_Bool, cases_eq}
@@ -86,7 +86,7 @@ module _ (p : ProgramModel) (bound : QueueBounds) (w : World) (self : ℕ) (f : 
     stays : cut_off w.blocks a ≡ true → state' ≡ (block_at w.blocks a).state
     stays c = ap (λ (b : Bool). if b then (block_at w.blocks a).state else unwrap_or edge (block_at w.blocks a).state) c
 
-    -- the queue has room, and with the message what is to hold does
+    -- the queue has room, and the invariant holds after the send
     abbrev Sends : Type 0
     Sends = (has_room bound w.blocks to ≡ true) × RunFits p (change_each (sent_block a state' to (is_freed_at w.blocks to) m) w.blocks)
 
@@ -108,7 +108,7 @@ module _ (p : ProgramModel) (bound : QueueBounds) (w : World) (self : ℕ) (f : 
             ∙ ap (λ (z : Option ℕ). unwrap_or z (block_at w.blocks a).state) t.1 in
             sends_along p w.blocks a m.message state' c side ty (t.1 ∙ ap Some (sym is)) y there
 
-    -- what is no end has no edge
+    -- a block that is no end has no edge
     plain_sends : is_end (block_at w.blocks a).ty ≡ false → cut_off w.blocks a || is_some edge ≡ true → Sends
     plain_sends no_end may =
         let cut : cut_off w.blocks a ≡ true =

@@ -46,7 +46,7 @@ use Rattle.machine.proofs.CountLemmas.{one_or_none}
 use Rattle.machine.proofs.HeldExchange.{one_if_true}
 use Rattle.machine.proofs.ChangeLemmas.{eqb_apart}
 
--- ---- one stack changes, and the blocks stay
+-- ---- one stack changes, and the blocks are unchanged
 pub same_holds : (p : ProgramModel) (w : World) (self : ℕ) (fs' : List Frame) → Holds p w → self < length w.processes
     → StackFits p w.blocks fs' → ((a : ℕ) → held p a fs' ≡ held p a (stack_at w.processes self))
     → Holds p (record { processes = set w.processes self fs'; blocks = w.blocks })
@@ -69,12 +69,12 @@ same_holds p w self fs' h there fits counted = record {
     others q n = get_or-set_other w.processes self q fs' [] n
 
 -- ---- the tests of arguments
--- where an address was claimed, the variables that have it were given
+-- an address that differs from all those taken is not among them
 not_taken : (taken : List ℕ) (a : ℕ) → Each (λ b. b ≢ a) taken → is_among taken a ≡ false
 not_taken [] a h = refl
 not_taken (b ∷ taken) a h = ap (λ (x : Bool). x || is_among taken a) (eqb_apart b a h.0) ∙ not_taken taken a h.1
 
--- two variables of one frame do not have one address
+-- no two variables of a frame have the same address
 pub no_copies : (vs : List (Option ℕ)) (u v a : ℕ) → standing a vs ≤ 1 → read vs u ≡ Some a → read vs v ≡ Some a → u ≡ v
 no_copies [] u v a h x y = absurd (cc)
 no_copies (z ∷ vs) zero zero a h x y = refl
@@ -88,7 +88,7 @@ no_copies (z ∷ vs) (suc u) zero a h x y =
     absurd (omega arith)
 no_copies (z ∷ vs) (suc u) (suc v) a h x y = let less : standing a vs ≤ 1 = omega arith in ap suc (no_copies vs u v a less x y)
 
--- what was taken is in variables that are given no more
+-- the variables of the arguments have no address that was taken
 abbrev TakenApart : List (Option ℕ) → List ℕ → List Argument → Type 0
 TakenApart vs taken arguments = Each (λ b. (x : ℕ) → read vs (number b) ≡ Some x → Each (λ t. t ≢ x) taken) arguments
 
@@ -128,12 +128,12 @@ module _ (p : ProgramModel) (bound : QueueBounds) (w : World) (self : ℕ) (f : 
           (taken_more f.variables taken a fit.0.at arguments once fit.0.is apart.0 t.1)
       by false = t.1
 
--- nothing was taken yet
+-- nothing is taken yet
 pub none_taken : (vs : List (Option ℕ)) (arguments : List Argument) → TakenApart vs [] arguments
 none_taken vs [] = tt
 none_taken vs (a ∷ arguments) = ((λ x e. tt), none_taken vs arguments)
 
--- what a frame has is its process's, and once
+-- the process owns what its innermost frame has, and has it once
 pub top_owned : (p : ProgramModel) (w : World) (self : ℕ) (f : Frame) (rest : List Frame) (y v : ℕ) → Holds p w
     → stack_at w.processes self ≡ f ∷ rest → read f.variables v ≡ Some y → owns w.blocks self y ≡ true
 top_owned p w self f rest y v h is e =
@@ -153,7 +153,7 @@ pub entry_reached : (p : ProgramModel) (n : ℕ) (x : MethodModel) → method_at
     → Reached (outcome p n) (entry_of p n) ((graph_of x).first, map (λ v. entry_leaf v.role v.ty) x.variables)
 entry_reached p n x there = record { steps = []; path = ap method_entry there }
 
--- arguments that are claimed are not lent to the caller
+-- claimed arguments are not lent to the caller
 pub claims_own : (p : ProgramModel) (m : MethodModel) (row : List Leaf) (xs : List VariableModel) (variables : List VariableModel)
     (arguments : List Argument) → AreArguments variables xs arguments → Passed (each_argument m row (map (λ v. v.ty) xs) arguments)
     → Each (λ a. a.claimed ≡ true → is_lent m (number a) ≡ false) arguments
@@ -177,7 +177,7 @@ go_stays p m vs (a ∷ arguments) h =
     by true own = lent_stays_set m.variables vs (number a) None (own refl)
     by false own = lent_stays_same m.variables vs
 
--- what the new frame has and what stays is what there was
+-- the new frame and the caller together have what the caller had
 call_sum : (new us go vs cu cl su sv kept wait held : ℕ) → new ≡ sv → us + cl ≡ vs → go + cu ≡ us → cu ≡ su → su + cl ≡ sv → kept ≡ go
     → held ≡ vs + wait → new + (kept + wait) ≡ held
 call_sum new us go vs cu cl su sv kept wait held c1 c2 c3 c4 c5 c6 c7 = omega arith

@@ -38,7 +38,7 @@ use Rattle.machine.specs.World.{is_own}
 use Rattle.machine.proofs.ChangeLemmas.{changed_length, eqb_same, eqb_apart, true≢false}
 
 -- ---- owners
--- the owner of a block that goes, or stays
+-- the owner of a block that goes or remains
 abbrev owner_then : (goes : ℕ → Bool) → Bool → Owner → Owner
 owner_then goes t o = if t then Freed else unqueued goes o
 
@@ -50,12 +50,12 @@ then_freed : (goes : ℕ → Bool) (t : Bool) (o : Owner) → is_freed (owner_th
 then_freed goes true o e = absurd (cc)
 then_freed goes false o e = (refl, sym (unqueued_same is_freed goes o (λ n. refl)) ∙ e)
 
--- what was freed stays so
+-- a freed block remains freed
 then_stays : (goes : ℕ → Bool) (t : Bool) (o : Owner) → is_freed o ≡ true → is_freed (owner_then goes t o) ≡ true
 then_stays goes true o e = refl
 then_stays goes false o e = unqueued_same is_freed goes o (λ n. refl) ∙ e
 
--- what goes has nothing more in its queue
+-- the queue of a block that goes owns nothing
 then_empty : (goes : ℕ → Bool) (t : Bool) (c : ℕ) (o : Owner) → goes c ≡ true → is_queue (owner_then goes t o) c ≡ false
 then_empty goes true c o e = refl
 then_empty goes false c (Process n) e = refl
@@ -68,7 +68,7 @@ then_empty goes false c (Inside n) e = refl
 then_empty goes false c Channel e = refl
 then_empty goes false c Freed e = refl
 
--- and what stays has what it had
+-- the queue of a block that remains owns what it owned
 then_queue : (goes : ℕ → Bool) (c : ℕ) (o : Owner) → goes c ≡ false → is_queue (owner_then goes false o) c ≡ is_queue o c
 then_queue goes c (Process n) e = refl
 then_queue goes c (Queue n) e = by (goes n) refl
@@ -112,7 +112,7 @@ module _ (p : ProgramModel) (w : World) (self : ℕ) (h : BlocksFit p w.blocks) 
   pub queue_it : (j : ℕ) → goes j ≡ true → (block_at bs' j).queue ≡ []
   queue_it j e = ap (λ (b : Block). b.queue) (at j) ∙ ap (λ (t : Bool). if t then [] else (block_at w.blocks j).queue) e
 
-  -- what lives now stays, and lived before
+  -- a block that is not freed now remains, and was not freed before
   lived : (j : ℕ) → is_freed_at bs' j ≡ false → (goes j ≡ false) × (is_freed_at w.blocks j ≡ false)
   lived j l = then_freed goes (goes j) (block_at w.blocks j).owner (sym (ap is_freed (owner_at j)) ∙ l)
 
@@ -181,7 +181,7 @@ module _ (p : ProgramModel) (w : World) (self : ℕ) (h : BlocksFit p w.blocks) 
   owns_now : (q j : ℕ) → owns bs' q j ≡ not (goes j) && owns w.blocks q j
   owns_now q j = ap (λ (o : Owner). is_process o q) (owner_at j) ∙ then_process goes (goes j) q (block_at w.blocks j).owner
 
-  -- but for the block itself no process had what goes
+  -- no process owned a block that goes, except the block itself
   not_owned : (q j : ℕ) → goes j ≡ true → j ≢ a → owns w.blocks q j ≡ false
   not_owned q j e n = gone_no_process w.blocks a h.held own j q e n
 

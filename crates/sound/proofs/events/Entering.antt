@@ -126,7 +126,7 @@ row_cons bs x xs y ys l row fit h = record { long = ap suc h.long; row_long = ap
 abbrev pub given_of : List (Option ℕ) → List Argument → List (Option ℕ)
 given_of vs arguments = map (λ a. read vs (number a)) arguments
 
--- variables and leaves of a frame that is entered, with what the caller keeps
+-- the variables and leaves of a frame that is entered, and what the caller keeps
 pub record Entered (bs : List Block) (vs us : List (Option ℕ)) (row : List Leaf) (xs : List VariableModel) (ys : List (Option ℕ))
     (arguments : List Argument) : Type 0 where
   pub fits : RowFits bs xs ys (map (λ v. entry_leaf v.role v.ty) xs)

@@ -36,7 +36,7 @@ use Rattle.sound.proofs.blocks.SentBlocks.{process_not_freed}
 use Rattle.machine.specs.Instructions.{outcome_from, exchanges}
 use Rattle.machine.proofs.ChangeLemmas.{eqb_same, eqb_apart, true≢false}
 
--- the state of a type says nothing of fields
+-- the fields of a type do not depend on its state
 fields_stateless : (p : ProgramModel) (j k : HeapType) → stateless j ≡ stateless k
     → field_types p.structs j ≡ field_types p.structs k
 fields_stateless p (Struct a) (Struct b) e = ap (λ (k : HeapType). field_types p.structs k) e

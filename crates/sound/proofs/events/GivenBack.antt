@@ -1,4 +1,4 @@
--- What was given with a call comes back where the method ends.
+-- When a method ends, its caller has back what it lent.
 use Rattle.std.proofs.Common.{◌≡◌, ◌≢◌, ◌==◌, ℕ, zero, suc, ◌+◌, ◌<◌, Bool, true, false, List, [], ◌∷◌, Some, None, length, map, refl}
 use Rattle.std.proofs.Common.{sym, ap, ◌∙◌, subst, arith, inl, inr, ⊎_elim}
 use Rattle.std.proofs.lemmas.Bool.{cases_Bool, cases_eq, cases_lt, eqb-true}
@@ -42,7 +42,7 @@ passed_range F a (suc n) v h from less =
     above : v ≢ a → a + 1 ≤ v
     above apart = ⊎_elim (λ short. omega arith) (λ most. absurd (apart (omega arith))) (cases_lt a v)
 
--- what holds of the number of each argument
+-- a property of each argument's number, for a number among them
 pub each_number : (P : ℕ → Type 0) (arguments : List Argument) (u : ℕ) → Each (λ a. P (number a)) arguments
     → is_among (numbers arguments) u ≡ true → P u
 each_number P [] u h k = absurd (cc)
@@ -83,12 +83,12 @@ put_back bs variables vs row arguments h back = record {
         (subst (λ (l : Leaf). LeafFits bs y.ty (read (let_go vs (as_claimed arguments)) u) l)
         (row_other row (as_claimed arguments) u (away arguments u out)) (h.each u y there))
 
--- what a lent parameter has where its method ends
+-- a lent parameter has its declared leaf when its method ends
 abbrev pub LentEnds : List Block → List VariableModel → List (Option ℕ) → Type 0
 LentEnds bs xs ys = (u : ℕ) (x : VariableModel) (at : ℕ) → slice_get xs u ≡ Some x → is_lent_role x.role ≡ true → read ys u ≡ Some at
     → HasLeaf bs x.ty at (declared_leaf x.ty)
 
--- a variable that was given, after the call
+-- the variable of an argument, after the call
 pub record GivenBack (bs : List Block) (variables : List VariableModel) (mine : List (Option ℕ)) (before : List Leaf)
     (a : Argument) : Type 0 where
   pub gone : a.claimed ≡ true → read mine (number a) ≡ None
@@ -158,7 +158,7 @@ fits_back bs variables mine before total (a ∷ arguments) h n z =
         subst (λ (x : Option ℕ). LeafFits bs y.ty x (leaf_at (after_claims before total) (number a))) (sym b.1)
         (subst (λ (l : Leaf). HasLeaf bs y.ty b.0 l) (sym (row_other before total (number a) (n.0 c))) (b.2 y there))
 
--- where all but the lent parameters are none, what stands in a frame is what was lent to it
+-- if all but the lent parameters have nothing, a frame has what was lent to it
 pub lent_counts : (bs : List Block) (mine : List (Option ℕ)) (before : List Leaf) (xs : List VariableModel) (ys : List (Option ℕ))
     (arguments : List Argument) (n : ℕ)
     → length ys ≡ length xs → ((u : ℕ) (x : VariableModel) → slice_get xs u ≡ Some x → is_lent_role x.role ≡ false → read ys u ≡ None)

@@ -32,7 +32,7 @@ use Rattle.machine.proofs.ChangeLemmas.{eqb_same, eqb_apart}
 abbrev pub given : List (Option ℕ) → List Argument → List ℕ
 given vs arguments = addresses vs arguments
 
--- an address that is given stands in a variable of an argument
+-- an address is given as often as variables of arguments hold it
 pub given_some : (bs : List Block) (vs : List (Option ℕ)) (row : List Leaf) (types : List HeapType) (arguments : List Argument) (a : ℕ)
     → ArgsFit bs vs row types arguments → standing_in a (given vs arguments) ≡ standing_of a vs arguments
 given_some bs vs row [] [] a fit = refl
@@ -59,13 +59,13 @@ not_in_given (x ∷ xs) a h =
     let e = not_in_given xs a k.1 in
     omega arith
 
--- given once at most: the count is the test
+-- an address that is given at most once is given exactly if it is among the given ones
 pub given_counts : (xs : List ℕ) (a : ℕ) → standing_in a xs ≤ 1 → standing_in a xs ≡ one_if (is_among xs a)
 given_counts xs a once = ⊎_elim
     (λ e. let some = in_given xs a e in let z : one_if (is_among xs a) ≡ 1 = ap one_if e in omega arith)
     (λ e. let none = not_in_given xs a e in let z : one_if (is_among xs a) ≡ 0 = ap one_if e in omega arith) (cases_Bool (is_among xs a))
 
--- all claimed
+-- if all arguments are claimed, what they have is what they claim
 pub all_claims_of : (a : ℕ) (vs : List (Option ℕ)) (arguments : List Argument) → Each (λ b. b.claimed ≡ true) arguments
     → claimed_of a vs arguments ≡ standing_of a vs arguments
 all_claims_of a vs [] h = refl
@@ -86,7 +86,7 @@ given_leaves a bs vs row types arguments fit apart claims once =
     let four = given_counts (given vs arguments) a less in
     (omega arith, four)
 
--- what goes into a message or the fields of a block, as arguments
+-- what goes into a message or the fields of a block fits, as arguments do
 pub taken_fit : (m : MethodModel) (bs : List Block) (vs : List (Option ℕ)) (row : List Leaf) (wrong : List ℕ → Place → FindingModel)
     (types : List HeapType) (given : List Mention) → RowFits bs m.variables vs row
     → AreOfTypes m.variables types (map (λ x. x.variable.0) given) → Passed (each_taken m row wrong types given)
@@ -101,7 +101,7 @@ taken_fit m bs vs row wrong (k ∷ types) (x ∷ given) fits are h = (
   taken_fit m bs vs row wrong types given fits are.1 h.1.1.1,
 )
 
--- none of it is lent
+-- nothing of it is lent
 pub taken_own : (m : MethodModel) (row : List Leaf) (wrong : List ℕ → Place → FindingModel) (variables : List VariableModel)
     (types : List HeapType) (given : List Mention) → AreOfTypes variables types (map (λ x. x.variable.0) given)
     → Passed (each_taken m row wrong types given)
@@ -116,7 +116,7 @@ pub payloads_claim : (payloads : List Mention) → Each (λ b. b.claimed ≡ tru
 payloads_claim [] = tt
 payloads_claim (x ∷ payloads) = (refl, payloads_claim payloads)
 
--- what is given, where its blocks are kept, is as it was declared
+-- what is given is as declared, if its blocks are kept
 pub given_declared : (bs bs' : List Block) (vs : List (Option ℕ)) (row : List Leaf) (types : List HeapType) (arguments : List Argument)
     → StaysCutOff bs bs' → ArgsFit bs vs row types arguments
     → ((a : ℕ) → is_among (given vs arguments) a ≡ true → a < length bs → IsKept bs bs' a) → AreDeclared bs' types (given vs arguments)
@@ -134,7 +134,7 @@ given_declared bs bs' vs row (k ∷ types) (a ∷ arguments) cut fit kept =
           (λ x has within. kept x (or_right (address (read vs (number a)) == x) (is_among (given vs arguments) x) has) within),
     )
 
--- what is given is the process's own
+-- the process owns what is given
 pub given_own : (bs : List Block) (self : ℕ) (vs : List (Option ℕ)) (row : List Leaf) (types : List HeapType) (arguments : List Argument)
     (a : ℕ) → ArgsFit bs vs row types arguments → ((y v : ℕ) → read vs v ≡ Some y → owns bs self y ≡ true)
     → is_among (given vs arguments) a ≡ true → owns bs self a ≡ true
@@ -146,7 +146,7 @@ given_own bs self vs row (k ∷ types) (b ∷ arguments) a fit own h = ⊎_elim
     (λ e. given_own bs self vs row types arguments a fit.1 own (sym (ap (λ (x : Bool). x || is_among (given vs arguments) a) e) ∙ h))
     (cases_Bool (address (read vs (number b)) == a))
 
--- an address that a variable has that is no argument is not given
+-- an address in a variable that no argument names is not given
 pub not_given : (bs : List Block) (vs : List (Option ℕ)) (row : List Leaf) (types : List HeapType) (arguments : List Argument) (v a : ℕ)
     → ArgsFit bs vs row types arguments → standing a vs ≤ 1 → read vs v ≡ Some a → Each (λ b. number b ≢ v) arguments
     → is_among (given vs arguments) a ≡ false

@@ -1,4 +1,4 @@
--- New: one block more, which holds what is given.
+-- New: one more block, which holds what is given.
 use Rattle.std.proofs.Common.{◌≡◌, ℕ, ◌<◌, true, false, List, [], ◌∷◌, ◌++◌, Some, length, sym, ap, ◌∙◌, subst, arith, set}
 use Rattle.std.proofs.lemmas.Option.{slice_get_within}
 use Rattle.program.specs.Lists.{is_among}

@@ -39,7 +39,7 @@ pub moves_more : (edges : List Edge) (n : ℕ) (old new next : Ends) → Moves e
 moves_more edges zero old new next h m = (next, subst (λ (e : Ends). Move edges e next) (sym h) m, refl)
 moves_more edges (suc n) old new next h m = (h.0, h.1, moves_more edges n h.0 new next h.2 m)
 
--- what one end, and its peer if that lives, are after some moves
+-- one end, and its peer if that is not freed, after some moves
 pub record EndsAre (p : ProgramModel) (contract : ContractModel) (side : Side) (b : Block) (lives : Bool) (peer : Block) : Type 0 where
   pub n : ℕ
   pub ends : Ends
@@ -131,7 +131,7 @@ front [] n ns e = absurd (cc)
 front (x ∷ xs) n ns e =
     record { first = x; others = xs; is = refl; first_is = ap (λ (z : ℕ). record { 0 = z }) (let k : x.0 ≡ n = cc in k); others_are = (cc) }
 
--- a message is taken
+-- a message is received
 pub ends_take : (p : ProgramModel) (x : ContractModel) (side : Side) (b peer b' peer' : Block) (lives : Bool) (m : MessageHeld)
     (ms : List MessageHeld) (q' : ℕ) → EndsAre p x side b lives peer
     → Leads x.parts.edges record { 0 = b.state } record { 0 = m.message } (sign_to side) record { 0 = q' }
@@ -194,7 +194,7 @@ ends_take p x Exp b peer b' peer' lives m ms q' e leads was s q ps pq =
       };
     }
 
--- ---- one channel moves, the others stay
+-- ---- one channel moves, the others are unchanged
 pub type_apart : (k : HeapType) (c d : ℕ) → stateless k ≡ Endpoint record { 0 = c } Imp record { 0 = 0 }
     → stateless k ≡ Endpoint record { 0 = d } Exp record { 0 = 0 } → ⊥
 type_apart k c d e f = sides_apart c d (sym e ∙ f)

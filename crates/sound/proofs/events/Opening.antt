@@ -1,4 +1,4 @@
--- NewChannel: two ends more.
+-- NewChannel: two more ends.
 use Rattle.std.proofs.Common.{◌≡◌, ◌≢◌, ◌==◌, ◌&&◌, ℕ, ◌+◌, ◌<◌, Bool, true, false, not, List, [], ◌∷◌, ◌++◌, Some, None, length, refl}
 use Rattle.std.proofs.Common.{sym, ap, ◌∙◌, subst, arith, inl, set}
 use Rattle.std.proofs.lemmas.Bool.{eqb-true}

@@ -54,7 +54,7 @@ use Rattle.machine.specs.Instructions.{outcome_from, returns, value_tests}
 use Rattle.machine.proofs.ChangeLemmas.{eqb_apart}
 
 -- ---- the frame that ends
--- the variable that is given, if there is one
+-- the variables without the one that is returned, if any
 abbrev without : List (Option ℕ) → Option Mention → List (Option ℕ)
 without vs None = vs
 without vs (Some v) = set vs v.variable.0 None
@@ -131,7 +131,7 @@ standing_nothing (x ∷ vs) a h =
     let e = standing_nothing vs a (λ u. h (suc u)) in
     omega arith
 
--- where a process has no block, the test passes
+-- a process that owns no block passes the test
 has_none : (bs : List Block) (q : ℕ) → ((a : ℕ) → owns bs q a ≡ false) → owns_none bs q ≡ true
 has_none [] q h = refl
 has_none (b ∷ bs) q h = ap (λ (x : Bool). not x && owns_none bs q) (h 0) ∙ has_none bs q (λ a. h (suc a))

@@ -1,4 +1,4 @@
--- Send: no fault, and the invariant stays.
+-- Send: no fault, and the invariant is preserved.
 use Rattle.std.proofs.Common.{◌≡◌, ◌≢◌, ◌&&◌, ℕ, ◌<◌, ◌≤◌, Bool, true, false, not, List, [], ◌∷◌, ◌++◌, Some, None, length, refl, sym, ap, ◌∙◌, subst, arith, inl, inr, ⊎_elim, set}
 use Rattle.std.proofs.lemmas.Bool.{cases_Bool, cases_eq}
 use Rattle.std.proofs.lemmas.List.{length-set, length-append, length-map}
@@ -68,7 +68,7 @@ end_is (Struct n) e = absurd (cc)
 end_is (Array n) e = absurd (cc)
 end_is (Endpoint c side state) e = record { c = c.0; side = side; is = refl }
 
--- what hangs on the contract and the side alone
+-- a value that depends only on the contract and the side
 abbrev pub of_end : {X : Type 0} → (ℕ → Side → X) → X → HeapType → X
 of_end f d (Endpoint c side state) = f c.0 side
 of_end f d _ = d
@@ -133,7 +133,7 @@ channel_of p bs a c Exp h within alive ty =
       };
     }
 
--- what a sender's leaf says
+-- the edge of a sender, and its leaf after the send
 pub record SendsOn (p : ProgramModel) (m : MethodModel) (b : Block) (k : HeapType) (l : Leaf) (message : ℕ) : Type 0 where
   pub to : ℕ
   pub edge : end_on (edges_out p (Some b.ty) b.state) message ≡ Some to
@@ -171,7 +171,7 @@ sent_on_cut p m bs bs' a k (leaf.State q) message h end cut = by (end_on (edges_
     by None = (end, inr cut)
     by (Some t) = (end, inr cut)
 
--- the queue of a peer has room for what may be sent
+-- the queue of the peer has room for a message that an edge allows
 room_for : NeverLonger → (p : ProgramModel) (bound : QueueBounds) → IsSoundProgram p bound → (x : ContractModel) (side : Side) (c : ℕ)
     → slice_get p.contracts c ≡ Some x → (b peer : Block) (m : MessageHeld) (q' : ℕ) → EndsAre p x side b true peer
     → Leads x.parts.edges record { 0 = b.state } record { 0 = m.message } (sign_from side) record { 0 = q' }
@@ -192,7 +192,7 @@ or_left : (x y : Bool) → x ≡ true → x || y ≡ true
 or_left true y e = refl
 or_left false y e = absurd (cc)
 
--- where an edge is found, the end goes along it
+-- if the lookup finds an edge, the end moves along it
 pub sends_along : (p : ProgramModel) (bs : List Block) (a message to c : ℕ) (side : Side)
     → stateless (block_at bs a).ty ≡ Endpoint record { 0 = c } side record { 0 = 0 }
     → end_on (edges_out p (Some (block_at bs a).ty) (block_at bs a).state) message ≡ Some to
@@ -204,7 +204,7 @@ sends_along p bs a message to c side ty edge y there =
     (end_leads (edges_of p c) (sign_from side) (block_at bs a).state message to
     (sym (ap (λ (es : List Edge). end_on es message) (out_edges p (block_at bs a).ty c side (block_at bs a).state ty)) ∙ edge))
 
--- a send that has an edge, or whose endpoint is cut off, finds room
+-- a send with an edge, or of an endpoint that is cut off, finds room
 pub room_is : NeverLonger → (p : ProgramModel) (bound : QueueBounds) → IsSoundProgram p bound
     → (w : World) (self : ℕ) (f : Frame) (rest : List Frame) (a state' : ℕ) (msg : MessageHeld) (c : ℕ) (side : Side)
     → ChannelsFit p w.blocks → a < length w.blocks → is_freed_at w.blocks a ≡ false

@@ -52,7 +52,7 @@ use Rattle.machine.specs.Instructions.{outcome_from}
 use Rattle.machine.proofs.ChangeLemmas.{changed_length, eqb_same, eqb_apart, true≢false}
 use Rattle.machine.proofs.Holding.{owned_there}
 
--- stacks with one more process
+-- the stacks after one is appended
 stack_more : (ps : List (List Frame)) (s : List Frame) (q : ℕ) → q ≢ length ps → stack_at (ps ++ s ∷ []) q ≡ stack_at ps q
 stack_more [] s zero n = absurd (n refl)
 stack_more [] s (suc q) n = refl
@@ -119,7 +119,7 @@ module _ (p : ProgramModel) (w : World) (self : ℕ) (h : Holds p w) (given : Li
       by true = refl
       by false = refl
 
-  -- nobody had the number of the new process
+  -- the number of the new process owned nothing before
   fresh_none : (j : ℕ) → owns w.blocks fresh j ≡ false
   fresh_none j = by (owns w.blocks fresh j) (sym (ap (held p j) (stack_past w.processes)) ∙ h.own fresh j)
     where

@@ -1,4 +1,4 @@
--- Switch: no fault, and the invariant stays.
+-- Switch: no fault, and the invariant is preserved.
 use Rattle.std.proofs.Common.{◌≡◌, ◌≢◌, ◌&&◌, ℕ, ◌<◌, ◌≤◌, Bool, true, false, List, [], ◌∷◌, Some, None, map, refl, sym, ap, ◌∙◌, subst}
 use Rattle.std.proofs.Common.{arith, inl, set}
 use Rattle.std.proofs.lemmas.List.Elements.{Contains-append_left, Contains-append_right}
@@ -112,7 +112,7 @@ module _ (p : ProgramModel) (bound : QueueBounds) (w : World) (self choice : ℕ
     stands : 0 < standing own.at f.variables
     stands = standing_read f.variables v.variable.0 own.at own.is
 
-    -- a close
+    -- the case for the close
     close_good : (c : EntranceModel) → case_for cases v.variable.0 None ≡ Some c → is_freed_at w.blocks (block_at w.blocks own.at).peer ≡ true
         → (block_at w.blocks own.at).queue ≡ [] → IsGood p w (Moved (on_world w self f c.next f.variables rest w.blocks))
     close_good c is gone empty =
@@ -140,7 +140,7 @@ module _ (p : ProgramModel) (bound : QueueBounds) (w : World) (self choice : ℕ
           stays_same w.blocks,
         )
 
-    -- a message
+    -- the case for a message
     module _ (y : MessageHeld) (ys : List MessageHeld) (was : (block_at w.blocks own.at).queue ≡ y ∷ ys) where
       not_cut : cut_off w.blocks own.at ≡ false
       not_cut = ap (λ (q : List MessageHeld). is_freed_at w.blocks (block_at w.blocks own.at).peer && is_empty q) was

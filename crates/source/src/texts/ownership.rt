@@ -1,4 +1,4 @@
-//! What is said of each finding in a method that comes of what its variables have.
+//! The findings about ownership in methods, one function for each.
 
 ghost use Rattle.std.specs.Prelude.{◌≡◌, ◌++◌, IfOk, codes, string_bytes};
 ghost use Rattle.std.specs.Str.Lossy.{utf8_lossy};
@@ -10,7 +10,7 @@ use crate::finding::{Code, Finding};
 use crate::place::Place;
 use std::alloc::Global;
 
-/// A name between two words.
+/// Returns a name between two texts.
 fn around(alloc: Global, front: &str, name: &[u8], back: &str) -> Result<String, Memory>
     ensures { IfOk result (λ text. string_bytes text ≡ front.now ++ (utf8_lossy name.now ++ back.now)) }
 {
@@ -21,21 +21,21 @@ fn around(alloc: Global, front: &str, name: &[u8], back: &str) -> Result<String,
     Ok(text)
 }
 
-/// A variable that is used where it has nothing.
+/// Reports a use of a variable that has nothing.
 pub fn not_owned(alloc: Global, place: Place, variable: &[u8]) -> Result<Finding, Memory>
     ensures { IfOk result (IsFinding place Code.A01 (utf8_lossy variable.now ++ codes " not owned")) }
 {
     named(alloc, place, Code::A01, variable, " not owned")
 }
 
-/// A message that no edge of its endpoint's state sends.
+/// Reports a message that no edge from its endpoint's state sends.
 pub fn not_sent_here(alloc: Global, place: Place, message: &[u8]) -> Result<Finding, Memory>
     ensures { IfOk result (IsFinding place Code.A02 (utf8_lossy message.now ++ codes " not sent here")) }
 {
     named(alloc, place, Code::A02, message, " not sent here")
 }
 
-/// An endpoint that is given with a message, and is not in the state that the message asks.
+/// Reports an endpoint that is given with a message but is not in the state that the message requires.
 pub fn in_a_wrong_state_for(
     alloc: Global,
     place: Place,
@@ -49,7 +49,7 @@ pub fn in_a_wrong_state_for(
     named(alloc, place, Code::A03, variable, &rest)
 }
 
-/// An endpoint that is given to a method, and is not in the state that the method asks.
+/// Reports an endpoint that is given to a method but is not in the state that the method requires.
 pub fn in_a_wrong_state_for_the_call(
     alloc: Global,
     place: Place,
@@ -66,7 +66,7 @@ pub fn in_a_wrong_state_for_the_call(
     )
 }
 
-/// An endpoint that is given for a field of a block, and is not in the state that the field asks.
+/// Reports an endpoint that is given for a field of a block but is not in the state that the field requires.
 pub fn in_a_wrong_state_for_the_field(
     alloc: Global,
     place: Place,
@@ -83,7 +83,7 @@ pub fn in_a_wrong_state_for_the_field(
     )
 }
 
-/// A message that an endpoint may receive in a switch, and for which there is no case.
+/// Reports a message that an endpoint may receive in a switch that has no case for it.
 pub fn not_covered(
     alloc: Global,
     place: Place,
@@ -97,28 +97,28 @@ pub fn not_covered(
     named(alloc, place, Code::A05, endpoint, &rest)
 }
 
-/// A switch at which all endpoints are to send.
+/// Reports a switch at which every endpoint is to send.
 pub fn nothing_to_receive(alloc: Global, place: Place) -> Result<Finding, Memory>
     ensures { IfOk result (IsFinding place Code.A06 (codes "nothing to receive")) }
 {
     plain(alloc, place, Code::A06, "nothing to receive")
 }
 
-/// A variable that takes something while it still has something.
+/// Reports a variable that is given something while it still has something.
 pub fn overwritten(alloc: Global, place: Place, variable: &[u8]) -> Result<Finding, Memory>
     ensures { IfOk result (IsFinding place Code.A07 (utf8_lossy variable.now ++ codes " overwritten")) }
 {
     named(alloc, place, Code::A07, variable, " overwritten")
 }
 
-/// A variable that has something where it goes out of scope.
+/// Reports a variable that still has something when it goes out of scope.
 pub fn still_owned(alloc: Global, place: Place, variable: &[u8]) -> Result<Finding, Memory>
     ensures { IfOk result (IsFinding place Code.A08 (utf8_lossy variable.now ++ codes " still owned")) }
 {
     named(alloc, place, Code::A08, variable, " still owned")
 }
 
-/// An endpoint that was lent to a method, and is not in its state where the method ends.
+/// Reports a lent endpoint that is not back in its state when the method ends.
 pub fn not_back_in_its_state(
     alloc: Global,
     place: Place,
@@ -129,21 +129,21 @@ pub fn not_back_in_its_state(
     named(alloc, place, Code::A09, variable, " not back in its state")
 }
 
-/// A parameter that is only lent, and is given away or assigned.
+/// Reports a lent parameter that is given away or assigned.
 pub fn is_lent(alloc: Global, place: Place, variable: &[u8]) -> Result<Finding, Memory>
     ensures { IfOk result (IsFinding place Code.A10 (utf8_lossy variable.now ++ codes " is lent")) }
 {
     named(alloc, place, Code::A10, variable, " is lent")
 }
 
-/// A variable that is given away twice at once, or to itself.
+/// Reports a variable that is given away twice at once, or to itself.
 pub fn given_twice(alloc: Global, place: Place, variable: &[u8]) -> Result<Finding, Memory>
     ensures { IfOk result (IsFinding place Code.A11 (utf8_lossy variable.now ++ codes " twice")) }
 {
     named(alloc, place, Code::A11, variable, " twice")
 }
 
-/// An endpoint that a method gives, and is not in the state of its result.
+/// Reports an endpoint that a method gives but that is not in the state of its result.
 pub fn in_a_wrong_state_for_the_result(
     alloc: Global,
     place: Place,
@@ -160,14 +160,14 @@ pub fn in_a_wrong_state_for_the_result(
     )
 }
 
-/// The end of a method that ought to have given something.
+/// Reports the end of a method that should have given something.
 pub fn no_result(alloc: Global, place: Place) -> Result<Finding, Memory>
     ensures { IfOk result (IsFinding place Code.A13 (codes "no result")) }
 {
     plain(alloc, place, Code::A13, "no result")
 }
 
-/// More pairs of a point and a row than a method may have, at its name.
+/// Reports a method with too many pairs of a point and a row, at its name.
 pub fn too_many_pairs(alloc: Global, place: Place) -> Result<Finding, Memory>
     ensures { IfOk result (IsFinding place Code.A14 (codes "too many pairs")) }
 {

@@ -1,4 +1,4 @@
--- Access words as pieces.
+-- Access words as parts of the grammar.
 use Rattle.std.proofs.Common.{◌≡◌, Some, refl, ap}
 use Rattle.source.specs.declared.kind.Kind.{Kind}
 use Rattle.source.specs.declared.kind.Kind.TheVariants as kind

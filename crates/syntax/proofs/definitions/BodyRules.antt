@@ -1,4 +1,4 @@
--- States as pieces.
+-- States as parts of the grammar.
 use Rattle.std.proofs.Common.{Bool, List, [], refl}
 use Rattle.std.specs.Prelude.{Option, not, ◌||◌}
 use Rattle.std.specs.List.{flat_map}

@@ -1,4 +1,4 @@
--- Classes as pieces.
+-- Classes as parts of the grammar.
 use Rattle.std.proofs.Common.{◌≡◌, Bool, true, false, List, [], ◌∷◌, ◌++◌, Option, Some, None, refl, sym, ap, subst}
 use Rattle.std.specs.Prelude.{not}
 use Rattle.std.specs.List.{flat_map}

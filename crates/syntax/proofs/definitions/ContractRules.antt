@@ -1,4 +1,4 @@
--- Contracts as pieces.
+-- Contracts as parts of the grammar.
 use Rattle.std.proofs.Common.{◌≡◌, true, false, List, [], ◌∷◌, ◌++◌, Some, refl, ap, ◌∙◌, append_assoc, sym, subst, map}
 use Rattle.std.specs.Prelude.{not}
 use Rattle.std.specs.List.{flat_map}
@@ -74,7 +74,7 @@ member_starts = record {
 pub member_splits : Splits (by_kind opens_member) state_on members_on
 member_splits = record { none = λ y h. or_right (state_on y) (by_kind opens_member y) h; last = λ y h. or_left (state_on y) (by_kind opens_member y) h; apart = kinds_apart opens_member kind.Semicolon refl }
 
--- what a state goes on by is a semicolon
+-- a state continues only with a semicolon
 
 state_apart : (b : BodyTree) (y : Symbol) → state_on y ≡ false → body_at b y ≡ false
 state_apart Empty y h = refl
@@ -92,7 +92,7 @@ member_leaves = record { apart = λ m y h. member_apart m y (kinds_apart opens_m
 pub members_piece : Piece (flat_map member) members_on (many_at (by_kind opens_member) member_at)
 members_piece = many_open_piece member_piece member_starts member_splits member_leaves
 
--- what the last member that was read could go on by
+-- the symbols with which the last member that was read could continue
 pub members_end_at : (m : Member) (ms all : List Member) (r : List Symbol) → all ≡ ms ++ m ∷ [] → Stops (member_at (member_tree m)) r → Stops (last_at member_at (map member_tree all)) r
 members_end_at m ms all r is h =
     let last : last_at member_at (map member_tree all) ≡ member_at (member_tree m) =

@@ -35,7 +35,7 @@ colon_starts = record { each = λ span. record { head = Fixed kind.Colon; tail =
 pub maybe_colon_piece : Piece (optional colon_name) (is_kind kind.Colon) (optional_at (is_kind kind.Colon) (λ _. never))
 maybe_colon_piece = opt_piece colon_piece colon_starts splits_self
 
--- side [ ":" ID ] [ "!" ] [ in_heap ], each part with what stands before it
+-- side [ ":" ID ] [ "!" ] [ in_heap ], each part with what comes before it
 
 abbrev to_bang : Symbol → Bool
 to_bang y = is_kind kind.Colon y || is_kind kind.Bang y
@@ -99,7 +99,7 @@ front2_piece = open_piece front1_piece open_bang_piece bang_behind (opt_meets (p
 front3_piece : Piece front3 endpoint_on at3
 front3_piece = open_piece front2_piece open_heap_piece heap_behind (when_meets in_heap_words in_heap_starts heap_leaves)
 
--- the same of the tree
+-- the same for the tree
 
 abbrev fronts : parts.EndpointTail.EndpointTail → ((tree.Side.Side × Option Span) × Option Span) × Bool
 fronts e = (((e.side, e.state), e.bang), e.in_heap)

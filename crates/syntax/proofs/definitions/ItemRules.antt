@@ -1,4 +1,4 @@
--- Items as pieces.
+-- Items as parts of the grammar.
 use Rattle.std.proofs.Common.{◌≡◌, true, Option, Some, None, refl}
 use Rattle.std.specs.Prelude.{not, ◌||◌}
 use Rattle.source.specs.declared.kind.Kind.TheVariants as kind

@@ -1,4 +1,4 @@
--- Paths and states as pieces.
+-- Paths and states as parts of the grammar.
 use Rattle.std.proofs.Common.{◌≡◌, true, List, [], ◌∷◌, ◌++◌, Some, sym, refl, ap, ◌∙◌, append_assoc}
 use Rattle.std.specs.List.{flat_map}
 use Rattle.source.specs.declared.kind.Kind.{Kind}
@@ -121,7 +121,7 @@ path_piece = same_piece trail_spelled (λ p r h. h) (via_piece trail_of path_of 
 trail_fails : {old new : List Symbol} → Fails trail (by_kind opens_sign) old new → Fails path (by_kind opens_sign) old new
 trail_fails {old} {new} h = same_fails trail_spelled (via_fails trail_of path_of path_back h)
 
--- its first name fails, its first hop, a further hop
+-- a path fails if its first name, its first hop or a further hop does
 
 pub path_name_fails : {old new : List Symbol} → Fails name never old new → Fails path (by_kind opens_sign) old new
 path_name_fails {old} {new} h = trail_fails (fails_here h (next hop_piece hops_piece))

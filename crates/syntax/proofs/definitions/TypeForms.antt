@@ -110,7 +110,7 @@ scalar_form = record {
     each (type.Heap (heap.Array s b)) = Same (record { scalar = s; array = Some b }) refl
     each (type.Heap (heap.Endpoint span end state bang in_heap)) = Other (record { head = Named span; tail = endpoint_tail (record { side = end; state = state; bang = bang; in_heap = in_heap }); is = refl; first = refl })
 
--- what goes on with a type of one front is among what goes on with some type
+-- a symbol that continues a type of one front is among those that continue some type
 
 pub named_wide : (y : Symbol) → type_on y ≡ false → endpoint_on y ≡ false
 named_wide y h = or_right (is_kind kind.OpenBracket y) (endpoint_on y) h

@@ -1,4 +1,4 @@
--- Types as pieces.
+-- Types as parts of the grammar.
 use Rattle.std.proofs.Common.{◌≡◌, ◌∷◌, Option, Some, None, refl, ap}
 use Rattle.source.specs.declared.kind.Kind.{Kind}
 use Rattle.source.specs.declared.kind.Kind.TheVariants as kind

@@ -1,4 +1,4 @@
--- By which symbols a piece begins.
+-- The symbols with which a part of the grammar begins.
 use Rattle.std.proofs.Common.{◌≡◌, ◌<◌, suc, length, arith, Bool, true, false, List, [], ◌∷◌, ◌++◌, sym, refl, ap, ◌∙◌, subst}
 use Rattle.std.specs.Prelude.{not}
 use Rattle.std.proofs.lemmas.Bool.{true≢false}
@@ -6,7 +6,7 @@ use Rattle.tree.specs.Symbols.{Symbol}
 use Rattle.syntax.specs.Reading.{never, Stops, leads, Fails}
 use Rattle.syntax.proofs.pieces.Pieces.{Piece}
 
--- what a piece begins with
+-- the spelling of this part begins with one of these symbols
 
 pub record Begins {X : Type 0} (spell : X → List Symbol) (starts : Symbol → Bool) (x : X) : Type 0 where
   pub head : Symbol
@@ -14,7 +14,7 @@ pub record Begins {X : Type 0} (spell : X → List Symbol) (starts : Symbol → 
   pub is : spell x ≡ head ∷ tail
   pub first : starts head ≡ true
 
--- each piece begins with one of those
+-- every such part begins with one of these symbols
 pub record Starts {X : Type 0} (spell : X → List Symbol) (starts : Symbol → Bool) : Type 0 where
   pub each : (x : X) → Begins spell starts x
 
@@ -28,13 +28,14 @@ starts_not spell starts x t (y ∷ r) b e h =
     let same : b.head ≡ y = cc in
     true≢false (sym b.first ∙ ap starts same ∙ h)
 
--- What can't follow a list begins no further one, and the last one doesn't go on by it.
+-- A symbol with which a list cannot continue begins no further part, and the last part cannot continue with it. A
+-- symbol that begins a part continues none.
 pub record Splits (starts f on : Symbol → Bool) : Type 0 where
   pub none : (y : Symbol) → on y ≡ false → starts y ≡ false
   pub last : (y : Symbol) → on y ≡ false → f y ≡ false
   pub apart : (y : Symbol) → starts y ≡ true → f y ≡ false
 
--- what a piece goes on by begins no such one
+-- no such part continues with one of these symbols
 pub record Leaves {X : Type 0} (at : X → Symbol → Bool) (starts : Symbol → Bool) : Type 0 where
   pub apart : (x : X) (y : Symbol) → starts y ≡ true → at x y ≡ false
 
@@ -46,7 +47,7 @@ pub leads_stops : (on : Symbol → Bool) (ys : List Symbol) → leads on ys ≡ 
 leads_stops on [] h = tt
 leads_stops on (y ∷ ys) h = h
 
--- something is read
+-- reading such a part leaves fewer symbols
 pub begun_shorter : {X : Type 0} {a : X → List Symbol} {starts : Symbol → Bool} (x : X) (old new : List Symbol) → Starts a starts → old ≡ a x ++ new → length new < length old
 begun_shorter {X} {a} {starts} x old new begin read =
     let b = begin.each x in
@@ -57,7 +58,7 @@ begun_shorter {X} {a} {starts} x old new begin read =
     behind [] ys = omega arith
     behind (x ∷ xs) ys = let h = behind xs ys in omega arith
 
--- none begins here
+-- no such part begins here
 pub none_fails : {X : Type 0} {a : X → List Symbol} {f starts : Symbol → Bool} {at : X → Symbol → Bool} → Piece a f at → Starts a starts → (ys : List Symbol) → (ys ≡ [] → ⊥) → Stops starts ys → Fails a f ys ys
 none_fails {X} {a} {f} {starts} {at} piece begin [] some none = absurd (some refl)
 none_fails {X} {a} {f} {starts} {at} piece begin (y ∷ ys) some none = record {
@@ -72,16 +73,16 @@ none_fails {X} {a} {f} {starts} {at} piece begin (y ∷ ys) some none = record {
   rejects = λ x r s hr e. starts_not a starts x r (y ∷ s) (begin.each x) e none;
 }
 
--- a list of pieces that each end by themselves, by what begins one
+-- a list of parts with ends of their own continues with what begins a part
 pub splits_self : {starts : Symbol → Bool} → Splits starts never starts
 splits_self {starts} = record { none = λ y h. h; last = λ y h. refl; apart = λ y h. refl }
 
--- what leads some symbols leads what begins with the same
+-- symbols with the same front and the same next symbol begin alike
 pub leads_back : (on : Symbol → Bool) (front : List Symbol) (next : Symbol) (rest s : List Symbol) → leads on (front ++ next ∷ rest) ≡ true → leads on ((front ++ next ∷ []) ++ s) ≡ true
 leads_back on [] next rest s h = h
 leads_back on (y ∷ front) next rest s h = h
 
--- where something fails, a token is next, and where it is none of these, it is another one
+-- if something fails, there is a next symbol; if it is none of these, it is another one
 pub fails_leads : {X : Type 0} {a : X → List Symbol} {f : Symbol → Bool} {old new : List Symbol} (on : Symbol → Bool) → Fails a f old new → Stops on old → leads (λ y. not (on y)) old ≡ true
 fails_leads {X} {a} {f} {old} {new} on h stops = ap (leads (λ y. not (on y))) h.old_is ∙ leading h.front (subst (Stops on) h.old_is stops)
   where

@@ -1,4 +1,4 @@
--- A part, and any number of further ones, each behind an operator.
+-- A part, and any number of further ones, each after an operator.
 use Rattle.std.proofs.Common.{◌≡◌, Bool, true, false, List, [], ◌∷◌, ◌++◌, sym, refl, ap, ◌∙◌, subst, append_assoc}
 use Rattle.std.specs.Prelude.{◌||◌}
 use Rattle.std.specs.List.{flat_map}
@@ -10,14 +10,14 @@ use Rattle.syntax.proofs.pieces.Repeats.{nil_open_way, cons_open_way, many_open_
 use Rattle.syntax.proofs.pieces.Options.{MeetsOpen, open_way, open_piece}
 use Rattle.lemmas.proofs.Bools.{or_left}
 
--- an operator has an end of its own, and begins by nothing that a part goes on by
+-- an operator has an end of its own, and no part continues with a symbol that begins one
 pub record Joins {X O : Type 0} (a : X → List Symbol) (o : O → List Symbol) (f : Symbol → Bool) (at : X → Symbol → Bool) (starts : Symbol → Bool) : Type 0 where
   pub operator : Piece o never (λ _. never)
   pub begin : Starts o starts
   pub apart : (y : Symbol) → starts y ≡ true → f y ≡ false
   pub wide : (x : X) (y : Symbol) → f y ≡ false → at x y ≡ false
 
--- operators, each with a part behind it
+-- operators, each with the part after it
 abbrev pub links : {X O : Type 0} → (X → List Symbol) → (O → List Symbol) → List (O × X) → List Symbol
 links a o = flat_map (both o a)
 
@@ -88,7 +88,7 @@ module _ {X O : Type 0} {a : X → List Symbol} {o : O → List Symbol} {f start
     subst (λ g. Stops (λ y. g y || starts y) new) (last_is at p ps) others.1,
   )
 
--- where parts are pieces
+-- if the parts are read in one way, so are links and chains
 
 module _ {X O : Type 0} {a : X → List Symbol} {o : O → List Symbol} {f starts : Symbol → Bool} {at : X → Symbol → Bool} (joins : Joins a o f at starts) (part : Piece a f at) where
   pub link_piece : Piece (both o a) f (λ p. at p.1)
@@ -100,7 +100,7 @@ module _ {X O : Type 0} {a : X → List Symbol} {o : O → List Symbol} {f start
   pub chain_piece : Piece (chain a o) (chain_on f starts) (chain_at at starts)
   chain_piece = open_piece part links_piece (links_follow joins) (links_meet joins)
 
-  -- an operator fails, the part behind it, a further link, the first part, the links behind it
+  -- a link fails if its operator or its part does, links if a further one does, a chain if its first part or its links do
 
   pub operator_fails : {old new : List Symbol} → Fails o never old new → Fails (both o a) f old new
   operator_fails {old} {new} h = fails_here h part

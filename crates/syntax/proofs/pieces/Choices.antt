@@ -1,4 +1,4 @@
--- One of several forms, told by its first symbol.
+-- One of several forms, known by its first symbol.
 use Rattle.std.proofs.Common.{◌≡◌, Bool, true, List, [], ◌∷◌, ◌++◌, sym, ap, ◌∙◌, subst}
 use Rattle.std.specs.Prelude.{not}
 use Rattle.std.proofs.lemmas.Bool.{true≢false, not-true}
@@ -7,7 +7,7 @@ use Rattle.syntax.specs.Reading.{Stops, leads, Fails}
 use Rattle.syntax.proofs.pieces.Pieces.{ReadsOneWay}
 use Rattle.syntax.proofs.pieces.Beginnings.{Begins, Starts, leads_back}
 
--- one of several forms, told by its first symbol
+-- one of several forms, known by its first symbol
 
 pub data FormOf {X Z : Type 0} (spell : Z → List Symbol) (make : X → Z) (starts : Symbol → Bool) (z : Z) : Type 0 where
   Same : (x : X) → z ≡ make x → FormOf spell make starts z
@@ -34,7 +34,7 @@ module _ {X Z : Type 0} {spell : Z → List Symbol} {a : X → List Symbol} {mak
           (ap make u.0 ∙ sym is, u.1)
       one z (Other c) r s hr hs e = absurd (other_head spell a starts x z r s (form.first.each x) c (ap (λ l. l ++ r) (sym (form.same x)) ∙ e))
 
-  -- a form whose first symbol is there fails
+  -- the form whose first symbol is next fails
   pub form_fails : {old new : List Symbol} → leads starts old ≡ true → Fails a f old new → Fails spell f old new
   form_fails {old} {new} here h = record {
     front = h.front;

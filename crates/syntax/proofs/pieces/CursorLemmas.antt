@@ -17,7 +17,7 @@ kind_same (Placed kind span) r s = refl
 kind_same (Named span) r s = refl
 kind_same End r s = refl
 
--- an expected token isn't there
+-- the expected token is not next
 pub fixed_fails : (kind : Kind) (ys : List Symbol) → (ys ≡ [] → ⊥) → (kind_at ys ≡ Some kind → ⊥) → Fails {X = Unit {0}} (λ _. Fixed kind ∷ []) never ys ys
 fixed_fails kind [] some other = absurd (some refl)
 fixed_fails kind (y ∷ ys) some other = record {
@@ -32,7 +32,7 @@ fixed_fails kind (y ∷ ys) some other = record {
   rejects = λ x r s h e. other (kind_same y ys s ∙ sym (ap kind_at e));
 }
 
--- the same of one that keeps its place
+-- the same for a token that keeps its place
 pub placed_fails : (kind : Kind) → Span → (ys : List Symbol) → (ys ≡ [] → ⊥) → (kind_at ys ≡ Some kind → ⊥) → Fails (λ span. Placed kind span ∷ []) never ys ys
 placed_fails kind span [] some other = absurd (some refl)
 placed_fails kind span (y ∷ ys) some other = record {
@@ -47,7 +47,7 @@ placed_fails kind span (y ∷ ys) some other = record {
   rejects = λ x r s h e. other (kind_same y ys s ∙ sym (ap kind_at e));
 }
 
--- a name isn't there
+-- no name is next
 pub named_fails : Span → (ys : List Symbol) → (ys ≡ [] → ⊥) → (kind_at ys ≡ Some Name → ⊥) → Fails (λ span. Named span ∷ []) never ys ys
 named_fails span [] some other = absurd (some refl)
 named_fails span (y ∷ ys) some other = record {
@@ -62,7 +62,7 @@ named_fails span (y ∷ ys) some other = record {
   rejects = λ x r s h e. other (kind_same y ys s ∙ sym (ap kind_at e));
 }
 
--- a token of one kind, as a piece
+-- a token of one kind, as a part of the grammar
 abbrev pub fixed : Kind → Unit {0} → List Symbol
 fixed kind u = Fixed kind ∷ []
 
@@ -77,7 +77,7 @@ placed_piece kind = record { some = record { start = 0; end = 0; place = record 
 pub named_piece : Piece (λ span. Named span ∷ []) never (λ _. never)
 named_piece = record { some = record { start = 0; end = 0; place = record { line = 1; col = 1 } }; each = λ x. record { only = λ y r s hr hs e. (cc, cc) } }
 
--- what the first token is, by its kind
+-- the first token, by its kind
 other_fixed : (b : Bool) (k : Kind) (span : Span) (ys : List Symbol) (kind : Kind) → is_placed k ≡ b → is_placed kind ≡ false → kind_at ((if b then Placed k span else Fixed k) ∷ ys) ≡ Some kind → (if b then Placed k span else Fixed k) ≡ Fixed kind
 other_fixed true k span ys kind is none e =
     let same : k ≡ kind = cc in
@@ -109,25 +109,25 @@ pub symbols_some : (ts : List Token) → symbols ts ≡ [] → ⊥
 symbols_some [] e = cc
 symbols_some (t ∷ ts) e = cc
 
--- what is left has a token first
+-- if tokens are left, the first symbol is that of the next token
 pub symbols_at : (ts : List Token) (n : ℕ) (d : Token) → n < length ts → symbols (drop n ts) ≡ seen_as (get_or ts n d).kind (get_or ts n d).span ∷ symbols (drop (n + 1) ts)
 symbols_at ts n d lt = at_drop_more symbols ts n d lt
 
--- a token that is no name and keeps no place, first
+-- the next token, if it is no name and keeps no place
 pub fixed_at : (ts : List Token) (n : ℕ) (kind : Kind) → (kind ≡ Name → ⊥) → is_placed kind ≡ false → kind_at (symbols (drop n ts)) ≡ Some kind → symbols (drop n ts) ≡ Fixed kind ∷ symbols (drop (n + 1) ts)
 fixed_at [] zero kind not_name none e = cc
 fixed_at [] (suc n) kind not_name none e = cc
 fixed_at (t ∷ ts) zero kind not_name none e = ap (λ y. y ∷ symbols ts) (seen_fixed t.kind t.span (symbols ts) kind not_name none e) ∙ (let later : 1 ≡ 0 + 1 = omega arith in ap (λ k. Fixed kind ∷ symbols (drop k (t ∷ ts))) later)
 fixed_at (t ∷ ts) (suc n) kind not_name none e = fixed_at ts n kind not_name none e ∙ (let later : suc (n + 1) ≡ suc n + 1 = omega arith in ap (λ k. Fixed kind ∷ symbols (drop k (t ∷ ts))) later)
 
--- a token that keeps its place, first
+-- the next token, if it keeps its place
 pub placed_at : (ts : List Token) (n : ℕ) (d : Token) (kind : Kind) → is_placed kind ≡ true → kind_at (symbols (drop n ts)) ≡ Some kind → symbols (drop n ts) ≡ Placed kind (get_or ts n d).span ∷ symbols (drop (n + 1) ts)
 placed_at [] zero d kind has e = cc
 placed_at [] (suc n) d kind has e = cc
 placed_at (t ∷ ts) zero d kind has e = ap (λ y. y ∷ symbols ts) (seen_placed t.kind t.span (symbols ts) kind has e) ∙ (let later : 1 ≡ 0 + 1 = omega arith in ap (λ k. Placed kind t.span ∷ symbols (drop k (t ∷ ts))) later)
 placed_at (t ∷ ts) (suc n) d kind has e = placed_at ts n d kind has e ∙ (let later : suc (n + 1) ≡ suc n + 1 = omega arith in ap (λ k. Placed kind (get_or ts n d).span ∷ symbols (drop k (t ∷ ts))) later)
 
--- what comes next, by its kind
+-- the next symbol, by its kind
 pub leads_by : (p : Option Kind → Bool) (ys : List Symbol) → p None ≡ false → leads (by_kind p) ys ≡ p (kind_at ys)
 leads_by p [] none = sym none
 leads_by p (y ∷ ys) none = ap p (kind_same y [] ys)

@@ -1,4 +1,4 @@
--- A piece between two words of its own: "{" a "}", where the second keeps its place, "(" a ")", where the first does, and
+-- A part between brackets: "{" a "}", in which the second keeps its place, "(" a ")", in which the first does, and
 -- "[" a "]".
 use Rattle.std.proofs.Common.{◌≡◌, Bool, false, List, ◌∷◌, ◌++◌, refl}
 use Rattle.source.specs.declared.kind.Kind.TheVariants.{OpenBrace, CloseBrace, OpenParen, CloseParen, OpenBracket, CloseBracket}
@@ -9,7 +9,7 @@ use Rattle.syntax.specs.Reading.{never, Stops, Fails}
 use Rattle.syntax.proofs.pieces.Pieces.{ReadsOneWay, Piece, Follows, Meets, both_way, both_piece, via_way, via_fails, fails_first, fails_second, fails_here, fails_after, ends, meets}
 use Rattle.syntax.proofs.pieces.CursorLemmas.{fixed, fixed_piece, placed_piece}
 
--- such a piece goes on by no "}"
+-- such a part does not continue with "}"
 pub record InBraces {X : Type 0} (a : X → List Symbol) (f : Symbol → Bool) (at : X → Symbol → Bool) : Type 0 where
   pub on : (span : Span) → f (Placed CloseBrace span) ≡ false
   pub here : (x : X) (span : Span) → at x (Placed CloseBrace span) ≡ false
@@ -42,7 +42,7 @@ module _ {X : Type 0} {a : X → List Symbol} {f : Symbol → Bool} {at : X → 
   pub braced_close_fails : {old mid last new : List Symbol} (x : X) → Piece a f at → (old ≡ Fixed OpenBrace ∷ mid) × Stops never mid → (mid ≡ a x ++ last) × Stops (at x) last → Fails (token_at CloseBrace) never last new → Fails (in_braces a) never old new
   braced_close_fails {old} {mid} {last} {new} x piece read inner h = via_fails to from (λ _. refl) (fails_after tt (fixed_piece OpenBrace) read (fails_second x piece inner follows h))
 
--- such a piece goes on by no ")"
+-- such a part does not continue with ")"
 pub record InParens {X : Type 0} (a : X → List Symbol) (f : Symbol → Bool) (at : X → Symbol → Bool) : Type 0 where
   pub on : f (Fixed CloseParen) ≡ false
   pub here : (x : X) → at x (Fixed CloseParen) ≡ false
@@ -75,7 +75,7 @@ module _ {X : Type 0} {a : X → List Symbol} {f : Symbol → Bool} {at : X → 
   pub parens_close_fails : {old mid last new : List Symbol} (span : Span) (x : X) → Piece a f at → (old ≡ token_at OpenParen span ++ mid) × Stops never mid → (mid ≡ a x ++ last) × Stops (at x) last → Fails (fixed CloseParen) never last new → Fails (parens a) never old new
   parens_close_fails {old} {mid} {last} {new} span x piece read inner h = via_fails out back (λ _. refl) (fails_after span (placed_piece OpenParen) read (fails_second x piece inner before h))
 
--- such a piece goes on by no "]"
+-- such a part does not continue with "]"
 pub record InBrackets {X : Type 0} (a : X → List Symbol) (f : Symbol → Bool) (at : X → Symbol → Bool) : Type 0 where
   pub on : f (Fixed CloseBracket) ≡ false
   pub here : (x : X) → at x (Fixed CloseBracket) ≡ false

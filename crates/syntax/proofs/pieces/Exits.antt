@@ -1,4 +1,4 @@
--- The exit of a `?` in a function that reads a piece.
+-- The exit of a `?` in a function that reads a part.
 use Rattle.std.proofs.Common.{◌≡◌, Bool, List, Result, Err, sym, ap, ◌∙◌, subst}
 use Rattle.std.specs.Result.{IsErrAnd}
 use Rattle.std.proofs.lemmas.Result.{err_from_is_err_and}
@@ -11,7 +11,7 @@ at_fault : (e : Stuck) (P Q : Type 0) → (P → Q) → AtFault e P → AtFault 
 at_fault Unexpected P Q f p = f p
 at_fault Memory P Q f p = tt
 
--- what a callee's fault says, handed on
+-- the fault of a callee, passed on
 pub exits : {X Y : Type 0} (view : X → Y) (spell : Y → List Symbol) (on : Symbol → Bool) (at : Y → Symbol → Bool) (old new : List Symbol) (r : Result X Stuck) (e : Stuck) (P : Type 0) → IsErrAnd r (λ y. y ≡ e) → AtFault e P → (P → Fails spell on old new) → Reads view spell on at old new r
 exits view spell on at old new r e P is told f =
     let p = err_from_is_err_and r is in

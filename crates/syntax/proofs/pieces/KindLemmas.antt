@@ -25,21 +25,21 @@ kind_other kind k f = cases (kind_is kind k) (kind_only kind k)
     cases true h = absurd (f (h refl))
     cases false h = refl
 
--- a token of this kind is next, or none is
+-- a token of this kind is next, or no such token is
 pub kind_leads : (kind : Kind) (ys : List Symbol) → kind_at ys ≡ Some kind → leads (is_kind kind) ys ≡ true
 kind_leads kind ys is = leads_of (kind_is kind) ys kind is (kind_self kind)
 
 pub kind_stops : (kind : Kind) (ys : List Symbol) → (kind_at ys ≡ Some kind → ⊥) → Stops (is_kind kind) ys
 kind_stops kind ys f = leads_stops (is_kind kind) ys (leads_by (kind_is kind) ys refl ∙ kind_other kind (kind_at ys) f)
 
--- a kind that isn't among some is none of them
+-- a symbol of some kinds is not of a kind that is not among them
 pub kinds_apart : (p : Option Kind → Bool) (kind : Kind) → p (Some kind) ≡ false → (y : Symbol) → by_kind p y ≡ true → is_kind kind y ≡ false
 kinds_apart p kind h y has = kind_other kind (kind_at (y ∷ [])) (λ e. true≢false (sym has ∙ ap p e ∙ h))
 
 pub apart_kinds : (p : Option Kind → Bool) (kind : Kind) → p (Some kind) ≡ false → (y : Symbol) → is_kind kind y ≡ true → by_kind p y ≡ false
 apart_kinds p kind h y has = ap p (kind_only kind (kind_at (y ∷ [])) has) ∙ h
 
--- what is next, by a test of its kind
+-- the next symbol, by a test of its kind
 pub test_leads : (p : Option Kind → Bool) (ys : List Symbol) → p None ≡ false → p (kind_at ys) ≡ true → leads (by_kind p) ys ≡ true
 test_leads p ys none has = leads_by p ys none ∙ has
 

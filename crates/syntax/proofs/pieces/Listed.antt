@@ -1,4 +1,4 @@
--- Pieces with commas between them, or none.
+-- Parts with commas between them, or no part.
 use Rattle.std.proofs.Common.{◌≡◌, Bool, true, false, List, [], ◌∷◌, ◌++◌, Option, Some, None, refl}
 use Rattle.std.specs.List.{flat_map}
 use Rattle.source.specs.declared.kind.Kind.{Kind}
@@ -14,7 +14,7 @@ use Rattle.syntax.proofs.pieces.CursorLemmas.{fixed_piece}
 use Rattle.syntax.proofs.pieces.KindLemmas.{kinds_apart}
 use Rattle.lemmas.proofs.Bools.{or_left}
 
--- such a piece begins by a kind, and none by a comma
+-- such a part begins with a token of some kind, and never with a comma
 pub record Item {X : Type 0} (a : X → List Symbol) (p : Option Kind → Bool) : Type 0 where
   pub piece : Piece a never (λ _. never)
   pub begin : Starts a (by_kind p)

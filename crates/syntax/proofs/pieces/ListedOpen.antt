@@ -1,4 +1,4 @@
--- Pieces with commas between them, or none, where a piece could go on by more than a comma.
+-- Parts with commas between them, or no part, if a part could continue with more than a comma.
 use Rattle.std.proofs.Common.{◌≡◌, Bool, true, false, List, [], ◌∷◌, ◌++◌, Option, refl, sym, ap, ◌∙◌, subst, append_assoc}
 use Rattle.std.specs.Prelude.{◌||◌}
 use Rattle.std.specs.List.{flat_map}
@@ -15,7 +15,7 @@ use Rattle.syntax.proofs.pieces.Options.{Opens, MeetsOpen, open_piece, open_opt_
 use Rattle.syntax.proofs.pieces.CursorLemmas.{fixed, fixed_piece}
 use Rattle.lemmas.proofs.Bools.{or_left}
 
--- such a piece begins by a kind, and goes on by no comma
+-- such a part begins with a token of some kind, and does not continue with a comma
 pub record OpenItem {X : Type 0} (a : X → List Symbol) (f : Symbol → Bool) (at : X → Symbol → Bool) (p : Option Kind → Bool) : Type 0 where
   pub piece : Piece a f at
   pub begin : Starts a (by_kind p)
@@ -99,7 +99,7 @@ module _ {X : Type 0} {a : X → List Symbol} {f : Symbol → Bool} {at : X → 
       listed_fails here (fails_second x item.piece (read, rest_stops comma_starts splits item.leaves x xs mid more) follows
       (many_fails comma_piece comma_starts splits item.leaves xs refl more h))
 
--- a list that is being read: what is read of it, and where its last piece ends
+-- a list that is being read: what is read of it, and where its last part ends
 pub record ListRead {X : Type 0} (a : X → List Symbol) (at : X → Symbol → Bool) (all : List X) (old new : List Symbol) : Type 0 where
   pub first : X
   pub others : List X

@@ -1,4 +1,4 @@
--- A piece, or nothing.
+-- A part, or nothing.
 use Rattle.std.proofs.Common.{◌≡◌, Bool, true, false, List, [], ◌∷◌, ◌++◌, Option, Some, None, sym, refl, ap, ◌∙◌, subst, append_assoc}
 use Rattle.std.specs.Prelude.{is_some}
 use Rattle.tree.specs.Symbols.{Symbol}
@@ -7,7 +7,7 @@ use Rattle.syntax.specs.Reading.{never, Stops, leads, Rejects, Fails, optional_a
 use Rattle.syntax.proofs.pieces.Pieces.{ReadsOneWay, Piece, Follows, both, stops_with, stops_left, stops_right, via_piece, via_fails, same_piece, same_fails}
 use Rattle.syntax.proofs.pieces.Beginnings.{Starts, Splits, Leaves, starts_not, stops_leads, leads_back}
 
--- What can't follow an option begins none, and one that is there doesn't go on by it.
+-- A symbol with which an option cannot continue begins no part, and a part that is present cannot continue with it.
 pub record Opens (starts f on : Symbol → Bool) : Type 0 where
   pub none : (y : Symbol) → on y ≡ false → starts y ≡ false
   pub last : (y : Symbol) → on y ≡ false → f y ≡ false
@@ -55,7 +55,7 @@ module _ {X : Type 0} {a : X → List Symbol} {f starts on : Symbol → Bool} {a
     rejects = opt_rejects more h;
   }
 
--- the same, where what begins one does not go on with another
+-- the same, if no part continues with a symbol that begins one
 
 opens : {starts f on : Symbol → Bool} → Splits starts f on → Opens starts f on
 opens {starts} {f} {on} splits = record { none = splits.none; last = splits.last }
@@ -74,7 +74,7 @@ module _ {X : Type 0} {a : X → List Symbol} {f starts on : Symbol → Bool} {a
   pub opt_fails : {old new : List Symbol} → leads starts old ≡ true → Fails a f old new → Fails (optional a) on old new
   opt_fails {old} {new} more h = open_opt_fails piece begin (opens splits) more h
 
--- where the tree keeps only whether it is there
+-- if the tree keeps only whether the part is present
 
 abbrev pub flag : Bool → Option (Unit {0})
 flag true = Some tt
@@ -107,7 +107,7 @@ module _ (w : List Symbol) where
   pub when_fails : {starts on : Symbol → Bool} {old new : List Symbol} → Piece {X = Unit {0}} (λ _. w) never (λ _. never) → Starts {X = Unit {0}} (λ _. w) starts → Splits starts never on → leads starts old ≡ true → Fails {X = Unit {0}} (λ _. w) never old new → Fails (when w) on old new
   when_fails {starts} {on} {old} {new} piece begin splits here h = same_fails when_spelled (via_fails flag unflag unflagged (opt_fails piece begin splits here h))
 
--- One after the other, where the second may be empty: what both leave open is `both_at`.
+-- Two parts in a row, if the second may be empty: `both_at` gives the symbols with which both together could continue.
 
 pub record MeetsOpen {X Y : Type 0} (at : X → Symbol → Bool) (spell : Y → List Symbol) (later : Y → Symbol → Bool) (both_at : X × Y → Symbol → Bool) : Type 0 where
   pub here : (x : X) (y : Y) (r : List Symbol) → Stops (both_at (x, y)) r → Stops (at x) (spell y ++ r)
@@ -128,7 +128,7 @@ module _ {X Y : Type 0} {a : X → List Symbol} {b : Y → List Symbol} {f g : S
     each = λ p. open_way (first.each p.0) (second.each p.1) follows meet;
   }
 
--- a piece, and an option behind it that begins by none of what the piece goes on by
+-- a part, and an option after it that begins with no symbol with which the part continues
 pub opt_meets : {X Y : Type 0} {at : X → Symbol → Bool} {b : Y → List Symbol} {starts : Symbol → Bool} → Starts b starts → Leaves at starts → MeetsOpen at (optional b) (optional_at starts (λ _. never)) (λ p. open_at (at p.0) starts (is_some p.1))
 opt_meets {X} {Y} {at} {b} {starts} begin leaves = record { here = front; last = back }
   where
@@ -142,7 +142,7 @@ opt_meets {X} {Y} {at} {b} {starts} begin leaves = record { here = front; last =
     back x None r h = stops_right (at x) starts r h
     back x (Some y) r h = h
 
--- the same, where the tree keeps only whether it is there
+-- the same, if the tree keeps only whether the option is present
 pub when_meets : {X : Type 0} {at : X → Symbol → Bool} {starts : Symbol → Bool} (w : List Symbol) → Starts {X = Unit {0}} (λ _. w) starts → Leaves at starts → MeetsOpen at (when w) (when_at starts) (λ p. open_at (at p.0) starts p.1)
 when_meets {X} {at} {starts} w begin leaves = record { here = front; last = back }
   where

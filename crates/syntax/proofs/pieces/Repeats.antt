@@ -1,4 +1,4 @@
--- Any number of pieces in a row, told from what follows by what one begins with.
+-- Any number of parts in a row: the sequence ends if the next symbol begins no part.
 use Rattle.std.proofs.Common.{◌≡◌, Bool, true, false, List, [], ◌∷◌, ◌++◌, sym, refl, ap, ◌∙◌, subst, append_assoc, map}
 use Rattle.std.specs.Prelude.{◌||◌}
 use Rattle.std.specs.List.{flat_map}
@@ -15,7 +15,7 @@ module _ {X : Type 0} {a : X → List Symbol} {f starts on : Symbol → Bool} {a
       let b = begin.each x in
       subst (Stops f) (ap (λ t. (t ++ flat_map a xs) ++ r) (sym b.is)) (splits.apart b.head b.first)
 
-  -- what follows one of them doesn't go on with it
+  -- the first part does not continue with what follows it
   pub at_stops : (x : X) (xs : List X) (r : List Symbol) → Stops (many_at starts at (x ∷ xs)) r → Stops (at x) (flat_map a xs ++ r)
   at_stops x [] r h = stops_left (at x) starts r h
   at_stops x (y ∷ ys) r h =
@@ -43,7 +43,7 @@ module _ {X : Type 0} {a : X → List Symbol} {f starts on : Symbol → Bool} {a
           let v = others.only ys r s hr (tail_stops y ys s hs) u.1 in
           (λ i. u.0 i ∷ v.0 i, v.1)
 
-  -- a further one begins here, so what stands before doesn't go on
+  -- another part begins here, so the one before does not continue
   front_stops : (x : X) (t : List Symbol) → leads starts t ≡ true → Stops (at x) t
   front_stops x [] h = tt
   front_stops x (y ∷ t) h = leaves.apart x y h
@@ -87,7 +87,7 @@ module _ {X : Type 0} {a : X → List Symbol} {f starts on : Symbol → Bool} {a
         h.rejects hr (e ∙ ap (λ t. t ++ s) (append_assoc (flat_map a xs) h.front (h.next ∷ [])) ∙ append_assoc (flat_map a xs) (h.front ++ h.next ∷ []) s);
   }
 
-  -- one is read, and those behind it fail
+  -- one is read, and those after it fail
   pub more_fail : {old mid new : List Symbol} (x : X) → Takes a at old mid x → Fails (flat_map a) on mid new → Fails (flat_map a) on old new
   more_fail {old} {mid} {new} x read h = record {
     front = a x ++ h.front;
@@ -107,7 +107,7 @@ module _ {X : Type 0} {a : X → List Symbol} {f starts on : Symbol → Bool} {a
           let u = (piece.each y).only x (flat_map a ys ++ r) ((h.front ++ h.next ∷ []) ++ s) (many_stops begin splits leaves ys r hr) (stops_front (at x) h.front h.next h.rest s (subst (Stops (at x)) h.old_is read.1)) (sym (append_assoc (a y) (flat_map a ys) r) ∙ e) in
           h.rejects ys r s hr u.1
 
--- one is read, and more behind it
+-- one is read, and more after it
 pub more_reads : {X : Type 0} (a : X → List Symbol) (starts : Symbol → Bool) (at : X → Symbol → Bool) (old mid new : List Symbol) (x : X) (xs : List X) → Takes a at old mid x → Takes (flat_map a) (many_at starts at) mid new xs → Takes (flat_map a) (many_at starts at) old new (x ∷ xs)
 more_reads {X = X} a starts at old mid new x xs first others = (first.0 ∙ ap (λ t. a x ++ t) others.0 ∙ sym (append_assoc (a x) (flat_map a xs) new), stops xs others)
   where
@@ -115,7 +115,7 @@ more_reads {X = X} a starts at old mid new x xs first others = (first.0 ∙ ap (
     stops [] others = stops_both (at x) starts new (subst (Stops (at x)) others.0 first.1) others.1
     stops (y ∷ ys) others = others.1
 
--- pieces that each have an end of their own
+-- parts that each have an end of their own
 
 pub ended_stops : {X : Type 0} (starts : Symbol → Bool) (xs : List X) (r : List Symbol) → Stops starts r → Stops (many_at starts (λ _. never) xs) r
 ended_stops starts [] r h = h
@@ -140,20 +140,20 @@ module _ {X : Type 0} {a : X → List Symbol} {starts on : Symbol → Bool} (beg
   pub many_piece : Piece a never (λ _. never) → Piece (flat_map a) on (λ _. starts)
   many_piece piece = same_piece (λ _. refl) (ended_stops starts) (many_open_piece piece begin splits ended_leaves)
 
--- the last is the one that was read last
+-- the last part is the one that was read last
 pub last_more : {X : Type 0} (at : X → Symbol → Bool) (xs : List X) (x : X) → last_at at (xs ++ x ∷ []) ≡ at x
 last_more at [] x = refl
 last_more at (y ∷ []) x = refl
 last_more at (y ∷ z ∷ xs) x = last_more at (z ∷ xs) x
 
--- where the last piece of a sequence ends that was read
+-- where the last part of a sequence that was read ends
 pub last_read : {X Y : Type 0} (at : Y → Symbol → Bool) (view : X → Y) (x : X) (xs all : List X) (r : List Symbol) → all ≡ xs ++ x ∷ [] → Stops (at (view x)) r → Stops (last_at at (map view all)) r
 last_read at view x xs all r is h =
     let last : last_at at (map view all) ≡ at (view x) =
     ap (λ t. last_at at (map view t)) is ∙ ap (last_at at) (map-append view xs (x ∷ [])) ∙ last_more at (map view xs) (view x) in
     subst (λ at. Stops at r) (sym last) h
 
--- where none of them goes on by a symbol that begins none, the sequence doesn't
+-- if no part continues with a symbol that begins none, the sequence does not either
 pub sequence_stops : {X : Type 0} (starts : Symbol → Bool) (at : X → Symbol → Bool) (y : Symbol) → starts y ≡ false → ((x : X) → at x y ≡ false) → (xs : List X) → many_at starts at xs y ≡ false
 sequence_stops starts at y none each [] = none
 sequence_stops starts at y none each (x ∷ []) = ap (λ b. b || starts y) (each x) ∙ none

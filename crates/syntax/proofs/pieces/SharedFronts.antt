@@ -1,4 +1,4 @@
--- Forms that begin alike: each is told by what stands behind the front that they share.
+-- Forms that begin alike: each is known by what follows the front that they share.
 use Rattle.std.proofs.Common.{◌≡◌, Bool, true, false, List, [], ◌∷◌, ◌++◌, sym, refl, ap, ◌∙◌, subst, append_assoc, inl, inr}
 use Rattle.std.specs.Prelude.{◌⊎◌}
 use Rattle.std.proofs.lemmas.List.{append_cancel_right}
@@ -17,7 +17,7 @@ heads {x} {y} {xs} {ys} e = cc
 pub tails : {x y : Symbol} {xs ys : List Symbol} → x ∷ xs ≡ y ∷ ys → xs ≡ ys
 tails {x} {y} {xs} {ys} e = cc
 
--- a place at or behind the end of these symbols
+-- a place at or after the end of these symbols
 record Past (w mid front : List Symbol) (next : Symbol) (rest : List Symbol) : Type 0 where
   behind : List Symbol
   front_is : front ≡ w ++ behind
@@ -31,7 +31,7 @@ past (x ∷ w) mid (y ∷ front) next rest e none =
     let p = past w mid front next rest (tails e) (λ more h. none more (λ i. same i ∷ h i)) in
     record { behind = p.behind; front_is = λ i. sym same i ∷ p.front_is i; mid_is = p.mid_is }
 
--- one of several forms fails behind a front that it may have, where no other form goes on from there with such a symbol
+-- one of several forms fails after a front that it may have, if no other form continues from there with such a symbol
 pub front_fails : {X Z : Type 0} {a : X → List Symbol} {spell : Z → List Symbol} {f g : Symbol → Bool} (make : X → Z) → ((x : X) → spell (make x) ≡ a x) → ((y : Symbol) → g y ≡ false → f y ≡ false) → (w mid new : List Symbol) (next : Symbol → Bool) (x : X) (more : List Symbol) → a x ≡ w ++ more → leads next mid ≡ true → ((z : Z) (r t : List Symbol) → Stops g r → spell z ++ r ≡ w ++ t → leads next t ≡ true → (x : X) × (z ≡ make x)) → Fails a f (w ++ mid) new → Fails spell g (w ++ mid) new
 front_fails {X} {Z} {a} {spell} {f} {g} make same wide w mid new next x more begins here only h = record {
   front = h.front;
@@ -57,7 +57,7 @@ front_fails {X} {Z} {a} {spell} {f} {g} make same wide w mid new next x more beg
         let got = only z r t hr (e ∙ split) led in
         h.rejects got.0 r s (stops_with g f wide r hr) (ap (λ q. q ++ r) (sym (same got.0) ∙ ap spell (sym got.1)) ∙ e)
 
--- Two forms fail at one place, and nothing else is of another form there.
+-- Two forms fail at one place, and no third form is possible there.
 pub both_fail : {X Y Z : Type 0} {a : X → List Symbol} {b : Y → List Symbol} {spell : Z → List Symbol} {f k g : Symbol → Bool} {old new : List Symbol} (make : X → Z) → ((x : X) → spell (make x) ≡ a x) → ((y : Symbol) → g y ≡ false → f y ≡ false) → ((y : Symbol) → g y ≡ false → k y ≡ false) → (starts : Symbol → Bool) → leads starts old ≡ true → ((z : Z) (r t : List Symbol) → spell z ++ r ≡ t → leads starts t ≡ true → ((x : X) × (spell z ≡ a x)) ⊎ ((y : Y) × (spell z ≡ b y))) → Fails a f old new → Fails b k old new → Fails spell g old new
 both_fail {X} {Y} {Z} {a} {b} {spell} {f} {k} {g} {old} {new} make same wide wider starts here each h other = record {
   front = h.front;

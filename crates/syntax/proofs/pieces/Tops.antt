@@ -1,4 +1,4 @@
--- A whole text's tokens: read to the end, or wrong at one of them.
+-- The tokens of a whole text: read to the end, or wrong at one of them.
 use Rattle.std.proofs.Common.{◌≡◌, Bool, true, false, ℕ, zero, add-one, ◌+◌, ◌-◌, ◌≤◌, take, drop, length-drop, suc, length, arith, List, [], ◌∷◌, ◌++◌, sym, refl, ap, ◌∙◌, subst, append_assoc}
 use Rattle.std.proofs.lemmas.List.{take-append-drop, take_at, take_all}
 use Rattle.std.proofs.lemmas.Bool.{true≢false, and_parts}
@@ -18,7 +18,7 @@ len_both : (xs ys : List Symbol) → length (xs ++ ys) ≡ length xs + length ys
 len_both [] ys = omega arith
 len_both (x ∷ xs) ys = let h = len_both xs ys in omega arith
 
--- what is read up to a symbol, and with it
+-- the symbols before this one, and those up to it
 front_is : (old front : List Symbol) (next : Symbol) (rest : List Symbol) (k : ℕ) → old ≡ front ++ next ∷ rest → length front ≡ k → take k old ≡ front
 front_is old front next rest k is count = ap (λ t. take k t) is ∙ ap (λ n. take n (front ++ next ∷ rest)) (sym count) ∙ take_at front (next ∷ rest) _ refl
 
@@ -45,7 +45,7 @@ seen_no_end : (k : Kind) (span : Span) → seen_as k span ≡ End → ⊥
 seen_no_end Name span e = cc
 seen_no_end k span e = cc
 
--- the end stands only at the end
+-- the end is only at the end
 nothing_more : (w : List Symbol) (y : Symbol) (ys : List Symbol) → [] ≡ w ++ y ∷ ys → ⊥
 nothing_more [] y ys e = cc
 nothing_more (x ∷ w) y ys e = cc
@@ -106,11 +106,11 @@ end_fails ts w (y ∷ ys) e some one = record {
 }
 
 module _ {X : Type 0} {a : X → List Symbol} {f : Symbol → Bool} {at : X → Symbol → Bool} (piece : Piece a f at) (apart : f End ≡ false) where
-  -- a piece is read, and something else than the end is next
+  -- a part is read, and something other than the end is next
   pub top_rest : (ts : List Token) (x : X) (new : List Symbol) (k : ℕ) → (symbols ts ≡ a x ++ new) × Stops (at x) new → (new ≡ [] → ⊥) → (length new ≡ 1 → ⊥) → k + length new ≡ length (symbols ts) → IsFirstWrong a ts k
   top_rest ts x new k read some more is = first_wrong ts k is (via_fails to from (λ _. refl) (fails_second x piece read (end_follows f apart) (end_fails ts (a x) new read.0 some more)))
 
-  -- the piece fails
+  -- the part fails
   pub top_fails : (ts : List Token) (new : List Symbol) (k : ℕ) → Fails a f (symbols ts) new → k + length new ≡ length (symbols ts) → IsFirstWrong a ts k
   top_fails ts new k h is = first_wrong ts k is (via_fails to from (λ _. refl) (fails_first h end_piece (end_follows f apart)))
 
@@ -124,7 +124,7 @@ symbols_left ts n le =
     let d = length-drop n ts in
     omega arith
 
--- with the cursor's count of what is left, for the call at the top
+-- the same with the cursor's count of tokens left, for the outermost call
 
 pub left_ok : (ts : List Token) (w old new : List Symbol) (left : ℕ) → old ≡ symbols ts → old ≡ w ++ new → left + 1 ≡ length new → left ≤ length ts
 left_ok ts w old new left start read is =
@@ -165,7 +165,7 @@ module _ {X : Type 0} {a : X → List Symbol} {f : Symbol → Bool} {at : X → 
       top_fails piece apart ts new (length ts - left) (subst (λ t. Fails a f t new) start h)
       (at_left (length ts) (length (symbols ts)) (length new) left (symbols_length ts) (left_err ts old new left start h is) is)
 
--- a tree that is spelled so
+-- a tree with this spelling
 
 pub one_tree : {X : Type 0} {a : X → List Symbol} {f : Symbol → Bool} {at : X → Symbol → Bool} → Piece a f at → f End ≡ false → ((x : X) → at x End ≡ false) → (ts : List Token) (x y : X) → Spells a x ts → Spells a y ts → x ≡ y
 one_tree {X} {a} {f} {at} piece apart ended ts x y this other = ((piece.each x).only y (End ∷ []) (End ∷ []) apart (ended y) (this ∙ sym other)).0
@@ -177,18 +177,18 @@ not_wrong {X} {a} ts k x spelled wrong = wrong.bad (record { piece = x; more = d
 pub one_spelling : {X : Type 0} {a : X → List Symbol} {f : Symbol → Bool} {at : X → Symbol → Bool} → Piece a f at → (x y : X) → a x ≡ a y → x ≡ y
 one_spelling {X} {a} {f} {at} piece x y e = ((piece.each x).only y [] [] tt tt (ap (λ t. t ++ []) e)).0
 
--- tokens that are no spelling have a first wrong one, or the end is it
+-- tokens that spell nothing have a first wrong one, or the end is it
 
--- whether a symbol is a token's, and not the end
+-- whether a symbol is that of a token, not the end
 abbrev pub is_token : Symbol → Bool
 is_token End = false
 is_token y = true
 
--- the end stands in no spelling
+-- the end is in no spelling
 abbrev pub SpellsTokens : {X : Type 0} → (X → List Symbol) → Type 0
 SpellsTokens {X} a = (x : X) → list_all is_token (a x) ≡ true
 
--- where the tokens and their end begin a spelling with its end, they are all of it
+-- if the tokens with their end begin a spelling with its end, they are all of it
 ends_there : (ts : List Token) (w more : List Symbol) → list_all is_token w ≡ true
     → w ++ End ∷ [] ≡ symbols ts ++ more → w ++ End ∷ [] ≡ symbols ts
 ends_there [] [] more h e = refl
@@ -197,7 +197,7 @@ ends_there (t ∷ ts) [] more h e = absurd (seen_no_end t.kind t.span (sym (head
 ends_there (t ∷ ts) (x ∷ w) more h e = λ i. heads e i ∷ ends_there ts w more (and_parts _ _ h).1 (tails e) i
 
 module _ {X : Type 0} {a : X → List Symbol} (some : X) (ts : List Token) (right : (k : ℕ) → IsFirstWrong a ts k → ⊥) where
-  -- where none is the first wrong one, any number of them begins a spelling
+  -- if no token is the first wrong one, any number of tokens begins a spelling
   viable : (k : ℕ) → (Viable (whole a) (take k (symbols ts)) → ⊥) → ⊥
   viable zero f = f (record { piece = some; more = whole a some; begins = refl })
   viable (suc k) f = viable k (λ v. right k (record { good = v; bad = λ w. f (rw add-one at w) }))

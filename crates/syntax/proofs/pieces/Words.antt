@@ -64,7 +64,7 @@ module _ {X : Type 0} {word_of : X → Kind} {meaning : Option Kind → Option X
   words_kind None x e = absurd (none_some (sym words.blank ∙ e))
   words_kind (Some k) x e = ap (λ k. Some k) (words.only k x e)
 
-  -- one of them is taken
+  -- one of them is read
   pub words_taken : (x : X) (old new : List Symbol) → meaning (kind_at old) ≡ Some x → is_placed (word_of x) ≡ false → ((kind : Kind) → (kind ≡ Name → ⊥) → is_placed kind ≡ false → kind_at old ≡ Some kind → old ≡ Fixed kind ∷ new) → old ≡ word (word_of x) ++ new
   words_taken x old new is low taken = taken (word_of x) (words.plain x) low (words_kind (kind_at old) x is)
 

@@ -16,7 +16,7 @@ use Rattle.contracts.specs.Positions.{numbers_of}
 use Rattle.contracts.proofs.PartLemmas.{ends_listed, few_numbers}
 use Rattle.contracts.proofs.drawing.drawing_of.Goals as goal
 
--- a listing of the states is no longer than a contract's states may be
+-- a listing has no more states than a contract may have
 few_listed : (contract : Contract) (numbers : List ℕ) → IsWhole (contract_parts contract) → numbers ≡ map (λ s. s.id.0) contract.states.items → length numbers ≤ MOST_STATES
 few_listed contract numbers whole is =
     let few = few_numbers contract whole in

@@ -40,7 +40,7 @@ states_are c = c.in_ok-states.ensures ∙ ap (map (λ s. s.id.0)) c.deref.ensure
 messages_are : (c : After-new-message_list) → c.in_ok-messages.messages.items ≡ map message_number (messages_of c)
 messages_are c = c.in_ok-messages.ensures ∙ ap (map (λ m. m.id.0)) c.deref-2.ensures.value ∙ sym (message_numbers_are c.args.contract.now.messages.items)
 
--- numbers that go up by one are listed by the first and their count
+-- consecutive numbers are listed by the first and their count
 states_listed : (c : After-new-message_list) → AreConsecutive c.args.contract.now.first.0 (map state_number (states_of c)) → numbers_of c.new-state_list.result ≡ map state_number (states_of c)
 states_listed c group =
     c.new-state_list.ensures ∙ ap (range_with_len c.args.contract.now.first.0) (c.len.ensures ∙ c.in_ok-states.states.ok.0 ∙ ap length (states_are c)) ∙ row_is c.args.contract.now.first.0 (map state_number (states_of c)) group

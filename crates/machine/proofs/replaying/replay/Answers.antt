@@ -11,7 +11,7 @@ use Rattle.machine.specs.Views.{world_model}
 use Rattle.machine.specs.declared.halts.Event.{Event}
 use Rattle.machine.proofs.replaying.replay.Goals as goal
 
--- what a slice of events is read as past its end
+-- the event that is read past the end of a slice
 abbrev no_event : Event
 no_event = record { process = 0; choice = 0 }
 

@@ -7,7 +7,7 @@ use Rattle.names.specs.Methods.{parameter_turn}
 use Rattle.names.proofs.ParameterLemmas.{turned_follow, parameters_more}
 use Rattle.names.proofs.methods.judge_parameters.Goals as goal
 
--- what stands past the end of a list
+-- the default for a read past the end of a list
 abbrev past : made.Parameter.Parameter
 past = record { claims = false; ty = Scalar Int; name = record { start = 0; end = 0; place = record { line = 0; col = 0 } } }
 

@@ -17,7 +17,7 @@ use Rattle.tree.specs.ExpressionTrees.{expression_tree}
 use Rattle.names.proofs.WholeNames.{lone_shape, not_lone}
 use Rattle.names.proofs.wholes.judge_whole_operand.Goals as goal
 
--- where no name stands alone, nothing more may stand there than anywhere else
+-- an expression that is no lone name is judged as anywhere else
 no_more : (s : InScope) (t : ExpressionTree) (e : Shape) → shape t ≡ e → lone_name t ≡ None → whole_mistakes s e ≡ expression_mistakes s e
 no_more s t (Number place) is none = refl
 no_more s t (Truth place) is none = refl

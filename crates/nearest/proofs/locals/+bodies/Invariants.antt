@@ -5,7 +5,7 @@ use Rattle.tree.specs.StatementTrees.{behind_case, block_tree, case_sequence, ca
 use Rattle.tree.specs.declared.statement as made
 use Rattle.nearest.proofs.locals.+bodies.Given as goal
 
--- In each loop what is added and what is left are all that was to be added.
+-- In each loop, the names added and those left are all that were to be added.
 
 abbrev pub invariant-add_statements-loop-statement : goal.invariant-add_statements-loop-statement
 invariant-add_statements-loop-statement l =

@@ -12,11 +12,11 @@ use Rattle.program.specs.contracts.methods.Methods as methods
 use Rattle.program.specs.contracts.statement.Statement as statement
 use Rattle.program.proofs.laws.threads_share_methods.Goals as goal
 
--- a list is shared where what stands in it is, also where it is a field
+-- threads can share a list if they can share its elements, also as a field
 field_sync : (T : RattleType) → IsSync T → IsSync (as_row (vec.the_field T global.the_row ghosts))
 field_sync T s = search (crosses, sendable) depth 20
 
--- a method is, where its statements are
+-- they can share a method if they can share its statements
 method_sync : IsSync statement.the_row → IsSync method.the_row
 method_sync s = declared_sync method.the_type (
   search (crosses, sendable) depth 40 fits 100000,

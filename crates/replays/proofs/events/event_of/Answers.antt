@@ -6,7 +6,7 @@ use Rattle.replays.proofs.EventLemmas.{an_event, at_none, event_behind, line_beg
 use Rattle.replays.proofs.FrontLemmas.{begins_once}
 use Rattle.replays.proofs.events.event_of.Goals as goal
 
--- what stands behind so many bytes, as the code has it
+-- the bytes after a prefix of spaces, as the code takes them
 behind_is : (rest : List ℕ) (n : ℕ) → n ≡ prefix_len is_space rest → take (length rest - n) (drop n rest) ≡ drop (prefix_len is_space rest) rest
 behind_is rest n e = take_all (length rest - n) (drop n rest) (omega (arith, length-drop n rest)) ∙ ap (λ k. drop k rest) e
 

@@ -3,7 +3,7 @@ use Rattle.replays.specs.declared.limits.TheConstants.{MOST_SCHEDULE}
 use Rattle.replays.proofs.ScheduleLemmas.{IsSoFar}
 use Rattle.replays.proofs.schedule.read_schedule.Given as goal
 
--- the lines before have told the events so far, and there are no more lines than bytes
+-- the events so far are those of the lines so far, and there are no more lines than bytes
 abbrev pub invariant-lines : goal.invariant-lines
 invariant-lines l = record {
   short : l.number + length l.rest ≤ 1 + MOST_SCHEDULE;

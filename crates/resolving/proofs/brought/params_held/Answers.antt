@@ -11,7 +11,7 @@ use Rattle.resolving.proofs.BroughtLemmas.{held_none, held_some}
 use Rattle.resolving.proofs.brought.params_held.Goals as goal
 use Rattle.resolving.proofs.brought.params_held.Goals.{in-Some+in_ok-push, in_default}
 
--- what stands past the end of a list
+-- the default for a read past the end of a list
 abbrev past : MessageParameter
 past = record { ty = Scalar Int; name = record { start = 0; end = 0; place = record { line = 0; col = 0 } } }
 

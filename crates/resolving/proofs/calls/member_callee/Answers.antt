@@ -7,7 +7,7 @@ use Rattle.resolving.specs.Callees.{member_callee, method_of}
 use Rattle.resolving.specs.Locals.{Local, local_named}
 use Rattle.resolving.proofs.calls.member_callee.Goals as goal
 
--- where no variable has the first name it is that of a class
+-- if no variable has the first name, it is the name of a class
 of_class : (p : ProgramText) (class name : Span) (local : Option Local) → is_some local ≡ false → member_callee p local class name ≡ method_of p class name
 of_class p class name None none = refl
 of_class p class name (Some v) none = cc

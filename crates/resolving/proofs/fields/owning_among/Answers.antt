@@ -13,7 +13,7 @@ use Rattle.resolving.proofs.FieldLemmas.{index_none, index_some}
 use Rattle.resolving.proofs.fields.owning_among.Goals as goal
 use Rattle.resolving.proofs.fields.owning_among.Goals.{in-Some+in_ok-push+in_ok-push-2, in_default}
 
--- what stands past the end of a list
+-- the default for a read past the end of a list
 abbrev past : Field
 past = record { access = None; ty = Scalar Int; name = record { start = 0; end = 0; place = record { line = 0; col = 0 } } }
 

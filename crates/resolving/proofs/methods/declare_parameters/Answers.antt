@@ -10,7 +10,7 @@ use Rattle.resolving.specs.Methods.{parameters_frame}
 use Rattle.resolving.proofs.BodyLemmas.{parameters_more}
 use Rattle.resolving.proofs.methods.declare_parameters.Goals as goal
 
--- what stands past the end of a list
+-- the default for a read past the end of a list
 abbrev past : made.Parameter.Parameter
 past = record { claims = false; ty = Scalar Int; name = record { start = 0; end = 0; place = record { line = 0; col = 0 } } }
 

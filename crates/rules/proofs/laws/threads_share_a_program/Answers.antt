@@ -14,11 +14,11 @@ use Rattle.flow.specs.contracts.graph.Graph as graph
 use Rattle.program.specs.contracts.types.HeapType as ty
 use Rattle.rules.proofs.laws.threads_share_a_program.Goals as goal
 
--- a list is shared where what stands in it is
+-- threads can share a list if they can share its elements
 list_sync : (T : RattleType) → IsSync T → IsSync (vec.the_row T global.the_row ghosts)
 list_sync T s = search (crosses, sendable) depth 20
 
--- also where it is a field
+-- also as a field
 field_sync : (T : RattleType) → IsSync T → IsSync (as_row (vec.the_field T global.the_row ghosts))
 field_sync T s = search (crosses, sendable) depth 20
 

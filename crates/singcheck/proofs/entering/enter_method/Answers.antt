@@ -14,7 +14,7 @@ entry_index-requires c = record {
       omega (arith, all_named p 0 p.items, ap (λ q. length q.methods) c.requires.program.is, c.requires.few);
 }
 
--- where the entry is looked for
+-- the result of looking for the entry
 looked : (c : After-entry_index) → IsLooked (method_names c.args.text.now (program_tree c.args.tree.now)) c.args.entry.now c.entry_index.result
 looked c = record { some = c.entry_index.ensures.some; none = c.entry_index.ensures.none }
 

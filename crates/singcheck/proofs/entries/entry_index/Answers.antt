@@ -13,7 +13,7 @@ use Rattle.singcheck.proofs.entries.entry_index.Goals.{After-deref-item-items}
 names_of : List ℕ → Item → List (List ℕ)
 names_of text i = names_in text (definition_tree i.definition)
 
--- the names of the items, as the code has them
+-- the names of the methods, as the code concatenates them
 whole_is : (c : After-deref-item-items) → method_names c.args.text.now (program_tree c.args.tree.now) ≡ flat_map (names_of c.args.text.now) c.deref-item-items.result.now
 unfolding names_of
 whole_is c =

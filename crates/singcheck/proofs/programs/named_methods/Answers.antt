@@ -17,7 +17,7 @@ use Rattle.singcheck.proofs.StageLemmas.{explained, misnamed}
 use Rattle.singcheck.proofs.programs.named_methods.Goals as goal
 use Rattle.singcheck.proofs.programs.named_methods.Goals.{In-Ok}
 
--- the contracts of the tree that comes back
+-- the contracts of the tree that is returned
 given : (c : In-Ok) → IsResolution (program_of c.args.text.now c.in-Ok.tree) c.in-Ok.resolved
 given c = subst (λ t. IsResolution (program_of c.args.text.now t) c.in-Ok.resolved) (sym c.in-Ok.ensures.same) c.in-Ok.ensures.resolved
 

@@ -13,7 +13,7 @@ use Rattle.source.proofs.PlaceLemmas.{place_small}
 use Rattle.source.proofs.lexer.cut.Goals as goal
 use Rattle.source.proofs.lexer.cut.Goals.{in-Some+else-depth-gt-MAX_DEPTH+in_ok-push, in_default, In_ok-piece}
 
--- the piece stands first in what is left
+-- the piece comes first in what is left
 piece_is : (c : In_ok-piece) → IsFirst (drop c.pieces.at c.args.body.now) c.in_ok-piece.piece
 piece_is c = subst (λ r. IsFirst r c.in_ok-piece.piece) (take_rest c.args.body.now c.pieces.at) c.in_ok-piece.ensures.found
 

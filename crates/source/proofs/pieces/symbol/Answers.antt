@@ -5,7 +5,7 @@ use Rattle.source.proofs.SymbolLemmas.{first_double, first_single, first_none}
 use Rattle.source.proofs.pieces.symbol.Goals as goal
 use Rattle.source.proofs.pieces.symbol.Goals.{then-rest-gt1+in_default, else-rest-gt1, After-of_byte}
 
--- no symbol of two bytes stands here
+-- no symbol of two bytes is here
 no_double : (c : After-of_byte) → 1 < length c.args.rest.now → symbol (get_or c.args.rest.now 0 0 ∷ get_or c.args.rest.now 1 0 ∷ []) ≡ None
 no_double c h = elim c.if-rest-gt1.branch [ then-rest-gt1+in_default w ↦ sym w.of_two.ensures ∙ w.in_default.is | else-rest-gt1 w ↦ absurd (omega (arith, w.if-rest-gt1.false)) ]
 

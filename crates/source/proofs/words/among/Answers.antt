@@ -7,7 +7,7 @@ use Rattle.source.specs.declared.kind.Kind.TheVariants.{Name}
 use Rattle.source.specs.Words.{reserved_text, kind_among}
 use Rattle.source.proofs.words.among.Goals as goal
 
--- what is found among those that are left, by how the first of them is written
+-- what is found among the remaining kinds, by whether the first of them is written so
 among_from : (xs : List Kind) (i : ℕ) (d : Kind) (word : List ℕ) (b : Bool) → i < length xs → pointwise nat_eq (reserved_text (get_or xs i d)) word ≡ b → kind_among (drop i xs) word ≡ unwrap_or (cond b (Some (get_or xs i d)) (find (λ k. pointwise nat_eq (reserved_text k) word) (drop (i + 1) xs))) Name
 among_from xs i d word b lt is =
     at_drop_more (λ ks. kind_among ks word) xs i d lt

@@ -5,7 +5,7 @@ use Rattle.std.specs.Cmp.Lexicographic.{pointwise, unequal}
 use Rattle.source.proofs.words.is_written.Goals.{then-bytes-test+then-at-word+else-text-at, then-bytes-test+else-at-word, else-bytes-test}
 use Rattle.source.proofs.words.is_written.Goals as goal
 
--- what is left of two lists, by its first items and those behind
+-- the rests of two lists, by their first items and the rests after those
 split : (a b : List ℕ) (k : ℕ) → k < length a → k < length b
     → pointwise nat_eq (drop k a) (drop k b) ≡ (nat_eq (get_or a k 0) (get_or b k 0) && pointwise nat_eq (drop (k + 1) a) (drop (k + 1) b))
 split a b k in_a in_b =
@@ -36,7 +36,7 @@ pub bytes-preserved : goal.bytes-preserved
 bytes-preserved c =
     record { within = omega arith; same = sym (split_same c.as_bytes-text.result.now c.args.word.now c.bytes.at c.bytes-test.true c.if-at-word.true c.if-text-at.true) ∙ c.bytes.invariant.same }
 
--- where the bytes at one place differ, and where none is left
+-- if the bytes at one index differ, and if none are left
 
 ends_apart : (a b : List ℕ) (k : ℕ) (whole : Bool) → k < length a → k < length b → get_or a k 0 ≢ get_or b k 0
     → pointwise nat_eq (drop k a) (drop k b) ≡ whole → nat_eq k (length a) ≡ whole

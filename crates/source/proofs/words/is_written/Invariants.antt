@@ -2,7 +2,7 @@ use Rattle.std.proofs.Common.{length, ◌-◌, ◌≡◌, ◌≤◌, drop, nat_e
 use Rattle.std.specs.Cmp.Lexicographic.{pointwise}
 use Rattle.source.proofs.words.is_written.Given as goal
 
--- what is left of the two is the same exactly where they are
+-- the rests of the two are equal exactly if the two are
 abbrev pub invariant-bytes : goal.invariant-bytes
 invariant-bytes l = record {
   within : l.at ≤ length l.text;

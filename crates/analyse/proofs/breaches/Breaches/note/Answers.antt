@@ -13,7 +13,7 @@ use Rattle.analyse.proofs.FoundLemmas.{gains_alike, gains_between, gains_pushed,
 use Rattle.analyse.proofs.breaches.Breaches.note.Goals as goal
 use Rattle.analyse.proofs.breaches.Breaches.note.Goals.{else-len-max, in-None, in-Some, then-len-max+in_ok-merge}
 
--- what a search found is there
+-- an item that a search finds is in the list
 found_there : (r : Result ℕ ℕ) (items : List Breach) (b : Breach) → ((x y : Breach) → ghosts.cmp x y ≡ Equal → x ≡ y) → is_ok r ≡ true → IsSearchInRange r (length items)
     → IfOk r (HoldsAt (λ y. ghosts.cmp y b ≡ Equal) items) → Contains items b
 found_there (Ok i) items b one ok within holds = (i, within, one _ b (holds b))

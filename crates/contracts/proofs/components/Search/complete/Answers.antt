@@ -8,7 +8,7 @@ use Rattle.contracts.proofs.RisingLemmas.{ends_in, none_in_end, rising_last}
 use Rattle.contracts.proofs.components.Search.complete.Goals as goal
 use Rattle.contracts.proofs.components.Search.complete.Goals.{In-Some}
 
--- the bound that is looked at is the last one
+-- the bound that the code reads is the last one
 last_is : (c : In-Some) → (rest : List ℕ) × (c.components.self.bounds.items ≡ rest ++ c.in-Some.bound ∷ [])
 last_is c = ends_in c.components.self.bounds.items c.in-Some.bound
     (sym (c.in-Some.ensures ∙ c.last.ensures.value ∙ ap (λ (l : List ℕ). slice_get l (length l - 1)) c.deref.ensures.value))

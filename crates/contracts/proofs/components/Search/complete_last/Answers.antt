@@ -35,7 +35,7 @@ write_each-requires c = part_within (goal.at.write_each-requires c).After-deref 
 pub write_each-requires-2 : goal.write_each-requires-2
 write_each-requires-2 c = part_within (goal.at.write_each-requires-2 c).After-deref (length c.deref_mut-2.result.now) (ap length c.deref_mut-2.ensures.value ∙ c.requires.kept.found.long)
 
--- what the fields are
+-- the fields after the call
 statuses_are : (c : After-pop) → (with_items c.args.self.now.statuses c.write_each.new.items).items ≡ set_at_each c.args.self.now.statuses.items (drop c.args.bound c.args.self.now.pending.items) Complete
 statuses_are c = vec_written c.args.self.now.statuses c.deref_mut.result.now c.write_each.new.items
     (take (length c.deref.result.now - c.args.bound) (drop c.args.bound c.deref.result.now)) (drop c.args.bound c.args.self.now.pending.items)
@@ -48,7 +48,7 @@ bounds_are c = but_last c.args.self.now.bounds.items c.requires.last.0 c.pop.new
 search_is : (c : After-pop) → IsSearch (groups c.args.graph.now) c.args.self.now.statuses.items c.args.self.now.pending.items (c.requires.last.0 ++ c.args.bound ∷ []) c.args.self.now.arcs.items
 search_is c = subst (λ l. IsSearch (groups c.args.graph.now) c.args.self.now.statuses.items c.args.self.now.pending.items l c.args.self.now.arcs.items) c.requires.last.1 c.requires.kept.search
 
--- whether it lies on a ring
+-- whether it is on a ring
 told_is : (c : After-pop) → TellsComponent (groups c.args.graph.now) (drop c.args.bound c.args.self.now.pending.items) c.are_on_ring-on_ring.result
 told_is c = subst (λ l. TellsComponent (groups c.args.graph.now) l c.are_on_ring-on_ring.result) (take_rest c.deref.result.now c.args.bound ∙ ap (drop c.args.bound) c.deref.ensures.value) c.are_on_ring-on_ring.ensures
 

@@ -12,7 +12,7 @@ use Rattle.contracts.proofs.StepLemmas.{enter_fewer, row_short}
 use Rattle.contracts.proofs.components.Search.enter.Goals as goal
 use Rattle.contracts.proofs.components.Search.enter.Goals.{In_ok-add_arcs}
 
--- the place is the number of pending vertices
+-- the index is the number of pending vertices
 place_is : (c : In_ok-add_arcs) → c.len-index.result ≡ length c.args.self.now.pending.items
 place_is c = c.len-index.ensures ∙ c.args.self.now.pending.ok.0
 

@@ -5,7 +5,7 @@ use Rattle.contracts.proofs.RisingLemmas.{all_before, ends_in}
 use Rattle.contracts.proofs.components.Search.next_end.Goals as goal
 use Rattle.contracts.proofs.components.Search.next_end.Goals.{In-Some}
 
--- the arc that is looked at is the last one
+-- the arc that the code reads is the last one
 last_is : (c : In-Some) → (rest : List Arc) × (c.args.self.now.arcs.items ≡ rest ++ c.in-Some.arc.now ∷ [])
 last_is c = ends_in c.args.self.now.arcs.items c.in-Some.arc.now
     (sym (c.in-Some.ensures.value ∙ ap (λ (l : List Arc). slice_get l (length l - 1)) c.deref.ensures.value))

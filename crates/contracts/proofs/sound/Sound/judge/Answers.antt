@@ -7,7 +7,7 @@ use Rattle.source.specs.declared.finding.Finding.{Finding}
 use Rattle.contracts.specs.Parts.{Parts, contract_parts}
 use Rattle.contracts.proofs.sound.Sound.judge.Goals as goal
 
--- a list that isn't empty has something
+-- a list that is not empty has an element
 some_in : (xs : List FindingModel) → (length xs ≡ 0 → ⊥) → (f : FindingModel) × Contains xs f
 some_in [] some = absurd (some refl)
 some_in (x ∷ xs) some = (x, (0, omega arith, refl))
@@ -20,7 +20,7 @@ returns-then-not-is_empty c =
     let some = some_in (map finding_model c.in_ok-found.found.items) (λ none. differ (omega (arith, size, long.0, none))) in
     ((some.0, c.in_ok-found.ensures.exactly.right some.0 some.1), c.in_ok-found.ensures.exactly)
 
--- where nothing is found, the contract is sound
+-- if nothing is found, the contract is sound
 none_found : (parts : Parts) (found : List Finding) → AreExactly (IsFlaw parts) (map finding_model found) → length found ≡ 0 → IsSound parts
 none_found parts found exactly none = λ f fault.
     let there = exactly.all f fault in

@@ -20,7 +20,7 @@ returns-in_err-position-clause-end c =
     ap (option_map (λ (q : StateId). q.0)) c.from_residual.ensures
     ∙ no_end edges (sign_from c.args.side) c.args.state c.args.message (next_none edges c.args.state c.args.message (sym is ∙ c.in_err-position.was))
 
--- what stands at the position
+-- the edge at the position
 found_of : (c : After-index) → Found c.args.self.now.edges.items c.args.state c.args.message c.in_ok-position.position c.index.result.now
 found_of c = next_some c.args.self.now.edges.items c.args.state c.args.message c.in_ok-position.position c.index.result.now
     (sym (subst (λ l. c.first_on.result ≡ first_with l (c.args.state.0, c.args.message.0)) c.deref.ensures.value c.first_on.ensures) ∙ c.in_ok-position.was)

@@ -26,7 +26,7 @@ returns-in_err-position c =
     ap (option_map (λ e. entrance_model e.now)) c.from_residual.ensures
     ∙ sym (case_at (cases_of before) c.args.endpoint.0 message ∙ ap (option_and_then (slice_get (cases_of before))) (sym (position_is before) ∙ c.in_err-position.was))
 
--- the position lies in the list
+-- the position is within the list
 within : (c : After-copied) (at : ℕ) → c.copied.result ≡ Some at → at < length c.args.self.now.list.items
 within c at is =
     let found = position-Some (is_key c.args.endpoint.0 (option_map (λ m. m.0) c.args.message)) (map key_of (cases_of c)) at (0, None) (sym (position_is c) ∙ is) in

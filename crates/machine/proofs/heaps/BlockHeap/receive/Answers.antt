@@ -14,7 +14,7 @@ use Rattle.machine.proofs.HeapLemmas.{brought_received, cons_of}
 use Rattle.machine.proofs.HeldLemmas.{held_received}
 use Rattle.machine.proofs.heaps.BlockHeap.receive.Goals as goal
 
--- If the model of what was taken is a message, something was taken.
+-- if the model of the taken message is a message, one was taken
 is_there : (o : Option Held) (m : MessageHeld) → option_map held_model o ≡ Some m → IsSome o
 is_there None m e = absurd (none_some e)
   where

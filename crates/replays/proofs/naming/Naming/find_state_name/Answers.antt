@@ -9,22 +9,22 @@ use Rattle.replays.proofs.NameLemmas.{by_index, seen_at, state_placed}
 use Rattle.replays.proofs.naming.Naming.find_state_name.Goals as goal
 use Rattle.replays.proofs.naming.Naming.find_state_name.Goals.{After-index_of}
 
--- the state stands at the place that the tables have
+-- the state is at the index from the tables
 by_tables : (c : After-index_of) → state_of (model_of c.args.self.now.program.now).contracts c.args.contract.0 c.args.state.0
     ≡ by_index (model_of c.args.self.now.program.now).contracts c.args.contract.0 c.index_of.result
 by_tables c =
     let contracts = (model_of c.args.self.now.program.now).contracts in
     state_placed contracts c.args.self.now.states.items c.args.self.now.placed c.args.contract.0 c.args.state.0 ∙ ap (by_index contracts c.args.contract.0) (sym c.index_of.ensures)
 
--- the name of a state, where there is one
+-- the name of a state, if it exists
 abbrev name_of : Option StateModel → Option (List ℕ)
 name_of s = option_map (λ (x : StateModel). x.name) s
 
--- the state at a place of a contract, where there is one
+-- the state at an index of a contract, if it exists
 abbrev within : Option ContractModel → ℕ → Option StateModel
 within contract index = option_and_then (λ (x : ContractModel). slice_get x.parts.states index) contract
 
--- of a contract that is there, its states
+-- the states of a contract that exists
 in_contract : (c : After-index_of) (index : ℕ) (contract : Contract) → c.index_of.result ≡ Some index → slice_get (model_of c.args.self.now.program.now).contracts c.args.contract.0 ≡ Some (contract_model contract)
     → state_of (model_of c.args.self.now.program.now).contracts c.args.contract.0 c.args.state.0 ≡ slice_get (map (state_model (string_bytes contract.state_names)) contract.states.items) index
 in_contract c index contract was there = by_tables c ∙ ap (by_index (model_of c.args.self.now.program.now).contracts c.args.contract.0) was ∙ ap (λ o. within o index) there
