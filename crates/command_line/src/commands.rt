@@ -14,11 +14,11 @@ const VERSION: &str = "0.1.0";
 /// The help text after the commands.
 const STATUSES: &str = "\
 Exit status:
-  0  nothing found, or each event of the schedule was a step
-  1  something found, or an event was no step
+  0  nothing found, or the whole schedule ran
+  1  something found, or the replay stopped early
   2  the command line, the entry or the schedule is refused
-  3  a file cannot be read, or the answer cannot be written
-  4  memory is out
+  3  a file could not be read, or the answer could not be written
+  4  out of memory
 
 Example: singcheck check examples/shop.sg";
 
@@ -59,7 +59,7 @@ fn file_of<'a>(alloc: Global) -> Arg<'a>
     ensures rule { rule_of result ≡ text_rule (codes "FILE") }
     ensures local { result.global ≡ false }
 {
-    text_of(alloc, "FILE", "The file with the program's text")
+    text_of(alloc, "FILE", "The file with the program text")
 }
 
 /// Returns an option with a number.
@@ -79,7 +79,7 @@ fn bounds_of<'a>(alloc: Global) -> Result<Command<'a>, AllocError>
     ensures { IfOk result (IsCommand bounds_command) }
 {
     Command::new(alloc, "bounds")
-        .about("Prints how long the queues of each contract can be")
+        .about("Prints how long the queues of each contract can become")
         .after_help(BOUNDS_EXAMPLE)
         .arg(file_of(alloc))
 }
@@ -89,18 +89,18 @@ fn check_of<'a>(alloc: Global) -> Result<Command<'a>, AllocError>
     ensures { IfOk result (IsCommand check_command) }
 {
     Command::new(alloc, "check")
-        .about("Prints what is wrong in a program")
+        .about("Reports what is wrong with a program")
         .after_help(CHECK_EXAMPLE)
         .arg(file_of(alloc))?
         .arg(number_of(
             alloc,
             "workers",
-            "How many threads share the methods, 1 to 64, default 4",
+            "Number of threads that share the methods, 1 to 64, default 4",
         ))?
         .arg(number_of(
             alloc,
             "slots",
-            "Size of the shared table in words of 8 bytes, 1 to 16777216, default 65536",
+            "Entries of the table that they share, 8 bytes each, 1 to 16777216, default 65536",
         ))
 }
 
@@ -109,7 +109,7 @@ fn replay_of<'a>(alloc: Global) -> Result<Command<'a>, AllocError>
     ensures { IfOk result (IsCommand replay_command) }
 {
     Command::new(alloc, "replay")
-        .about("Prints what the events of a schedule come to")
+        .about("Runs a method along a schedule and prints the final state")
         .after_help(REPLAY_EXAMPLE)
         .arg(file_of(alloc))?
         .arg(text_of(
@@ -120,7 +120,7 @@ fn replay_of<'a>(alloc: Global) -> Result<Command<'a>, AllocError>
         .arg(text_of(
             alloc,
             "SCHEDULE",
-            "The file with the events, a line each: the number of a process and a choice",
+            "The file with the events, one a line: the number of a process and a choice",
         ))
 }
 
@@ -129,13 +129,13 @@ fn why_of<'a>(alloc: Global) -> Result<Command<'a>, AllocError>
     ensures { IfOk result (IsCommand why_command) }
 {
     Command::new(alloc, "why")
-        .about("Prints what is wrong in a program, and how each method gets there")
+        .about("Reports what is wrong with a program, with explanations")
         .after_help(WHY_EXAMPLE)
         .arg(file_of(alloc))?
         .arg(optional_of(
             alloc,
             "LINE:COL",
-            "A place: only findings there get a trace",
+            "A place: explain only the findings there",
         ))
 }
 

@@ -15,7 +15,7 @@ use Rattle.declarations.specs.Program.{ProgramText}
 abbrev pub param_names : List MessageParameter → List Span
 param_names params = map (λ p. p.name) params
 
--- the mistakes in a message: its types, its names, and their number
+-- the mistakes in the parameters of a message: types not declared, names declared twice, and too many of them
 abbrev pub message_mistakes : ProgramText → MessageTree → List Mistake
 message_mistakes p m = flat_map (λ x. type_unknown p x.ty) m.params
     ++ (twice_among p.text (param_names m.params) ++ past_limit limit.Parameters (param_names m.params))

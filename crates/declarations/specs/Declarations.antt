@@ -60,10 +60,10 @@ counted_states states = flat_map counted_in_state states
 abbrev pub names_of_contracts : List ContractTree → List Span
 names_of_contracts contracts = map (λ c. c.name) contracts
 
--- the index of the first of these names that is written the same
+-- the index of the first of these names that is written like `name`
 abbrev pub first_among : List ℕ → List Span → Span → Option ℕ
 first_among text names name = first_of (words_at text names) (word_at text name)
 
--- whether one of these names is written the same
+-- whether one of these names is written like `name`
 abbrev pub is_declared : List ℕ → List Span → Span → Bool
 is_declared text names name = is_some (first_among text names name)

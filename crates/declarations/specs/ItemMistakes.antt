@@ -12,7 +12,7 @@ use Rattle.declarations.specs.Listed.{twice_among, past_limit}
 use Rattle.declarations.specs.Owning.{owning_fields}
 use Rattle.declarations.specs.Program.{ProgramText, item_names}
 
--- the mistakes in a struct: its names, its types, and the number of its owning fields
+-- the mistakes in the fields of a struct: names declared twice, types not declared, and too many owning fields
 abbrev pub struct_mistakes : ProgramText → StructTree → List Mistake
 struct_mistakes p s =
     twice_among p.text (map (λ f. f.name) s.fields)
@@ -35,7 +35,7 @@ items_mistakes p = twice_among p.text (item_names p) ++ past_limit limit.Methods
 abbrev pub all_counted_states : List ContractTree → List Span
 all_counted_states contracts = flat_map (λ c. counted_states (states_of c)) contracts
 
--- the first contract past the limit, and the first state
+-- the first contract past the limit of contracts, and the first state past that of states
 abbrev pub counted_mistakes : ProgramText → List Mistake
 counted_mistakes p = past_limit limit.Contracts (names_of_contracts (contracts_of p.items))
     ++ past_limit limit.States (all_counted_states (contracts_of p.items))

@@ -10,7 +10,7 @@ use Rattle.declarations.specs.declared.mistake.NameSort.{NameSort}
 use Rattle.declarations.specs.declared.mistake.NameSort.TheVariants as sort
 use Rattle.declarations.specs.declared.mistake.Mistake.TheVariants.{DeclaredTwice, LimitPassed, Unknown}
 
--- the first of these names that is written the same
+-- the first of these names that is written like `name`
 abbrev pub name_among : List ℕ → List Span → Span → Option Span
 name_among text names name = option_and_then (slice_get names) (first_among text names name)
 

@@ -15,7 +15,7 @@ use Rattle.declarations.specs.declared.mistake.Mistake.TheVariants.{DeclaredTwic
 use Rattle.declarations.specs.declared.mistake.Mistake.TheVariants.{ContinueOutside, LimitPassed, NotStarted, CaseTwice, LacksClosed}
 use Rattle.tables.specs.Words.{word_at}
 
--- the greatest number allowed of each kind
+-- the greatest number that a limit allows
 abbrev pub most_of : Limit → ℕ
 most_of limit.Contracts = MOST_CONTRACTS
 most_of limit.States = MOST_STATES
@@ -28,7 +28,7 @@ most_of limit.Variables = MOST_VARIABLES
 abbrev pub plain : Code → List ℕ → Place → FindingModel
 plain code text place = record { place = place; code = code; text = text }
 
--- a finding at a name, which its text begins with
+-- a finding at a name, whose text begins with that name
 abbrev pub finding_of_name : List ℕ → Code → Span → List ℕ → FindingModel
 finding_of_name text code name rest = plain code (utf8_lossy (word_at text name) ++ rest) name.place
 

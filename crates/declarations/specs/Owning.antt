@@ -19,7 +19,7 @@ owning_named p name = option_map (λ s. (s.0, owning_fields s.1)) (struct_named 
 abbrev pub is_lent : made.Parameter.Parameter → Bool
 is_lent x = is_heap x.ty && not x.claims
 
--- whether one of these parameters is lent a block
+-- whether one of these parameters is lent
 abbrev pub any_lent : List made.Parameter.Parameter → Bool
 any_lent [] = false
 any_lent (x ∷ params) = is_lent x || any_lent params

@@ -59,11 +59,11 @@ numbered_states first states = map (λ p. numbered_state p.0 p.1) (enumerate_fro
 abbrev pub states_from : List ℕ → ℕ → List StateTree → List StateModel
 states_from text first states = numbered_states first (flat_map (counted_in text) states)
 
--- the number of the first message of this name, if they are numbered from `first`; 0 if there is none
+-- the number of the first of these messages with this name, if they are numbered from `first`; 0 if there is none
 abbrev pub message_meant : List ℕ → ℕ → List MessageTree → Span → ℕ
 message_meant text first messages name = option_map_or (λ k. first + k) (first_among text (names_of_messages messages) name) 0
 
--- the number of the first state of this name, if they are numbered from `first`; 0 if there is none
+-- the number of the first of these states with this name, if they are numbered from `first`, unnamed ones included; 0 if there is none
 abbrev pub state_meant : List ℕ → ℕ → List StateTree → Span → ℕ
 state_meant text first states name =
     option_map_or (λ k. first + length (counted_states (take k states))) (first_among text (names_of_states states) name) 0

@@ -54,7 +54,7 @@ is_block (ty.Array s) = true
 is_block (ty.Endpoint s n) = true
 is_block _ = false
 
--- whether two types are the same; all numbers count as the same
+-- whether two types are the same; `int` and `byte` count as one, except as elements of arrays; never for a missing or unknown type
 abbrev pub alike : ValueType → ValueType → Bool
 alike (ty.Scalar s) (ty.Scalar t) = if counts s then counts t else not (counts t)
 alike (ty.Pointer m) (ty.Pointer n) = m == n

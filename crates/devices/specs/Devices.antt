@@ -6,7 +6,7 @@ use Rattle.std.specs.Io.KnownBytes.{Appends}
 abbrev pub Counts : {T E : Type 0} → ℕ → ℕ → Result T E → Type 0
 Counts old new result = MatchResult result (λ _. new ≡ old) (λ _. new ≡ (old + 1) % 2 ^ 64)
 
--- the first of these bytes were taken, perhaps all
+-- the first of these bytes were taken, perhaps none or all
 pub record TakesBeginning (old new : Option (List ℕ)) (bytes : List ℕ) : Type 0 where
   pub sent : List ℕ
   pub more : List ℕ

@@ -20,7 +20,7 @@ IsBoundsFault Write = Unit {0}
 IsBoundsFault Memory = Unit {0}
 IsBoundsFault _ = ⊥
 
--- `replay` fails for any reason but workers and slots, which it does not have
+-- `replay` may fail for any reason but workers and slots, which it does not have
 abbrev pub IsReplayFault : RunFault → Type 0
 IsReplayFault Workers = ⊥
 IsReplayFault Slots = ⊥

@@ -10,7 +10,7 @@ pub record Writes (answer : List ℕ → List ℕ → Status → Type 0) (text :
   pub answers : answer text bytes status
   pub written : Appends old new bytes
 
--- the first bytes of the answer to the text were written, perhaps all
+-- the first bytes of the answer to the text were written, perhaps none or all
 pub record BeginsAnswer (answer : List ℕ → List ℕ → Status → Type 0) (text : List ℕ) (old new : Option (List ℕ)) : Type 0 where
   pub bytes : List ℕ
   pub status : Status

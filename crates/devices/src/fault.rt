@@ -7,9 +7,9 @@ use thiserror::Error;
 /// The status of an answer.
 #[derive(Clone, Copy, Debug, PartialEq, Eq)]
 pub enum Status {
-    /// The report is empty: nothing was found.
+    /// Nothing was found, or a replay came to the end of its schedule.
     Empty,
-    /// The report has findings.
+    /// There are findings, or a replay stopped at an event that is no step.
     Found,
 }
 

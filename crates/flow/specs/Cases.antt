@@ -35,7 +35,7 @@ awaits (Message id) (Some message) = id.0 == message
 awaits Closed None = true
 awaits _ _ = false
 
--- the first case at this endpoint that awaits it
+-- the first case at this endpoint that awaits this message, or the close if there is no message
 abbrev pub case_for : List EntranceModel → ℕ → Option ℕ → Option EntranceModel
 case_for [] endpoint message = None
 case_for (c ∷ cases) endpoint message = if (c.endpoint.variable.0 == endpoint) && awaits c.awaited message then Some c

@@ -27,7 +27,7 @@ abbrev pub in_block_of : Owner → (ℕ → Bool) → Bool
 in_block_of (Inside b) P = P b
 in_block_of _ P = false
 
--- whether the block at `j` is the block at `a`, or is inside it through at most this many blocks
+-- whether the block at `j` is the block at `a`, or is inside it by a chain of at most this many owners
 abbrev pub lies_in : List Block → (most : ℕ) → (a j : ℕ) → Bool
 lies_in blocks zero a j = j == a
 lies_in blocks (suc most) a j = (j == a) || in_block_of (block_at blocks j).owner (lies_in blocks most a)
@@ -69,7 +69,8 @@ sent_block a state to gone m j b = record b {
   queue = if (j == to) && not gone then b.queue ++ m ∷ [] else b.queue;
 }
 
--- The block at `j`, after the endpoint at `a` receives the front of its queue for a process.
+-- The block at `j`, after the endpoint at `a` receives the front of its queue. The endpoint is in a
+-- new state, and what the message brings is the process's.
 abbrev pub received_block : (self a state : ℕ) → MessageHeld → List MessageHeld → ℕ → Block → Block
 received_block self a state m rest j b = record b {
   owner = if is_among m.payload j then Process self else b.owner;
@@ -93,7 +94,7 @@ abbrev pub is_imp : HeapType → Bool
 is_imp (Endpoint contract Imp state) = true
 is_imp _ = false
 
--- an end of a channel of a contract
+-- the type of an end of a channel of a contract
 abbrev pub end_type : made.Channel → Side → HeapType
 end_type c side = Endpoint c.contract side record { 0 = 0 }
 

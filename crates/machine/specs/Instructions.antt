@@ -59,7 +59,7 @@ module _ (p : ProgramModel) (bound : QueueBounds) (w : World) (self : ℕ) (f : 
       on c.next (bound_to f.variables c.targets m.payload)
       (change_each (received_block self at (state_after_receive p w.blocks at m.message) m ms) w.blocks)
 
-  -- what an endpoint with this queue receives: the front message, or the close if there is none and its peer is freed
+  -- what an endpoint with this queue receives: the front message or, if there is none, the close if its peer is freed; otherwise it waits
   abbrev pub receives : List EntranceModel → ℕ → ℕ → List MessageHeld → Outcome
   receives cases v at [] = if is_freed_at w.blocks (block_at w.blocks at).peer then closes_at (case_for cases v None) else Waits
   receives cases v at (m ∷ ms) = receives_at (case_for cases v (Some m.message)) at m ms
@@ -83,7 +83,8 @@ module _ (p : ProgramModel) (bound : QueueBounds) (w : World) (self : ℕ) (f : 
   value_tests None = []
   value_tests (Some v) = test (is_own w.blocks self (has v)) F3 ∷ []
 
-  -- A variable and a field of the block at an address change places, if the block has such a field; else nothing changes.
+  -- What a variable has and what a field of the holder's block holds are exchanged, if the block
+  -- has such a field; else only the point changes.
   abbrev pub exchanges : stated.Exchange.Exchange → ℕ → (held : Option ℕ) → Outcome
   exchanges e next None = on next f.variables w.blocks
   exchanges e next (Some held) =

@@ -10,7 +10,7 @@ use Rattle.flow.specs.Graphs.{Return, Stop}
 use Rattle.machine.specs.Frames.{instruction_at}
 use Rattle.machine.specs.World.{Frame, World, stack_at}
 
--- the place of an action: of the first name in it, or of its own word
+-- the place of an action: of the word `exchange` or `NewChannel`, or else of the first name in it
 abbrev pub action_place : Action → Place
 action_place (Use v) = v.place
 action_place (Move v u) = v.place
@@ -18,7 +18,7 @@ action_place (Delete v) = v.place
 action_place (Exchange e) = e.place
 action_place (NewChannel c) = c.place
 
--- the place of an instruction, by the same rule
+-- the place of an instruction: that of its action, of the target of a New, or else the place that the instruction has
 abbrev pub place_of : Instruction → Place
 place_of (Act action next) = action_place action
 place_of (New v arguments next) = v.place

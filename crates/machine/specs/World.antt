@@ -36,7 +36,7 @@ pub record World : Type 0 where
 abbrev pub no_type : HeapType
 no_type = Struct record { 0 = 0 }
 
--- the block at an address that has none: nobody owns it
+-- the block at an address that has none: no process owns it, and it is not freed
 abbrev pub no_block : Block
 no_block = record { ty = no_type; owner = Channel; peer = 0; state = 0; queue = []; fields = [] }
 
@@ -67,7 +67,7 @@ abbrev pub is_inside : Owner → ℕ → Bool
 is_inside (Inside b) a = b == a
 is_inside _ a = false
 
--- whether nobody owns it any more
+-- whether the owner is nobody any more: the block is freed
 abbrev pub is_freed : Owner → Bool
 is_freed Freed = true
 is_freed _ = false
@@ -94,12 +94,12 @@ is_freed_at blocks a = is_freed (block_at blocks a).owner
 abbrev pub cut_off : List Block → ℕ → Bool
 cut_off blocks a = is_freed_at blocks (block_at blocks a).peer && is_empty (block_at blocks a).queue
 
--- blocks, each changed by its address
+-- the blocks after this function is applied to each address and its block
 abbrev pub change_each : (ℕ → Block → Block) → List Block → List Block
 change_each f [] = []
 change_each f (b ∷ blocks) = f 0 b ∷ change_each (λ a. f (suc a)) blocks
 
--- variables after a call: what is claimed is gone
+-- variables after arguments are given: what is claimed is gone
 abbrev pub let_go : List (Option ℕ) → List Argument → List (Option ℕ)
 let_go variables [] = variables
 let_go variables (a ∷ arguments) = let_go (if a.claimed then set variables a.mention.variable.0 None else variables) arguments

@@ -56,7 +56,7 @@ abbrev pub owns : InScope → ValueType → Span → Bool
 owns s (ty.Pointer n) field = option_map_or (λ f. is_heap f.ty) (field_of s n field) false
 owns s _ field = false
 
--- the type of the field of a variable of this type; an array has only its length
+-- the type of this field of a variable of this type; unknown if there is no such field, missing if the type has no fields
 abbrev pub field_type : InScope → ValueType → Span → ValueType
 field_type s (ty.Array element) field = if is_length s field then ty.Scalar scalar.Int else ty.Unknown
 field_type s (ty.Pointer n) field = option_map_or (λ f. type_meant s.program f.ty) (field_of s n field) ty.Unknown
@@ -94,19 +94,19 @@ type_of s (Parens place inner) = type_of s inner
 type_of s (Signed sign place inner) = if is_unknown (type_of s inner) then ty.Unknown else signed_type sign
 type_of s (Joined joint left right) = if is_unknown (type_of s left) || is_unknown (type_of s right) then ty.Unknown else joined_type joint
 
--- a mistake, unless the type is a number
+-- a mistake, unless the type is a number, missing or unknown
 abbrev pub asked_number : ValueType → Place → List Mistake
 asked_number k place = unless (is_silent k || is_number k) place (Given demand.Number k)
 
--- a mistake, unless the type is `bool`
+-- a mistake, unless the type is `bool`, missing or unknown
 abbrev pub asked_truth : ValueType → Place → List Mistake
 asked_truth k place = unless (is_silent k || is_truth k) place (Given demand.Truth k)
 
--- a mistake, unless the type is a scalar
+-- a mistake, unless the type is a scalar, missing or unknown
 abbrev pub asked_either : ValueType → Place → List Mistake
 asked_either k place = unless (is_silent k || (is_number k || is_truth k)) place (Given demand.Scalar k)
 
--- a mistake, unless the type is of the exchange heap
+-- a mistake, unless the type is of the exchange heap, missing or unknown
 abbrev pub block_asked : ValueType → Place → List Mistake
 block_asked k place = unless (is_silent k || is_block k) place (Given demand.Block k)
 
@@ -114,7 +114,7 @@ block_asked k place = unless (is_silent k || is_block k) place (Given demand.Blo
 abbrev pub type_asked : ValueType → ValueType → Place → List Mistake
 type_asked asked k place = unless (agree k asked) place (Given (demand.OfType asked) k)
 
--- a mistake, unless the right side of a comparison is like the left one, a number or a `bool`
+-- a mistake, unless the right operand of `==` or `!=` fits the left one: a number if that is one, a `bool` if that is one, else any scalar
 abbrev pub asked_like : ValueType → ValueType → Place → List Mistake
 asked_like left k place = if is_number left then asked_number k place
     else (if is_truth left then asked_truth k place else asked_either k place)
@@ -174,7 +174,7 @@ expression_mistakes s (Joined joint left right) =
     expression_mistakes s left ++ (expression_mistakes s right
     ++ (left_asked joint (type_of s left) (place_of left) ++ right_asked joint (type_of s left) (type_of s right) (place_of right)))
 
--- the mistakes in an expression that is a whole value, argument or result, where a variable of the exchange heap may be alone
+-- the mistakes in an expression that is a whole value, argument or result, which may be just a variable of the exchange heap
 abbrev pub whole_mistakes : InScope → Shape → List Mistake
 whole_mistakes s (Mention name) = variable_mistakes s name
 whole_mistakes s e = expression_mistakes s e

@@ -24,7 +24,8 @@ abbrev pub new_model : made.New.New → NewModel
 new_model n = record { reads = n.reads.items; target = n.target; arguments = n.arguments.items }
 
 -- a call or a start: what its arguments read, its place, the method, the arguments, the variable
--- that takes the result, and what is used after the call
+-- that takes the block that is returned, and what the assignment of a scalar result to a field or
+-- an element uses
 pub record CallModel : Type 0 where
   pub reads : List Mention
   pub place : Place
@@ -72,7 +73,7 @@ mutual
     NoStatement : StatementsModel
     MoreStatements : StatementModel → StatementsModel → StatementsModel
 
-  -- a block: its statements, and the variables that go out of scope after them
+  -- a block of statements: the statements in order, and the variables that go out of scope after them
   pub data BlockModel : Type 0 where
     Braces : StatementsModel → Option Forget → BlockModel
 

@@ -1,4 +1,4 @@
--- When two scalar types, and two ends of a channel, are the same.
+-- When two scalar types, and two sides of a channel, are the same.
 use Rattle.std.specs.Prelude.{Bool, true, false}
 use Rattle.program.specs.declared.types.Scalar.{Scalar}
 use Rattle.program.specs.declared.types.Scalar.TheVariants as scalar
@@ -12,7 +12,7 @@ same_scalar scalar.Byte scalar.Byte = true
 same_scalar scalar.Bool scalar.Bool = true
 same_scalar _ _ = false
 
--- whether two ends are the same
+-- whether two sides are the same: both importer, or both exporter
 abbrev pub same_side : Side → Side → Bool
 same_side side.Imp side.Imp = true
 same_side side.Exp side.Exp = true

@@ -10,7 +10,7 @@ pub enum Scalar {
     Byte,
 }
 
-/// An end of a channel.
+/// Which end of a channel: importer or exporter.
 #[derive(Clone, Copy, Debug, PartialEq, Eq)]
 pub enum Side {
     Imp,

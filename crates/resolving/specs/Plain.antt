@@ -34,7 +34,7 @@ use Rattle.resolving.specs.Staying.{Staying}
 use Rattle.tree.specs.Alone.{lone_name}
 use Rattle.resolving.specs.declared.locals.Declaration.{Declaration}
 
--- an action, if there is one
+-- the effect that is this action, or `Nothing` if there is none
 abbrev pub effect_of : Option Action → Effect
 effect_of action = option_map_or Act action Nothing
 
@@ -42,7 +42,7 @@ effect_of action = option_map_or Act action Nothing
 abbrev pub effect_on : (Mention → Action) → Option Mention → Effect
 effect_on act mention = effect_of (option_map act mention)
 
--- the argument for a parameter, if it is a variable of the exchange heap alone
+-- the argument for a parameter, if the expression is just a variable of the exchange heap; else none
 abbrev pub argument_of : declared_class.Parameter.Parameter → Option Mention → List Argument
 argument_of x None = []
 argument_of x (Some m) = record { mention = m; claimed = x.claims } ∷ []
@@ -119,7 +119,7 @@ module _ (p : ProgramText) (class : ℕ) (f : LocalFrame) where
   abbrev pub send_told : CallTree → Option SendModel
   send_told c = option_and_then (sent_by c) c.member
 
-  -- a call that is a statement of its own
+  -- a call that is a statement of its own: a send if it is one, else a call of a method
   abbrev pub stated_call : CallTree → StatementModel
   stated_call c = option_map_or seen.Send (send_told c) (call_statement c None [])
 
@@ -150,7 +150,7 @@ module _ (p : ProgramText) (class : ℕ) (f : LocalFrame) where
   abbrev pub new_of : Mention → MadeTree → NewModel
   new_of target m = record { reads = made_reads m; target = target; arguments = made_arguments m }
 
-  -- a variable and the owning field of this number change places
+  -- what a variable has and what the owning field of this number has are exchanged
   abbrev pub exchange_of : statement.Exchange.Exchange → ℕ → Mention → Mention → Action
   exchange_of e field holder given = Exchange (record { place = e.word.place; holder = holder; field = field; given = given })
 
@@ -181,8 +181,8 @@ module _ (p : ProgramText) (class : ℕ) (f : LocalFrame) where
   assign_statement None value = scalar_taken value
   assign_statement (Some target) value = take_statement target value
 
-  -- A field or an element takes a value. The index is read before the value, and the block is used
-  -- after both; if the value is a call, both come after it.
+  -- A field or an element takes a value. The index is read, then the value, and then the block is
+  -- used; a value that is a call comes before the index.
   abbrev pub part_taken : List Mention → Option Mention → ValueTree → StatementModel
   part_taken index whole (values.Expression e) = seen.Simple (index ++ reads p.text f.locals e) (effect_on Use whole)
   part_taken index whole (values.Call c) = call_statement c None (index ++ mention_list whole)
@@ -194,12 +194,12 @@ module _ (p : ProgramText) (class : ℕ) (f : LocalFrame) where
   write_statement (trees.Field name field) value = part_taken [] (mention p.text f.locals name) value
   write_statement (trees.Element name index) value = part_taken (reads p.text f.locals index) (mention p.text f.locals name) value
 
-  -- the value of a declaration, if there is one, is assigned to its variable, which has the next number
+  -- the value of a declaration, if there is one, is assigned to its variable, which has this number if it is of the exchange heap
   abbrev pub first_value : Span → Option ℕ → Option ValueTree → StatementModel
   first_value name number None = seen.Simple [] Nothing
   first_value name number (Some value) = assign_statement (option_map (mention_of name) number) value
 
-  -- a `return`: a scalar is read, and a variable of the exchange heap is alone
+  -- a `return`: what its expression reads, and the variable of the exchange heap that is the whole expression, if it is just one
   abbrev pub return_statement : Place → Option ExpressionTree → StatementModel
   return_statement place None = seen.Simple [] (Return place None (option_map number_of f.last))
   return_statement place (Some e) = seen.Simple (reads p.text f.locals e) (Return place (lone e) (option_map number_of f.last))

@@ -11,7 +11,7 @@ use std::alloc::Global;
 /// What a variable of the exchange heap has.
 #[derive(Clone, Copy, Debug, PartialEq, Eq, Hash)]
 pub enum Leaf {
-    /// Nothing: it was never given anything, or gave it away.
+    /// Nothing: it was never given anything, or what it had was deleted or given away.
     Nothing,
     /// A struct or an array.
     Block,

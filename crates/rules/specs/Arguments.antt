@@ -33,16 +33,16 @@ abbrev pub given_leaf : List Leaf → Option HeapType → Option Mention → Lis
 given_leaf row (Some ty) (Some target) = set row target.variable.0 (declared_leaf ty)
 given_leaf row _ _ = row
 
--- what an endpoint of this type has after it sends the message
+-- the leaf of a variable of this type after its endpoint sends the message; unchanged if no edge allows that, or if it is cut off
 abbrev pub sent_leaf : ProgramModel → Option HeapType → ℕ → Leaf → Leaf
 sent_leaf p ty message leaf = in_state leaf (λ q. option_map_or State (end_on (edges_out p ty q) message) leaf) leaf
 
--- whether the state of an endpoint has no edge on which it sends the message
+-- whether an endpoint is in a state that has no edge on which it sends the message; one that is cut off lacks none
 abbrev pub lacks_edge : ProgramModel → Option HeapType → ℕ → Leaf → Bool
 lacks_edge p ty message leaf = in_state leaf (λ q. is_none (end_on (edges_out p ty q) message)) false
 
 module _ (m : MethodModel) where
-  -- no variable is given twice, nor is one of these given
+  -- the checks that no variable is given twice, and that none of those in `earlier` is given
   abbrev pub given_before : List ℕ → List Argument → List Check
   given_before earlier [] = []
   given_before earlier (a ∷ arguments) =
@@ -69,7 +69,7 @@ module _ (m : MethodModel) where
       ∷ refuse_if (is_wrong ty (leaf_at row a.mention.variable.0)) (wrong (name_of m a.mention.variable.0) a.mention.place)
       ∷ []
 
-  -- the checks of all that goes there at once; none of it is one of these variables
+  -- the checks of all that goes there at once: nothing twice, none of `besides`, and then the checks of each
   abbrev pub all_taken : (besides : List ℕ) → List Leaf → (wrong : List ℕ → Place → FindingModel) → List HeapType → List Argument
       → List Check
   all_taken besides row wrong types given = given_before besides given ++ flat_map (λ x. taken_checks row wrong x.0 x.1) (zip types given)

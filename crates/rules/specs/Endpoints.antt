@@ -13,7 +13,7 @@ use Rattle.contracts.specs.Leaving.{edges_from, name_among, sign_from}
 use Rattle.rows.specs.declared.row.Leaf.{Leaf}
 use Rattle.rows.specs.declared.row.Leaf.TheVariants.{Block, State}
 
--- what a message brings for its parameters of the exchange heap
+-- the types of a message's parameters of the exchange heap
 abbrev pub payload_types : ProgramModel → ℕ → List HeapType
 payload_types p message = option_map_or (λ types. types) (slice_get p.messages message) []
 
@@ -65,12 +65,12 @@ message_name p (Some (Endpoint contract side state)) message =
     option_map_or (λ c. name_among c.parts.messages message) (slice_get p.contracts contract.0) []
 message_name p _ message = []
 
--- what a variable of this type has when it is given: a block, or an endpoint in its declared state
+-- what a variable of this type has once it takes something: a struct or an array, or an endpoint in its declared state
 abbrev pub declared_leaf : HeapType → Leaf
 declared_leaf (Endpoint contract side state) = State state.0
 declared_leaf _ = Block
 
--- whether an endpoint is neither cut off nor in its declared state
+-- whether a leaf is an endpoint in another state than that of this type; one that is cut off never is
 abbrev pub is_wrong : HeapType → Leaf → Bool
 is_wrong (Endpoint contract side state) (State q) = not (q == state.0)
 is_wrong _ _ = false

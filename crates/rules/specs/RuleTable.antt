@@ -49,7 +49,8 @@ module _ (p : ProgramModel) (m : MethodModel) where
   abbrev pub back_checks : List Leaf → Place → List Check
   back_checks row place = map (λ v. refuse_if (is_not_back row v) (not_back (name_of m v) place)) (range_with_len 0 (length m.variables))
 
-  -- An exchange with a field of this type. What was in the field is in the state that the field asks for.
+  -- The outcome of an exchange with a field of this type. The variable then has what was in the
+  -- field, in the state that the field asks for.
   abbrev pub after_exchange : List Leaf → stated.Exchange.Exchange → ℕ → Option HeapType → Step Pair FindingModel
   after_exchange row e next ty =
       after_checks (require_another m e.holder e.given ∷ require_owned m row e.holder

@@ -91,7 +91,7 @@ pub record IsBoundsLine (c : ContractModel) (line : List ℕ) : Type 0 where
   pub imp : ∥ IsBound c.parts.edges c.parts.first (sign_to Imp) to_imp ∥₁
   pub is : line ≡ bounds_line c.name to_exp to_imp
 
--- the text has no findings, and the bytes are a line for each of its contracts in order, and then their number
+-- there are no findings before the methods, and the bytes are a line for each contract of the text in order, and then their number
 pub record IsBoundsReport (text bytes : List ℕ) : Type 0 where
   pub contracts : List ContractModel
   pub resolved : IsResolved text contracts

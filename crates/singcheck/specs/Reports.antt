@@ -12,7 +12,7 @@ abbrev pub report_bytes : List FindingModel → List ℕ
 report_bytes listed = flat_map finding_line listed ++ count_line (length listed)
 
 -- The bytes are the report of these findings, whatever their order and however often each occurs.
--- The report has each of them once, in its own order.
+-- The report has each of them once, in the order of `report_cmp`.
 pub record IsReport (findings : List FindingModel) (bytes : List ℕ) : Type 0 where
   pub listed : List FindingModel
   pub same : AreExactly (Contains findings) listed

@@ -15,13 +15,13 @@ use Rattle.machine.specs.declared.halts.Event.{Event}
 use Rattle.machine.specs.declared.halts.Fault.{Fault}
 use Rattle.sound.specs.Queues.{IsLiveEnd, QueueIsWalk}
 
--- The number of variables of a frame that hold an address. A lent parameter does not count, since the caller has the address too.
+-- The number of variables of a frame that hold this address. A lent parameter does not count, since the caller has the address too.
 abbrev pub stands_in : List VariableModel → List (Option ℕ) → ℕ → ℕ
 stands_in (v ∷ variables) (Some b ∷ xs) a = (if (b == a) && not (is_lent_role v.role) then 1 else 0) + stands_in variables xs a
 stands_in (v ∷ variables) (None ∷ xs) a = stands_in variables xs a
 stands_in _ _ a = 0
 
--- the number of variables that hold an address, in all frames of a process
+-- the number of variables that hold this address, in all frames of a process
 abbrev pub stands_in_frames : ProgramModel → List Frame → ℕ → ℕ
 stands_in_frames p [] a = 0
 stands_in_frames p (f ∷ frames) a = stands_in (variables_of p f.method) f.variables a + stands_in_frames p frames a
@@ -37,7 +37,8 @@ pub record FieldsOwn (p : ProgramModel) (blocks : List Block) : Type 0 where
   -- the chain of owners from each address ends, after finitely many steps, at a block that is inside no other
   pub rooted : (x : ℕ) → Rooted blocks x
 
--- Safety of a world: no next event is a fault, queues follow their contracts, and everything owned is owned once.
+-- Safety of a world: no next event is a fault, queues are walks, what is owned is held once, what
+-- is cut off stays so, and an ended process owns nothing.
 pub record IsSafe (p : ProgramModel) (bound : QueueBounds) (w : World) : Type 0 where
   -- no event is a fault
   pub no_fault : (e : Event) (fault : Fault) → event_outcome p bound w e ≢ Faulty fault

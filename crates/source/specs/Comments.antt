@@ -13,7 +13,7 @@ abbrev pub is_none_left : List ℕ → Bool
 is_none_left [] = true
 is_none_left _ = false
 
--- whether these bytes, which follow the byte `a`, end at the first `*/`
+-- whether the byte `a` and then these bytes end at the first `*/` in them
 abbrev pub closes_behind : ℕ → List ℕ → Bool
 closes_behind a [] = false
 closes_behind a (b ∷ bs) = if a == 42 && b == 47 then is_none_left bs else closes_behind b bs

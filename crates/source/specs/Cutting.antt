@@ -2,7 +2,7 @@
 use Rattle.std.specs.Prelude.{◌≡◌, ℕ, ◌<◌, ◌≤◌, true, false, List, [], ◌∷◌, length, take, drop}
 use Rattle.source.specs.Pieces.{is_piece}
 
--- the first `n` bytes are a piece, and no more of them are
+-- the first `n` bytes are a piece, and no longer prefix is one
 pub record IsFirstPiece (rest : List ℕ) (n : ℕ) : Type 0 where
   pub some : 0 < n
   pub within : n ≤ length rest

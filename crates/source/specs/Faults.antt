@@ -15,7 +15,7 @@ use Rattle.source.specs.declared.brackets.TheConstants.{MAX_DEPTH}
 use Rattle.source.specs.declared.numbers.TheConstants.{MAX_NUMBER}
 use Rattle.source.specs.declared.lexer.TheConstants.{MAX_TEXT}
 
--- whether a piece is a bracket that makes too many open, from the number open before it
+-- whether a piece opens a bracket too many, if `depth` are open before it
 abbrev pub is_too_deep : ℕ → List ℕ → Bool
 is_too_deep depth piece = nat_lt MAX_DEPTH (depth_behind depth piece)
 
@@ -33,7 +33,7 @@ pub record Begins (pieces : List (List ℕ)) (text rest : List ℕ) : Type 0 whe
   pub cut : Cuts pieces text rest
   pub allowed : are_allowed 0 pieces ≡ true
 
--- neither a piece nor a comment begins here
+-- there are bytes left, but neither a piece nor `/*` begins here
 pub record IsStray (rest : List ℕ) : Type 0 where
   pub some : 0 < length rest
   pub none : HasNoPiece rest
@@ -44,7 +44,7 @@ pub record IsOpenComment (rest : List ℕ) : Type 0 where
   pub begins : begins_block rest ≡ true
   pub none : HasNoPiece rest
 
--- the first piece is a bracket that makes too many open
+-- the first piece opens a bracket too many, if `depth` are open before it
 pub record IsTooDeep (depth : ℕ) (rest : List ℕ) : Type 0 where
   pub len : ℕ
   pub first : IsFirstPiece rest len
@@ -72,7 +72,7 @@ pub record HasFirst (text : List ℕ) (fault : TextFault) : Type 0 where
   pub begins : Begins pieces text rest
   pub there : StandsAt fault (place_of (concat pieces)) (depth_of 0 pieces) rest
 
--- the fault of a text: its length before all else, then the first fault in it
+-- this is the fault of the text: that it is too long, or else the first fault in it
 abbrev pub IsFault : List ℕ → TextFault → Type 0
 IsFault text TooLong = MAX_TEXT < length text
 IsFault text fault = (length text ≤ MAX_TEXT) × HasFirst (body_of text) fault

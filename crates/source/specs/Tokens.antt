@@ -10,8 +10,9 @@ use Rattle.source.specs.declared.place.Place.{Place}
 use Rattle.source.specs.declared.token.Token.{Token}
 use Rattle.source.specs.declared.lexer.TheConstants.{MAX_TEXT}
 
--- The token that a piece is, from the length of the mark and the bytes before the piece; none for a
--- blank or a comment. Its place does not count the mark, its span does.
+-- The token that a piece is, from its kind, the length of the mark and the bytes before the piece;
+-- none for a blank or a comment. Its place does not count the mark; the start and the end of its
+-- span do.
 abbrev pub token_of : Option Kind → ℕ → List ℕ → List ℕ → List Token
 token_of None mark before piece = []
 token_of (Some kind) mark before piece = record {

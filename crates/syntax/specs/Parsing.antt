@@ -1,4 +1,4 @@
--- Where tokens go wrong that do not spell a program.
+-- Where tokens that do not spell a program go wrong.
 use Rattle.std.specs.Prelude.{◌≡◌, ◌+◌, ◌++◌, ℕ, List, take, Result, MatchResult}
 use Rattle.source.specs.declared.token.Token.{Token}
 use Rattle.tree.specs.Symbols.{Symbol, symbols}
