@@ -48,11 +48,11 @@ names_of_states states = map (λ s. s.name) states
 abbrev pub unnamed_of : PathTree → List Span
 unnamed_of p = map (λ e. e.message) p.others
 
--- the names at which a state is counted: its own, and those of the unnamed states of its paths
+-- one name for each state that a state declares: its own, then the messages of its unnamed states
 abbrev pub counted_in_state : StateTree → List Span
 counted_in_state s = s.name ∷ flat_map unnamed_of (paths_of s.body)
 
--- the names at which several states are counted
+-- the same for several states
 abbrev pub counted_states : List StateTree → List Span
 counted_states states = flat_map counted_in_state states
 

@@ -31,7 +31,7 @@ method_names p = map (λ m. m.name) (flat_map (λ i. methods_in i.definition) p.
 abbrev pub items_mistakes : ProgramText → List Mistake
 items_mistakes p = twice_among p.text (item_names p) ++ past_limit limit.Methods (method_names p)
 
--- the names at which the states of all these contracts are counted
+-- one name for each state that these contracts declare
 abbrev pub all_counted_states : List ContractTree → List Span
 all_counted_states contracts = flat_map (λ c. counted_states (states_of c)) contracts
 

@@ -13,14 +13,14 @@ IsReadFault input (Read which) = which ≡ input
 IsReadFault input Memory = Unit {0}
 IsReadFault input _ = ⊥
 
--- `bounds` fails only if its text cannot be read, its answer cannot be written, or memory runs out
+-- the fault of `bounds` is `Read` of the text, `Write` or `Memory`
 abbrev pub IsBoundsFault : RunFault → Type 0
 IsBoundsFault (Read which) = which ≡ Text
 IsBoundsFault Write = Unit {0}
 IsBoundsFault Memory = Unit {0}
 IsBoundsFault _ = ⊥
 
--- `replay` may fail for any reason but workers and slots, which it does not have
+-- the fault of `replay` is none of workers and slots, which it does not have
 abbrev pub IsReplayFault : RunFault → Type 0
 IsReplayFault Workers = ⊥
 IsReplayFault Slots = ⊥

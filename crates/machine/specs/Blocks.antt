@@ -60,8 +60,8 @@ exchanged_block self at field given held j b = record b {
 }
 
 -- The block at `j`, after the endpoint at `a` sends. The endpoint is in a new state, and the
--- message and what it brings are in the queue of the endpoint at `to`. If that is gone, what it
--- brings belongs to the channel.
+-- message and what it brings are in the queue of the endpoint at `to`. If that one is freed, the
+-- message is in no queue, and what it brings belongs to the channel.
 abbrev pub sent_block : (a state to : ℕ) (gone : Bool) → MessageHeld → ℕ → Block → Block
 sent_block a state to gone m j b = record b {
   owner = if is_among m.payload j then (if gone then Channel else Queue to) else b.owner;
@@ -78,7 +78,7 @@ received_block self a state m rest j b = record b {
   queue = if j == a then rest else b.queue;
 }
 
--- a new block of a process, with these addresses in its fields
+-- a new block that a process owns, of this type, peer and state, with an empty queue and these addresses in its fields
 abbrev pub new_block : HeapType → ℕ → ℕ → ℕ → List ℕ → Block
 new_block ty self peer state fields = record {
   ty = ty;
@@ -94,7 +94,7 @@ abbrev pub is_imp : HeapType → Bool
 is_imp (Endpoint contract Imp state) = true
 is_imp _ = false
 
--- the type of an end of a channel of a contract
+-- the type of an end of a channel of a contract; the state in it is 0 and means nothing
 abbrev pub end_type : made.Channel → Side → HeapType
 end_type c side = Endpoint c.contract side record { 0 = 0 }
 
@@ -124,11 +124,11 @@ argument_tests blocks self variables taken (a ∷ arguments) =
 abbrev pub sent_state : ProgramModel → List Block → (at message : ℕ) → Option ℕ
 sent_state p blocks at message = end_on (edges_out p (Some (block_at blocks at).ty) (block_at blocks at).state) message
 
--- whether the endpoint at an address may send a message: it is cut off, or its state has such an edge
+-- whether the endpoint at an address may send a message: it is cut off, or an edge leaves its state on that message
 abbrev pub may_send : ProgramModel → List Block → (at message : ℕ) → Bool
 may_send p blocks at message = cut_off blocks at || is_some (sent_state p blocks at message)
 
--- the state of the endpoint at an address after a send; if it is cut off, the state stays
+-- the state of the endpoint at an address after a send; if it is cut off, or no edge allows the send, the state stays
 abbrev pub state_after_send : ProgramModel → List Block → (at message : ℕ) → ℕ
 state_after_send p blocks at message =
     if cut_off blocks at then (block_at blocks at).state else unwrap_or (sent_state p blocks at message) (block_at blocks at).state

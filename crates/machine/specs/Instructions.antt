@@ -69,7 +69,7 @@ module _ (p : ProgramModel) (bound : QueueBounds) (w : World) (self : ℕ) (f : 
   receives_from cases None = NoChoice
   receives_from cases (Some v) = receives cases v.variable.0 (address (has v)) (block_at w.blocks (address (has v))).queue
 
-  -- A frame ends. Its caller continues; if there is none the process ends, and then it may own nothing.
+  -- A frame ends. Its caller continues; if there is none the process ends, and if it still owns a block this is F7.
   abbrev pub returns : Option Mention → List Frame → Outcome
   returns value [] = after_tests (test (owns_none w.blocks self) F7 ∷ []) (goes [] w.blocks)
   returns None (g ∷ more) =
@@ -78,7 +78,7 @@ module _ (p : ProgramModel) (bound : QueueBounds) (w : World) (self : ℕ) (f : 
       let call = instruction_at p g in
       goes (record { method = g.method; point = call_next call; variables = put g.variables (call_target call) (has v) } ∷ more) w.blocks
 
-  -- the test of a returned value
+  -- the test that the process owns the returned block, if there is one; else F3
   abbrev pub value_tests : Option Mention → List FaultTest
   value_tests None = []
   value_tests (Some v) = test (is_own w.blocks self (has v)) F3 ∷ []

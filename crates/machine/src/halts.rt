@@ -14,13 +14,13 @@ pub struct Event {
 /// A fault of a process.
 #[derive(Clone, Copy, Debug, PartialEq, Eq)]
 pub enum Fault {
-    /// It reads or writes a block that it does not own.
+    /// It uses a block that it does not own: reads, writes, moves or lends it, or sends or receives on it.
     F1,
     /// It frees a block that it does not own.
     F2,
     /// It gives away a block that it does not own.
     F3,
-    /// It sends a message that the state of its endpoint does not send.
+    /// It sends a message for which no edge leaves the state of its endpoint, which is not cut off.
     F4,
     /// Its switch has no case for the message or close that arrives.
     F5,

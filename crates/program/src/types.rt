@@ -17,7 +17,7 @@ pub enum Side {
     Exp,
 }
 
-/// The type of a variable of the exchange heap.
+/// The type of a variable, a parameter, an owning field or a result of the exchange heap.
 #[derive(Clone, Copy, Debug, PartialEq, Eq)]
 pub enum HeapType {
     /// A struct.
@@ -25,7 +25,7 @@ pub enum HeapType {
     /// An array of elements of this type.
     Array(Scalar),
     /// An end of a channel of this contract, in the state that the type names, or in the first state if it names
-    /// none. For a variable that is not a parameter the state only has to exist; it has no other meaning.
+    /// none. For a local variable the state only has to exist; it has no other meaning.
     Endpoint {
         contract: ContractId,
         side: Side,

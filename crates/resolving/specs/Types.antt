@@ -36,7 +36,7 @@ state_of p n c state = option_map_or (λ s. s) (option_and_then (named_state p n
 abbrev pub contract_number : ProgramText → ℕ → ContractId
 contract_number p n = record { 0 = contracts_before p.items n }
 
--- the number of the contract that is the item at this index; of another item, that of the next contract, if there is one
+-- how many contracts come before the item at this index, which is its number if it is one; none if no contract is there or follows
 abbrev pub number_at : ProgramText → ℕ → Option ContractId
 number_at p n = option_map (λ c. contract_number p n) (contract_at p n)
 

@@ -5,7 +5,7 @@ use Rattle.program.specs.declared.limits.TheConstants.{MOST_STATES, MOST_VARIABL
 use Rattle.rows.specs.declared.row.Leaf.{Leaf}
 use Rattle.rows.specs.declared.row.Leaf.TheVariants.{Nothing, Block, CutOff, State}
 
--- whether a variable has something
+-- whether a leaf is not Nothing
 abbrev pub is_something : Leaf → Bool
 is_something Nothing = false
 is_something _ = true

@@ -75,7 +75,7 @@ abbrev pub is_wrong : HeapType → Leaf → Bool
 is_wrong (Endpoint contract side state) (State q) = not (q == state.0)
 is_wrong _ _ = false
 
--- a value from the state of an endpoint; the other value for anything else, and for an endpoint that is cut off
+-- the given function of the state, for an endpoint that is not cut off; otherwise the default
 abbrev pub in_state : {X : Type 0} → Leaf → (ℕ → X) → X → X
 in_state (State q) there other = there q
 in_state _ there other = other

@@ -1,4 +1,4 @@
--- The methods with which a run may begin.
+-- The methods with which `replay` may begin.
 use Rattle.std.specs.Prelude.{Bool, not, ◌&&◌}
 use Rattle.program.specs.Methods.{MethodModel}
 use Rattle.program.specs.Programs.{ProgramModel, program_model}

@@ -76,7 +76,7 @@ pub record IsUnsound (text : List ℕ) (found : List FindingModel) : Type 0 wher
   pub some : found ≢ []
   pub are : AreExactly (IsBroken contracts) found
 
--- these are the findings of the first stage of the text that has any, its contracts the last stage
+-- these are the findings of the first of the stages text, tokens, names and contracts that has any
 pub data AreFindings (text : List ℕ) (found : List FindingModel) : Type 0 where
   OfText : IsFaulty text found → AreFindings text found
   OfSyntax : IsNoProgram text found → AreFindings text found
@@ -91,7 +91,8 @@ pub record IsBoundsLine (c : ContractModel) (line : List ℕ) : Type 0 where
   pub imp : ∥ IsBound c.parts.edges c.parts.first (sign_to Imp) to_imp ∥₁
   pub is : line ≡ bounds_line c.name to_exp to_imp
 
--- there are no findings before the methods, and the bytes are a line for each contract of the text in order, and then their number
+-- there are no findings before the methods, and the bytes are a line for each contract of the text
+-- in order, and then the line `ok: C contracts`
 pub record IsBoundsReport (text bytes : List ℕ) : Type 0 where
   pub contracts : List ContractModel
   pub resolved : IsResolved text contracts
@@ -100,7 +101,7 @@ pub record IsBoundsReport (text bytes : List ℕ) : Type 0 where
   pub each : AllZip IsBoundsLine contracts lines
   pub are : bytes ≡ concat lines ++ ok_line (length contracts)
 
--- what `bounds` prints for a text, and its status
+-- these bytes with this status are what `bounds` prints for the text
 abbrev pub Answers : List ℕ → List ℕ → Status → Type 0
 Answers text bytes Empty = IsBoundsReport text bytes
 Answers text bytes Found = IsReportOf (AreFindings text) bytes

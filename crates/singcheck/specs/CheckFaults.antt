@@ -15,7 +15,7 @@ workers_fit workers = leb 1 workers && leb workers MOST_WORKERS
 abbrev pub slots_fit : ℕ → Bool
 slots_fit slots = leb 1 slots && leb slots MOST_SLOTS
 
--- why `check` fails: the workers are looked at first, then the slots; after that it fails only if memory runs out
+-- why `check` fails: the workers are looked at first, then the slots; after that the only fault is `Memory`
 abbrev pub ExplainsFault : ℕ → ℕ → CheckFault → Type 0
 ExplainsFault workers slots Workers = workers_fit workers ≡ false
 ExplainsFault workers slots Slots = (workers_fit workers ≡ true) × (slots_fit slots ≡ false)

@@ -40,7 +40,7 @@ pub record IsClear (text bytes : List ℕ) : Type 0 where
   pub none : (f : FindingModel) → IsWrong program f → ⊥
   pub are : bytes ≡ clear_line (length program.contracts) (length program.methods)
 
--- what `check` returns for a text, and its status
+-- these bytes with this status are what `check` returns for the text: `Empty` with the line `ok`, or `Found` with the report
 abbrev pub Checks : List ℕ → List ℕ → Status → Type 0
 Checks text bytes Empty = IsClear text bytes
 Checks text bytes Found = IsReportOf (AreCheckFindings text) bytes

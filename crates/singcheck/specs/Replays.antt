@@ -48,27 +48,27 @@ struct_names text items = flat_map (λ i. struct_in text i.definition) items
 abbrev pub IsFirstAt : List (List ℕ) → List ℕ → ℕ → Type 0
 IsFirstAt names name n = (slice_get names n ≡ Some name) × Each (λ x. x ≢ name) (take n names)
 
--- the entry is the name of this method, with which a run may begin
+-- the entry is the name of this method, with which `replay` may begin
 pub record IsEntryAt (text entry : List ℕ) (items : List ItemTree) (p : ProgramModel) (n : ℕ) : Type 0 where
   pub named : IsFirstAt (method_names text items) entry n
   pub begins : IsSomeAnd (slice_get p.methods n) (λ m. is_entry m ≡ true)
 
--- there are no findings before the methods, and the entry is the name of this method, with which a run may begin
+-- there are no findings before the methods, and the entry is the name of this method, with which `replay` may begin
 pub record HasEntry (text entry : List ℕ) (p : ProgramModel) (n : ℕ) : Type 0 where
   pub has : HasProgram text p
   pub at : IsEntryAt text entry has.resolved.items p n
 
--- there are no findings before the methods, and the entry is the name of a method with which a run may begin
+-- there are no findings before the methods, and the entry is the name of a method with which `replay` may begin
 abbrev pub HasSomeEntry : (text entry : List ℕ) → Type 0
 HasSomeEntry text entry = (p : ProgramModel) × (n : ℕ) × HasEntry text entry p n
 
--- there are no findings before the methods, and the entry is the name of no method with which a run may begin
+-- there are no findings before the methods, and the entry is the name of no method with which `replay` may begin
 pub record LacksEntry (text entry : List ℕ) : Type 0 where
   pub program : ProgramModel
   pub has : HasProgram text program
   pub none : (n : ℕ) → ¬ IsEntryAt text entry has.resolved.items program n
 
--- a run may begin, and this line of the schedule is the first malformed one
+-- `replay` may begin, and this line of the schedule is the first malformed one
 pub record LacksSchedule (text entry schedule : List ℕ) (line : ℕ) : Type 0 where
   pub program : ProgramModel
   pub n : ℕ

@@ -20,12 +20,12 @@ use Rattle.singcheck.specs.Reports.{IsReportOf}
 use Rattle.singcheck.specs.Checks.{Checks}
 use Rattle.singcheck.specs.Replays.{IsRan}
 
--- Every run that begins with an entry method is safe, in whatever order its processes take their
--- turns, if the queues have the bounds of their contracts.
+-- each world that a run from a method of IsEntry reaches is safe, in whatever order processes take
+-- their turns, if the queues have the bounds of their contracts
 pub record RunsAreSafe (p : ProgramModel) : Type 0 where
   pub each : (bound : QueueBounds) → AreBounds p bound → (n : ℕ) (w : World) → IsEntry p n → Run p bound n w → IsSafe p bound w
 
--- the program that the text yields, if it is one, is safe in every run
+-- if the text is a program, every run of what it yields is safe
 abbrev pub IsSafeText : List ℕ → Type 0
 IsSafeText text = (items : List ItemTree) → IsProgram text items → RunsAreSafe (program_told (record { text = text; items = items }))
 

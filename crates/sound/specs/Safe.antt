@@ -37,8 +37,10 @@ pub record FieldsOwn (p : ProgramModel) (blocks : List Block) : Type 0 where
   -- the chain of owners from each address ends, after finitely many steps, at a block that is inside no other
   pub rooted : (x : ℕ) → Rooted blocks x
 
--- Safety of a world: no next event is a fault, queues are walks, what is owned is held once, what
--- is cut off stays so, and an ended process owns nothing.
+-- Safety of a world: no event is a fault; queued messages are those of walks; variables hold only
+-- what their process owns, and each block that a process owns is in exactly one of them; what is
+-- inside a block is in no variable; owning fields are as FieldsOwn says; what is cut off stays so;
+-- an ended process owns nothing.
 pub record IsSafe (p : ProgramModel) (bound : QueueBounds) (w : World) : Type 0 where
   -- no event is a fault
   pub no_fault : (e : Event) (fault : Fault) → event_outcome p bound w e ≢ Faulty fault

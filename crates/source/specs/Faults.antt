@@ -23,7 +23,7 @@ is_too_deep depth piece = nat_lt MAX_DEPTH (depth_behind depth piece)
 abbrev pub is_too_large : List ℕ → Bool
 is_too_large piece = is_number piece && nat_lt MAX_NUMBER (number_value piece)
 
--- whether none of these pieces is such a bracket or such a number
+-- whether none of these pieces opens a bracket too many or is a number too large
 abbrev pub are_allowed : ℕ → List (List ℕ) → Bool
 are_allowed depth [] = true
 are_allowed depth (p ∷ ps) = not (is_too_deep depth p) && not (is_too_large p) && are_allowed (depth_behind depth p) ps
