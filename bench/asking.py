@@ -1,4 +1,4 @@
-"""Runs programs, many and short ones."""
+"""Runs programs, for scripts that run many short ones."""
 import json
 import os
 import select
@@ -12,7 +12,7 @@ ENVIRONMENT = dict(os.environ)
 
 
 def both_read(pipes, end):
-    """What comes out of two pipes, up to their ends, or None where that is not there in time."""
+    """Reads two pipes to their ends. Returns what they had, or None if they do not end in time."""
     parts, poll = {pipe: [] for pipe in pipes}, select.poll()
     for pipe in pipes:
         poll.register(pipe, select.POLLIN)
@@ -31,7 +31,7 @@ def both_read(pipes, end):
 
 
 def answer(words, limit=3600):
-    """What a program writes to standard output, what to standard error, and its status; None where it does not end in so many seconds."""
+    """Returns the standard output, the standard error and the status of a program, or None if it does not end within `limit` seconds."""
     (out, out_end), (err, err_end) = os.pipe(), os.pipe()
     actions = [(os.POSIX_SPAWN_DUP2, NOTHING, 0), (os.POSIX_SPAWN_DUP2, out_end, 1), (os.POSIX_SPAWN_DUP2, err_end, 2)]
     process = os.posix_spawn(words[0], words, ENVIRONMENT, file_actions=actions)

@@ -1,4 +1,4 @@
-"""Texts of cases and examples, changed at random."""
+"""Changes texts of cases and examples at random."""
 import pathlib
 import random
 import re
@@ -14,12 +14,12 @@ DEEPEST = 120
 
 
 def texts():
-    """The texts that are changed: those that have a byte."""
+    """Returns the texts to change: those of all cases and examples that are not empty."""
     names = sorted(TOP.glob('cases/*/*/input.sg')) + sorted(TOP.glob('examples/*.sg'))
     return [text for text in (name.read_bytes() for name in names) if text]
 
 
-# Each change gives new pieces for those of a text. Rough ones take tokens, blanks and comments, and mostly leave no program.
+# A change returns new pieces for a text. Rough changes work on tokens, blanks and comments, and the result is rarely a program.
 
 def flipped(pieces, chance, _):
     data = bytearray(b''.join(pieces))
@@ -65,7 +65,7 @@ def grown(pieces, chance, _):
 ROUGH = [flipped, doubled, exchanged, cut, brought, nested, grown]
 
 
-# Gentle ones take whole statements, or names for names, and often leave a program.
+# Gentle changes work on whole statements, or put one name in place of another. The result is often a program.
 
 def statement_doubled(text, chance):
     pieces, at = STATEMENT.findall(text), ended(text, chance)
@@ -90,7 +90,7 @@ def statement_in_a_block(text, chance):
 
 
 def named_alike(text, chance):
-    """One name in place of another, sometimes or always."""
+    """Puts one name in place of another, sometimes or always."""
     names = sorted(set(NAME.findall(text))) or [b'a']
     old, new, often = chance.choice(names), chance.choice(names), chance.choice([0.2, 1])
     return NAME.sub(lambda match: new if match[0] == old and chance.random() < often else match[0], text)
@@ -100,13 +100,13 @@ GENTLE = [statement_doubled, statements_exchanged, statement_cut, statement_in_a
 
 
 def ended(text, chance):
-    """The number of a piece that ends as a statement does, where there is one."""
+    """Returns the number of a piece that ends in a semicolon, or of any piece if there is none."""
     pieces = STATEMENT.findall(text)
     return chance.choice([k for k, piece in enumerate(pieces) if piece.endswith(b';')] or range(len(pieces)))
 
 
 def changed(seed, others):
-    """The text of a seed."""
+    """Returns the changed text of a seed."""
     chance = random.Random(seed)
     text = chance.choice(others)
     for _ in range(chance.randint(1, 4) if chance.random() < 0.7 else 0):

@@ -1,6 +1,6 @@
-//! A plain lexer, written by hand and proved in nothing: what the times of `bench/run` are compared with.
+//! A plain lexer, written by hand and without proofs. `bench/run` compares its times with those of the proved program.
 //!
-//!     rustc -O lexer.rs && ./lexer FILE        prints the seconds of the middle one of 15 rounds, and the number of tokens
+//!     rustc -O lexer.rs && ./lexer FILE        prints the median seconds of 15 rounds, and the number of tokens
 use std::hint::black_box;
 use std::time::Instant;
 
@@ -23,7 +23,7 @@ struct Token {
     column: u32,
 }
 
-/// Where the comment that begins here ends, or the same place where none begins.
+/// Returns the end of the comment that begins here, or `start` if none does.
 fn behind_comment(text: &[u8], start: usize) -> usize {
     let find = |from: usize, end: &[u8]| text[from..].windows(end.len()).position(|it| it == end).map(|at| from + at);
     match text.get(start + 1) {
@@ -33,7 +33,7 @@ fn behind_comment(text: &[u8], start: usize) -> usize {
     }
 }
 
-/// The token that begins here: its kind, and where it ends.
+/// Returns the kind and the end of the token that begins here.
 fn token(text: &[u8], start: usize) -> (Kind, usize) {
     let run = |of: fn(&u8) -> bool| start + text[start..].iter().take_while(|it| of(it)).count();
     match text[start] {
@@ -48,7 +48,7 @@ fn token(text: &[u8], start: usize) -> (Kind, usize) {
     }
 }
 
-/// Lists the tokens. The list keeps its room from round to round, so that no time goes into making it.
+/// Lists the tokens. The list keeps its memory from round to round, so that its allocation takes no time.
 fn lex(text: &[u8], tokens: &mut Vec<Token>) {
     tokens.clear();
     let (mut at, mut line, mut begin) = (0, 1, 0);

@@ -1,4 +1,4 @@
-"""Inputs whose size is a number n, each at most a text's 4,194,304 bytes."""
+"""The loads: texts whose size is a number n. A text has at most 4,194,304 bytes."""
 
 TEXT = 4194304
 
@@ -9,7 +9,7 @@ def path(n):
 
 
 def ring(n):
-    """One ring of n states, each of which is a finding."""
+    """One ring of n states, with a finding for each."""
     return 'contract B { out message A(); state S: ' + 'A!->' * n + 'S; }'
 
 
@@ -40,17 +40,17 @@ def comment(n):
 
 
 def line_comments(n):
-    """n comments to the end of their line, of 79 bytes each."""
+    """n line comments of 79 bytes each."""
     return ('// ' + 'x' * 76 + '\n') * n
 
 
 def short_comments(n):
-    """n comments with nothing in them."""
+    """n empty comments."""
     return '/**/' * n
 
 
 def declared_twice(n):
-    """n messages of one name, and n states of one name."""
+    """n messages with one name, and n states with one name."""
     return 'contract B { ' + 'in message M();' * n + 'state S: ;' * n + '}'
 
 
@@ -60,7 +60,7 @@ def long_names(n):
 
 
 def in_method(statements):
-    """A program of one method with these statements."""
+    """Returns a program of one method with these statements."""
     return 'rep struct D { int n; }\nclass K { static void F(bool b, D* in ExHeap p, int[] in ExHeap a) {\n' + statements + '} }\n'
 
 
@@ -80,24 +80,24 @@ def long_sum(n):
 
 
 def deep_parentheses(n):
-    """Numbers in 90 parentheses, n of these in all."""
+    """Numbers in 90 pairs of parentheses, n pairs in all."""
     return in_method('int k;\n' + ('k = ' + '(' * 90 + '1' + ')' * 90 + ';\n') * max(1, n // 90))
 
 
 def deep_blocks(n):
-    """Empty blocks 90 deep, n of these in all."""
+    """Empty blocks nested 90 deep, n in all."""
     return in_method(('{' * 90 + '}' * 90 + '\n') * max(1, n // 90))
 
 
 def methods(n):
-    """Methods that call each other, as many as there may be, with n calls in all."""
+    """The greatest number of methods, which call each other, with n calls in all."""
     count = min(4096, n)
     calls = ''.join('M%d(b); ' % k for k in range(n // count))
     return 'class K {\n' + ''.join('static void M%d(bool b) { %s}\n' % (k, calls) for k in range(count)) + '}\n'
 
 
 def expressions(n):
-    """n sums of products and elements, with a test and a sign behind each, eight to a method."""
+    """n sums of products and elements, each followed by a test and a minus sign, eight in each method."""
     parts = ' + '.join('a * %d - v[a + %d]' % (k, k) for k in range(6))
     work = ('r = ' + parts + '; if (r < a && (b || r != 3)) { v[r] = -a; }\n') * 8
     one = 'static int F%d(int a, bool b, int[] in ExHeap v) { int r;\n' + work + 'return r; }\n'
@@ -105,7 +105,7 @@ def expressions(n):
 
 
 def turns(n):
-    """n blocks that are freed on both ways of a test, with a loop of a send and a switch behind each, eight to a method."""
+    """n blocks freed on both branches of a test, each followed by a loop with a send and a switch, eight in each method."""
     contract = 'contract B { in message Ask(); out message Tell(); state S: Ask? -> Tell! -> S; }\nrep struct D { int n; }\n'
     block = '{ D* in ExHeap p = new[ExHeap] D(); if (b) { delete p; } else { p.n = 1; delete p; } }\n'
     loop = 'while (b) { i.SendAsk(); switch receive { case i.Tell(): break; case i.ChannelClosed(): break; } }\n'
@@ -119,7 +119,7 @@ def short_statements(n):
 
 
 def unknown_names(n):
-    """n uses of one name that nothing declares."""
+    """n uses of an undeclared name."""
     return in_method('x = b;\n' * n)
 
 
@@ -129,7 +129,7 @@ def variables_twice(n):
 
 
 def variables(n):
-    """n scalars, each in use."""
+    """n scalars, each read by the next one."""
     return in_method(''.join('int v%d = %s;\n' % (k, 'v%d' % (k - 1) if k else '0') for k in range(n)))
 
 
@@ -141,7 +141,7 @@ def cases(n):
 
 
 def blocks_of_variables(n):
-    """n blocks that declare a variable each, in the scope of a thousand others."""
+    """n blocks that each declare a variable, with 1,000 others in scope."""
     outer = ''.join('int v%d;\n' % k for k in range(1000))
     return in_method(outer + '{ int k; k = v999; }\n' * n)
 
@@ -153,13 +153,13 @@ def starts(n):
 
 
 def reads(n):
-    """n reads of one block, in methods that keep below the limit of pairs."""
+    """n reads of a block, in methods that stay below the limit of pairs."""
     one = 'static void F%d(D* in ExHeap p) { int k;\n' + 'k = p.n;\n' * min(n, 10000) + '}\n'
     return 'rep struct D { int n; }\nclass K {\n' + ''.join(one % k for k in range(max(1, n // 10000))) + '}\n'
 
 
 def small_methods(n):
-    """Methods with a block each, 4,096 at most; those of larger texts do more."""
+    """At most 4,096 methods with a block each. In larger texts each method does more."""
     count = min(n, 4096)
     work = 'q.n = k; k = q.n + p.n; ' * max(1, n // 4096)
     one = 'static void M%d(D* in ExHeap p) { int k; D* in ExHeap q = new[ExHeap] D(); ' + work + 'delete q; }\n'
@@ -167,7 +167,7 @@ def small_methods(n):
 
 
 def scalars(n):
-    """n scalars, each of which takes a value once more."""
+    """n scalars, each assigned a second time."""
     return in_method_alone(''.join('int v%d = %d;\n' % (k, k) for k in range(n)) + ''.join('v%d = 1;\n' % k for k in range(n)))
 
 
@@ -176,7 +176,7 @@ def in_method_alone(statements):
 
 
 def many_variables(n):
-    """1,000 variables of the exchange heap that take and free a block in turn, n times in all, 9,000 to a method."""
+    """1,000 variables of the exchange heap that take and free a block in turn, n times in all, 9,000 times in each method."""
     declared = ''.join('D* in ExHeap v%d;\n' % k for k in range(1000))
     turns = ''.join('v%d = new[ExHeap] D(); delete v%d;\n' % (k % 1000, k % 1000) for k in range(min(n, 9000)))
     one = 'static void F%d() {\n' + declared + turns + '}\n'
@@ -184,37 +184,37 @@ def many_variables(n):
 
 
 def long_types(n):
-    """n calls of a method whose parameter and whose result have a type with a name of n bytes."""
+    """n calls of a method whose parameter and result have a type with a name of n bytes."""
     name = 'D' * n
     method = 'static %s* in ExHeap G(%s* in ExHeap p) { }' % (name, name)
     return 'rep struct %s { int n; } class K { %s static void F() {\n' % (name, method) + 'G();\n' * n + '} }\n'
 
 
 def in_small_methods(statement, n, most):
-    """n of these statements, so many to a method."""
+    """Returns methods with n of these statements in all, `most` in each method."""
     one = 'static void F%d(bool b, D* in ExHeap p) { int k;\n' + statement * min(n, most) + '}\n'
     return 'rep struct D { int n; }\nclass K {\n' + ''.join(one % k for k in range(max(1, n // most))) + '}\n'
 
 
 def ways(n):
-    """n conditions with two ways each."""
+    """n conditions with two branches each."""
     return in_small_methods('if (b) { k = p.n; } else { p.n = k; }\n', n, 2000)
 
 
 def loops(n):
-    """n loops, with a block that is made and freed each time, or at a break."""
+    """n loops with a block that each round makes, and frees at its end or before a `break`."""
     return in_small_methods('while (b) { D* in ExHeap q = new[ExHeap] D(); if (b) { delete q; break; } delete q; }\n', n, 200)
 
 
 def returns(n):
-    """n returns on ways of their own, where 1,000 variables are in scope."""
+    """n returns, each on a branch of its own, with 1,000 variables in scope."""
     declared = ''.join('D* in ExHeap v%d;\n' % k for k in range(1000))
     one = 'static void F%d(bool b) {\n' + declared + 'if (b) { return; }\n' * min(n, 5000) + '}\n'
     return 'rep struct D { int n; }\nclass K {\n' + ''.join(one % k for k in range(max(1, n // 5000))) + '}\n'
 
 
 def name_of(k):
-    """A short name for each number."""
+    """Returns a short name for each number."""
     signs = 'abcdefghijklmnopqrstuvwxyz0123456789ABCDEFGHIJKLMNOPQRSTUVWXYZ'
     name = ''
     while True:
@@ -225,7 +225,7 @@ def name_of(k):
 
 
 def messages_with_cases(n):
-    """n messages that may come in one state, and a switch with a case for each."""
+    """n messages that can arrive in one state, and a switch with a case for each."""
     names = list(map(name_of, range(n)))
     contract = 'contract B {' + ''.join('in message %s();' % it for it in names)
     states = 'state S:one{' + ''.join('%s?->E;' % it for it in names) + '}state E:;}\n'
@@ -234,15 +234,15 @@ def messages_with_cases(n):
 
 
 def sends(n):
-    """n sends on one endpoint, 19,000 to a method."""
+    """n sends, 19,000 in each method on its endpoint."""
     contract = 'contract B { out message A(); state S: ' + 'A!->' * min(n, 19000) + 'T; state T: ; }\n'
     one = 'static void F%d([Claims] B.Exp:S e) {' + 'e.SendA();' * min(n, 19000) + 'delete e; }\n'
     return contract + 'class K {' + ''.join(one % k for k in range(max(1, n // 19000))) + '}'
 
 
 def endpoints_in_a_switch(n):
-    """Switches with a case for the close of each of 1,000 endpoints and for a message at half of them, n endpoints in all.
-    None of them is freed, which is one finding a method."""
+    """Switches over 1,000 endpoints, n in all: a case for each close, and a case for a message at half of the endpoints.
+    Each method has one finding, since it frees none of them."""
     each = min(n, 1000) // 2
     contract = 'contract B { out message A(); state S: A!->T; state T: ; }\n'
     made = ''.join('B.Imp i%d;B.Exp e%d;B.NewChannel(out i%d,out e%d);' % (k, k, k, k) for k in range(each))
@@ -253,7 +253,7 @@ def endpoints_in_a_switch(n):
 
 
 def calls_with_endpoints(n):
-    """n calls of methods with 8 endpoints as parameters, 4,096 to a method."""
+    """n calls of a method with 8 endpoints as parameters, 4,096 in each method."""
     contract = 'contract B { out message A(); state S: A!->T; state T: ; }\n'
     head = ','.join('B.Imp:S p%d' % k for k in range(8))
     one = 'static void F%d(' + head + ') {' + 'G(p0,p1,p2,p3,p4,p5,p6,p7);\n' * min(n, 4096) + '}\n'
@@ -261,13 +261,13 @@ def calls_with_endpoints(n):
 
 
 def contracts_of_1900_states(n):
-    """Contracts of 1,900 states, 256 at most, with n states in all."""
+    """At most 256 contracts of 1,900 states, with n states in all."""
     one = 'contract C%d { in message A(); out message B(); state S: ' + 'A?->B!->' * 950 + 'S; }\n'
     return ''.join(one % k for k in range(max(1, min(n // 1900, 256))))
 
 
 def many_rows(n):
-    """Methods with ten blocks each, of which each is given away on one way of an `if`: 3,070 pairs a method, some 96 for each of n."""
+    """Methods that move each of ten blocks on one branch of an `if`: 3,070 pairs in each method, about 96 for each of n."""
     head = ''.join(',[Claims]D* in ExHeap p%d' % k for k in range(10))
     ways = ''.join('D* in ExHeap q%d;if(b){q%d=p%d;}' % (k, k, k) for k in range(10))
     one = 'static void F%d(bool b' + head + '){' + ways + 'while(true){}}\n'
@@ -275,7 +275,7 @@ def many_rows(n):
 
 
 def many_blocks(n, begin, end):
-    """Methods with a claimed block, and eleven others that are made on one way of an `if` each: 2,048 rows come to the end."""
+    """Returns methods with a claimed block, and eleven others, each made on one branch of an `if`: 2,048 rows at the end."""
     names = 'acdefghijkl'
     ways = ''.join('D*in ExHeap %s;' % it for it in names) + ''.join('if(b){%s=new[ExHeap]D();}' % it for it in names)
     one = 'static void F%d(bool b,[Claims]D*in ExHeap z){' + begin + ways + end + '}\n'
@@ -283,48 +283,48 @@ def many_blocks(n, begin, end):
 
 
 def fail_at_one_place(n):
-    """Each of 2,048 rows a method uses a freed block at the same place: 6,143 pairs and one finding a method."""
+    """In each method 2,048 rows use a freed block at the same place: 6,143 pairs and one finding."""
     return many_blocks(n, 'delete z;', 'z.n=1;while(true){}')
 
 
 def pass_at_one_place(n):
-    """As many pairs without a finding: the last use of the block stands where it was freed."""
+    """As many pairs without a finding: a use takes the place of the delete."""
     return many_blocks(n, 'z.n=1;', 'while(true){}')
 
 
 def fail_at_many_places(n):
-    """Each of 2,048 rows a method leaves some of eleven blocks at each of four ends: 18,431 pairs and 44 findings a method."""
+    """In each method 2,048 rows leave some of eleven blocks at each of four ends: 18,431 pairs and 44 findings."""
     return many_blocks(n, 'delete z;', 'if(b){return;}' * 3)
 
 
 def pass_at_many_places(n):
-    """As many pairs without a finding: a loop that does not end stands at each end."""
+    """As many pairs without a finding: an endless loop takes the place of each end."""
     return many_blocks(n, 'delete z;', 'if(b){while(true){}}' * 3 + 'while(true){}')
 
 
 def one_block(n, end):
-    """Methods with a block and 5,000 ways out, n of these in all."""
+    """Returns methods with a block and 5,000 of these ends each, n ends in all."""
     one = 'static void F%d(bool b){D*in ExHeap z=new[ExHeap]D();' + ('if(b){' + end + '}') * min(n, 5000) + 'while(true){}}\n'
     return 'rep struct D{int n;}class K{\n' + ''.join(one % k for k in range(max(1, n // 5000))) + '}\n'
 
 
 def fail_at_a_place_each(n):
-    """n returns that leave a block: each has its own place, its own row and its own finding."""
+    """n returns that leave a block, each with its own place, its own row and its own finding."""
     return one_block(n, 'return;')
 
 
 def pass_at_a_place_each(n):
-    """As many pairs without a finding: a loop that does not end stands in place of each return."""
+    """As many pairs without a finding: an endless loop takes the place of each return."""
     return one_block(n, 'while(true){}')
 
 
 def eight_fields(names):
-    """Eight owning fields with these names."""
+    """Returns owning fields with these names."""
     return ''.join('D* in ExHeap %s; ' % name for name in names)
 
 
 def news_with_eight_arguments(n):
-    """n new blocks with eight others inside, each freed and made anew, 800 to a method."""
+    """n new blocks with eight others inside, each freed and made anew, 800 in each method."""
     names = ['p%d' % k for k in range(8)]
     filled = 's = new[ExHeap] S(%s); delete s;\n' % ', '.join(names) + ''.join('%s = new[ExHeap] D(); ' % name for name in names) + '\n'
     head = ', '.join('[Claims] D* in ExHeap %s' % name for name in names)
@@ -334,7 +334,7 @@ def news_with_eight_arguments(n):
 
 
 def exchanges(n):
-    """n exchanges with the last of eight fields, 16,000 to a method, in a loop."""
+    """n exchanges with the last of eight fields, in a loop, 16,000 in each method."""
     one = 'static void F%d(bool b, S* in ExHeap s, [Claims] D* in ExHeap p) { while (b) {\n' + 'exchange(s.h, p);\n' * min(
         n, 16000) + '} delete p; }\n'
     return 'rep struct D { int n; }\nrep struct S { %s}\nclass K {\n' % eight_fields('abcdefgh') + ''.join(
@@ -342,7 +342,7 @@ def exchanges(n):
 
 
 def struct_of_many_fields(n):
-    """A struct with n fields, the last of which owns, with n new blocks of it and n exchanges, 4,000 to a method."""
+    """A struct of n scalar fields and an owning one, with n new blocks of it and n exchanges, 4,000 in each method."""
     fields = ''.join('int f%d; ' % k for k in range(n)) + 'D* in ExHeap last;'
     turn = 's = new[ExHeap] S(p); p = new[ExHeap] D(); exchange(s.last, p); delete s;\n'
     one = 'static void F%d([Claims] D* in ExHeap p) { S* in ExHeap s;\n' + turn * min(n, 4000) + 'delete p; }\n'
@@ -350,7 +350,7 @@ def struct_of_many_fields(n):
 
 
 def structs_of_eight_fields(n):
-    """Methods over a struct of eight owning fields each, 4,096 at most, with n exchanges in all."""
+    """At most 4,096 methods, each with a struct of eight owning fields, with n exchanges in all."""
     count = min(n, 4096)
     struct = 'rep struct S%d { ' + eight_fields('abcdefgh') + '}\n'
     work = ''.join('exchange(s.%s, p); ' % 'abcdefgh'[k % 8] for k in range(max(1, n // 4096)))

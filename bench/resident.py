@@ -1,8 +1,8 @@
-"""How much memory a program takes."""
+"""Measures the memory of a program."""
 import subprocess
 import sys
 
-# A process counts the memory of the one that began it, until it runs its own program. So this small one begins the program.
+# Until a new process runs its own program, it counts the memory of its parent. So a small process starts the program.
 STARTER = '''
 import os, sys
 process = os.fork()
@@ -15,7 +15,7 @@ print(os.waitstatus_to_exitcode(status), used.ru_maxrss)
 
 
 def resident(words, file):
-    """The status and the greatest resident memory, in KiB, of a program that writes its output to this file."""
+    """Runs a program with its output in this file. Returns its status and its greatest resident memory in KiB."""
     words = [sys.executable, '-S', '-E', '-c', STARTER, file, *words]
     ran = subprocess.run(words, stdin=subprocess.DEVNULL, capture_output=True, check=True, text=True)
     return tuple(map(int, ran.stdout.split()))

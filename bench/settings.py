@@ -1,4 +1,4 @@
-"""What the script singcheck sets for a run, so that a program that is measured runs as it does there."""
+"""Applies the settings of the script singcheck, so that a measured program runs as it does there."""
 import os
 import pathlib
 import re
@@ -9,7 +9,7 @@ LINE = re.compile(r'^(?:settings\+?=|export ).*$', re.M)
 
 
 def set_as_script():
-    """Sets in this process, for the programs that it runs, each variable that the script sets and that is not set yet."""
+    """Exports what the script exports, to this process and the programs that it runs. A variable that is already set stays."""
     script = (pathlib.Path(__file__).resolve().parent.parent / 'singcheck').read_text()
     for name in NAME.findall(script):
         asked = '\n'.join([*LINE.findall(script), f'printf %s "${name}"'])

@@ -1,4 +1,4 @@
-"""Devices that fail or that are no ordinary files."""
+"""Tests devices that fail, and paths that are not regular files."""
 import functools
 import os
 import pathlib
@@ -11,12 +11,12 @@ PING = HERE / 'bounds' / 'ping' / 'input.sg'
 ANSWER = b'Ping: to Exp 1, to Imp 1\nok: 1 contracts\n'
 WHY = HERE / 'why' / 'two_findings_in_a_method' / 'input.sg'
 SERVER = HERE / 'replays' / 'server_waits'
-# What a replay of no events of the server comes to, and what one of its schedule comes to.
+# The answers to a replay of the server along no events, and along its schedule.
 STARTED = b'steps 0\nstop: end of schedule\nprocess 0 at 5:6, frames 1\n'
 WAITS = (SERVER / 'stdout').read_bytes()
 FOUND = b'1:10 S05 unexpected end\nfindings: 1\n'
 CANNOT_WRITE = b'singcheck: cannot write\n'
-# Each command with words of which it has an answer.
+# For each command, arguments to which it has an answer.
 WORDS = {
     'bounds': ['bounds', PING],
     'check': ['check', PING],
@@ -47,7 +47,7 @@ def full_device(command, program):
 
 
 def closed_pipe(command, program):
-    """A process that another test is just starting has a copy of the reading end for a moment, so its end is waited for."""
+    """The output is a pipe without a reader. The test waits for that, since a process that another test starts may briefly have a copy."""
     read, write = os.pipe()
     os.close(read)
     ended = select.poll()
@@ -64,7 +64,7 @@ def closed_output(command, program):
 
 
 def closed_error(command, program):
-    """The answer and the status stay the same, and where there is a line for standard error, the status does."""
+    """With standard error closed the answer and the status stay the same. If the answer is a line on standard error, the status does."""
     shut = ['bash', '-c', '"$0" "$@" 2>&-', program]
     ran = run(*shut, *WORDS[command])
     found = compared(ran, run(program, *WORDS[command]).stdout, b'', ran.returncode)
@@ -76,7 +76,7 @@ def check_of_nothing(program):
 
 
 def folder(command, program):
-    """A folder can be opened and not read."""
+    """A folder can be opened but not read."""
     with tempfile.TemporaryDirectory() as made:
         return compared(run(program, command, made, *WORDS[command][2:]), b'', cannot_read(made), 3)
 
@@ -87,13 +87,13 @@ def null(program):
 
 
 def without_end(program):
-    """Reading stops one byte past the most that a text and a schedule may have."""
+    """Reading stops one byte past the greatest size of a text or a schedule."""
     found = compared(run(program, 'check', '/dev/zero'), b'1:1 S03 text too long\nfindings: 1\n', b'', 1)
     return found + compared(run(program, *WORDS['replay'][:3], '/dev/zero'), b'', b'singcheck: schedule line 1\n', 2)
 
 
 def piped(program, words, place, answer):
-    """The answer where the file at this place of the words comes through a pipe that has a name, after a while."""
+    """Compares the answer if the file at this place of the words comes through a named pipe, after a while."""
     with tempfile.TemporaryDirectory() as made:
         path = os.path.join(made, 'pipe')
         os.mkfifo(path)
@@ -109,14 +109,14 @@ def pipes_by_name(program):
 
 
 def standard_input(program):
-    """A schedule from another program, by the name of standard input."""
+    """The schedule comes from another program, through `/dev/stdin`."""
     ran = subprocess.run([program, *map(str, WORDS['replay'][:3]), '/dev/stdin'], input=(SERVER / 'schedule').read_bytes(),
                          capture_output=True, timeout=60)
     return compared(ran, WAITS, b'', 1)
 
 
 def schedule_that_is_a_folder(program):
-    """It is read last: where something is found in the text, or the entry is none, it is opened and left alone."""
+    """The schedule is read last. If the text has findings, or there is no such entry, it is opened but not read."""
     with tempfile.TemporaryDirectory() as made:
         short = pathlib.Path(made) / 'short.sg'
         short.write_bytes(b'class K {')
@@ -126,13 +126,13 @@ def schedule_that_is_a_folder(program):
 
 
 def text_that_is_a_folder_and_no_schedule(program):
-    """Both are opened before either is read."""
+    """Both files are opened before either is read."""
     with tempfile.TemporaryDirectory() as made:
         return compared(run(program, 'replay', made, 'K.Main', 'nowhere'), b'', cannot_read('nowhere'), 3)
 
 
 def unreadable(program):
-    """Root reads every file, so this case only says something for another user."""
+    """The file may not be read. Root can read every file, so this tests nothing for root."""
     with tempfile.TemporaryDirectory() as made:
         path = pathlib.Path(made) / 'closed'
         path.write_bytes(b'')

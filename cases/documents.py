@@ -1,7 +1,6 @@
-"""The examples of the documents: each block marked `sing` is a text. A block marked `text` that follows it before the next
-text is what `bounds` prints of it, one marked `check` what `check` prints, and one marked `why` what `why` prints and, without its
-traces, what `check` prints. A block marked `sh` has commands, run at the top of the repository, and a block marked `text` that follows
-it is what they print, also on standard error."""
+"""Tests the examples of the documents. Each block marked `sing` is a text. The next marked block has its report: a block marked `text` that
+of `bounds`, one marked `check` that of `check`, and one marked `why` that of `why` and, without its traces, that of `check`. A block marked
+`sh` has commands, run at the top of the repository. If a block marked `text` is next, it is what they print, also on standard error."""
 import functools
 import os
 import pathlib
@@ -17,7 +16,7 @@ PAGES = [*sorted(TOP.glob('*.md')), *sorted(TOP.glob('docs/**/*.md')), *sorted(T
 
 
 def cases(folder):
-    """The cases, whose inputs are written to this folder: (name, folder, arguments, stdout, stderr, status)."""
+    """Writes the inputs to this folder, and returns the cases: (name, folder, arguments, stdout, stderr, status)."""
     made = []
     for page in PAGES:
         text = None
@@ -35,7 +34,7 @@ def cases(folder):
 
 
 def printed(commands, asked, program):
-    """What the commands print, where the program stands for the script of its name."""
+    """Runs the commands with the program in place of the script `./singcheck`, and returns how their output differs."""
     commands = commands.replace('./singcheck', shlex.quote(program))
     ran = subprocess.run(['bash', '-c', commands], cwd=TOP, stdin=subprocess.DEVNULL, stdout=subprocess.PIPE, stderr=subprocess.STDOUT,
                          timeout=60, env=dict(os.environ, PYTHONDONTWRITEBYTECODE='1'))
@@ -43,7 +42,7 @@ def printed(commands, asked, program):
 
 
 def commands():
-    """A test for each block of commands and what they print."""
+    """Returns a test for each block of commands followed by their output."""
     made = []
     for page in PAGES:
         blocks = [block.groups() for block in BLOCK.finditer(page.read_text())]
@@ -54,7 +53,7 @@ def commands():
 
 
 def first_page_is_short(_):
-    """The first page is read as a whole, so it is short, and so is each cell of its tables."""
+    """The first page is short enough to be read as a whole, and so is each cell of its tables."""
     lines = (TOP / 'README.md').read_text().splitlines()
     cells = [cell.strip() for line in lines if line.startswith('|') for cell in line.strip('|').split(' | ')]
     found = ['a cell of %d characters: %s' % (len(cell), cell) for cell in cells if len(cell) > 160]
@@ -62,14 +61,14 @@ def first_page_is_short(_):
 
 
 def texts_of_the_tour_are_examples(_):
-    """Who reads the first page or the tour finds the texts there among the examples, with the same lines."""
+    """Each text of the first page and the tour is among the examples, with the same lines."""
     examples = {path.read_text() for path in TOP.glob('examples/*.sg')}
     shown = [body for page in ('README.md', 'docs/TOUR.md') for kind, body in BLOCK.findall((TOP / page).read_text()) if kind == 'sing']
     return ['no example has this text: %r' % body for body in shown if body not in examples]
 
 
 def anchors(page):
-    """The anchors of a page's headings."""
+    """Returns the anchors of a page's headings."""
     lines = re.sub(r'^```.*?^```$', '', page.read_text(), flags=re.M | re.S).splitlines()
     titles = [re.sub(r'[`*]|\]\([^)]*\)|\[', '', line.lstrip('#').strip()).lower() for line in lines if re.match('#+ ', line)]
     return {re.sub(r'[^\w -]', '', title).replace(' ', '-') for title in titles}

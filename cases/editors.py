@@ -1,5 +1,5 @@
-"""The files of `editors`: each grammar knows the reserved words of the language and no other word, and what is found can be read. The lines
-of the page are tried in the editors that are there."""
+"""Tests the files of `editors`: each grammar knows the reserved words of the language and no other word, and the editors can read findings.
+The settings of the page are tried in the installed editors."""
 import json
 import os
 import pathlib
@@ -11,18 +11,18 @@ import tempfile
 TOP = pathlib.Path(__file__).resolve().parent.parent
 VIM, CODE = TOP / 'editors' / 'vim', TOP / 'editors' / 'vscode'
 NAMES = ['ping', 'Int', 'exp', 'Sender', 'newer', 'in_', '_state', 'channelclosed', 'If', 'one1', 'Length', 'exchanged']
-# Only colours that a grammar gives to words of the language count, not those of numbers, sends and signs.
 FINDING = ('/some where/a b.sg', '12', '5', 'A01', 'note not owned')
 PAGE = TOP / 'editors' / 'README.md'
 
 
 def reserved():
-    """The reserved words, as the definitions of the lexer have them."""
+    """Returns the reserved words, from the definitions of the lexer."""
     text = (TOP / 'crates/source/specs/Words.antt').read_text()
     return sorted(re.findall(r'\(\w+, codes "(\w+)"\)', text))
 
 
 def unlike(what, given):
+    """Compares words with the reserved words. The colours of a grammar for numbers, sends and signs do not count."""
     missing, more = sorted(set(reserved()) - set(given)), sorted(set(given) - set(reserved()))
     return ['%s: lacks %s, has too many %s' % (what, missing, more)] if missing or more or len(given) != len(set(given)) else []
 
@@ -51,7 +51,7 @@ def words_of_vs_code(_):
 
 
 def parts_of_vs_code(_):
-    """What a part includes is there, and what the extension names is there."""
+    """What the grammar includes exists, and so do the files that the extension names."""
     known, parts = grammar(), json.loads((CODE / 'package.json').read_text())['contributes']
     found = [part for part in known['patterns'] if part['include'][1:] not in known['repository']]
     json.loads((CODE / 'language-configuration.json').read_text())
@@ -60,7 +60,7 @@ def parts_of_vs_code(_):
 
 
 def block(kind, holds=''):
-    """The block of the page that is marked so and has this text."""
+    """Returns the block of the page that has this mark and this text."""
     return next(it for it in re.findall(r'```%s\n(.*?)```' % kind, PAGE.read_text(), re.S) if holds in it)
 
 
@@ -75,7 +75,7 @@ def problems_of_vs_code(_):
 
 
 def vim(runtime, text, script):
-    """What a script leaves in the file `said`, run by Vim with these settings over a text."""
+    """Runs a script in Vim with these settings on a text, and returns what it leaves in the file `said`."""
     with tempfile.TemporaryDirectory() as made:
         folder = pathlib.Path(made)
         (folder / 'script.vim').write_text(script)
@@ -88,7 +88,7 @@ def vim(runtime, text, script):
 
 
 def colours_of_vim(_):
-    """The colour that Vim gives to the last letter of each line, where Vim is there."""
+    """Compares the colour that Vim, if it is installed, gives to the last letter of each line."""
     if not shutil.which('vim'):
         return []
     lines = reserved() + NAMES + ['// class', '/*/ class', '*/ zz', 'e.SendAsk']
@@ -101,7 +101,7 @@ call writefile(map(range(1, line('$')), 'synIDattr(synID(v:val, col([v:val, "$"]
 
 
 def repository(top, program):
-    """A copy of the repository that has what editors use, with this program."""
+    """Makes a copy of what editors use in the repository, with this program."""
     for name in ('editors/vim', 'tools', 'docs/codes'):
         shutil.copytree(TOP / name, top / name)
     (top / 'out').mkdir()
@@ -110,7 +110,7 @@ def repository(top, program):
 
 
 def make_in_vim(program):
-    """`:make` in a repository with a blank in its path, if there is Vim: the finding, its trace, and why a file cannot be read."""
+    """Runs `:make` in a repository with a blank in its path, if there is Vim: the finding, its trace, and why a file cannot be read."""
     if not shutil.which('vim'):
         return []
     with tempfile.TemporaryDirectory() as made:
@@ -162,7 +162,7 @@ EMACS = """
 
 
 def shown_by(program, files, words):
-    """What an editor shows of texts with findings, and what `check` prints of them. The home folder has the repository and these files."""
+    """Compares what an editor shows of texts with findings with what `check` prints. The home folder has the repository and these files."""
     with tempfile.TemporaryDirectory() as made:
         home = pathlib.Path(made)
         repository(home / 'singcheck', program)
@@ -185,7 +185,7 @@ def shown_by(program, files, words):
 
 
 def findings_in_neovim(program):
-    """With the lines of the page Neovim, if it is there, shows what `check` prints, also after letters that are not ASCII."""
+    """With the settings of the page Neovim, if it is installed, shows what `check` prints, also after letters that are not ASCII."""
     if not shutil.which('nvim'):
         return []
     files = {'.config/nvim/init.lua': block('lua'), 'shows.lua': NEOVIM}
@@ -193,7 +193,7 @@ def findings_in_neovim(program):
 
 
 def findings_in_emacs(program):
-    """The same of Emacs and its client `eglot`."""
+    """The same for Emacs and its client `eglot`."""
     words = ['emacs', '--batch', '--eval', "(progn (package-initialize) (require 'eglot))"]
     if not shutil.which('emacs') or subprocess.run(words, stdin=subprocess.DEVNULL, capture_output=True).returncode:
         return []
@@ -201,7 +201,7 @@ def findings_in_emacs(program):
 
 
 def lines_for_helix(_):
-    """The lines are TOML, and name the server that the language asks for."""
+    """The settings for Helix are TOML, and define the server that the language names."""
     try:
         import tomllib
     except ImportError:
@@ -230,7 +230,7 @@ def commands_of_the_ci(program):
 
 
 def hook_before_a_commit(program):
-    """The hook of the page refuses a commit with a finding, also if the file in the folder has none any more, and lets others pass."""
+    """The hook of the page refuses a commit with a finding, even if the file in the folder no longer has it, and allows other commits."""
     if not shutil.which('git'):
         return []
     with tempfile.TemporaryDirectory() as made:
@@ -264,8 +264,8 @@ def hook_before_a_commit(program):
 
 
 def extension_of_vs_code(program):
-    """The extension shows what `why` prints, an outline, and the page of a code, also after its server was killed. Its editor is a stub,
-    run by Node if there is one."""
+    """The extension shows what `why` prints, an outline, and the page of a code, also after its server was killed. A stub replaces the
+    editor. Node runs it, if it is installed."""
     if not shutil.which('node'):
         return []
     words = ['node', TOP / 'cases' / 'vscode_stub' / 'driver.js', program, TOP / 'examples' / 'note.sg']

@@ -1,5 +1,5 @@
-"""Many files at once, and the formats of findings: in each format the findings of every text are those that `check` prints,
-and with --why the traces that `why` prints."""
+"""Tests `tools/check` on many files, and the formats of findings: each format has the findings that `check` prints for every text, and with
+--why the traces that `why` prints."""
 import collections
 import concurrent.futures
 import functools
@@ -36,14 +36,14 @@ def texts():
 
 @functools.cache
 def all_printed(program):
-    """What `check` prints of each text, by its name."""
+    """Returns what `check` prints for each text, by its name."""
     names = texts()
     with concurrent.futures.ThreadPoolExecutor(4) as pool:
         return dict(zip(names, pool.map(lambda name: printed(program, TOP / name), names)))
 
 
 def characters(name, line, column):
-    """A column in characters for one in bytes."""
+    """Converts a column in bytes to one in characters."""
     rows = (TOP / name).read_bytes().removeprefix(MARK).split(b'\n')
     return len((rows[line - 1] if line <= len(rows) else b'')[:column - 1].decode('utf-8', 'replace')) + 1
 
@@ -74,7 +74,7 @@ def json_lines(program):
 
 
 def commands_of_github(program):
-    """The form is `::error PROPERTY=VALUE,..::TEXT`, in which %, CR and LF are written as %25, %0D and %0A, and : and , in a value too."""
+    """The form is `::error PROPERTY=VALUE,..::TEXT`. %, CR and LF become %25, %0D and %0A; a value escapes : and , too."""
     ran = run(program, '--format', 'github', 'cases', 'examples', cwd=TOP)
     given = []
     for line in ran.stdout.decode().splitlines():
@@ -88,7 +88,7 @@ def commands_of_github(program):
 
 
 def is_sarif(log):
-    """What SARIF 2.1.0 asks of the parts that are written: the required properties, their types, and that indexes fit."""
+    """Checks what SARIF 2.1.0 requires of the parts that are written: the required properties, their types, and valid indexes."""
     found = [] if log.get('version') == '2.1.0' and isinstance(log.get('runs'), list) else ['no version 2.1.0, or no runs']
     for one in log['runs']:
         driver = one['tool']['driver']
@@ -110,7 +110,7 @@ def is_sarif(log):
 
 
 def is_flow(flow):
-    """A code flow has thread flows, each with locations; the location of each is a place with a message."""
+    """Returns whether a code flow has thread flows, each with locations that are places with a message."""
     threads = flow['threadFlows']
     steps = [step['location'] for thread in threads for step in thread['locations']]
     regions = [step['physicalLocation']['region'] for step in steps]
@@ -137,11 +137,11 @@ def sarif_of_nothing(program):
     return is_sarif(json.loads(ran.stdout)) + unlike(0, ran.returncode, 'status')
 
 
-EXPLAINED = ('examples', 'cases/channels', 'cases/text')  # what has traces of all kinds, or none
+EXPLAINED = ('examples', 'cases/channels', 'cases/text')  # texts with all kinds of traces, or none
 
 
 def explained(program, name):
-    """What `why` prints of a text: each finding, and the places and words of its trace."""
+    """Returns what `why` prints for a text: each finding, with the places and words of its trace."""
     said = subprocess.run([program, 'why', TOP / name], stdin=subprocess.DEVNULL, stdout=subprocess.PIPE, check=False).stdout.decode()
     made = []
     for line in said.splitlines():
@@ -171,7 +171,7 @@ def traces_in_json(program):
 
 
 def traces_in_sarif(program):
-    """A trace is one flow, whose last place is that of the finding."""
+    """A trace is one flow that ends at the place of the finding."""
     log = json.loads(run(program, '--why', '--format', 'sarif', *EXPLAINED, cwd=TOP).stdout)
     asked = [[(name, line, characters(name, line, column), text) for line, column, text in (*notes, (line, column, text))]
              for name, its in all_explained(program).items() for line, column, _, text, notes in its if notes]
@@ -195,7 +195,7 @@ def traces_of_the_note(program):
 
 
 def show_has_the_formats(program):
-    """`show` prints in each format what the tool for many files prints, of a report with traces too."""
+    """In each format `show` prints what `tools/check` prints, also for a report with traces."""
     name, found = 'examples/note.sg', []
     for command, words in (('check', []), ('why', ['--why'])):
         report = subprocess.run([program, command, name], cwd=TOP, stdin=subprocess.DEVNULL, stdout=subprocess.PIPE).stdout
@@ -241,7 +241,7 @@ def standard_input_and_odd_names(program):
 
 
 def ends_as_other_tools(program):
-    """A full disk and a closed stream are status 3, and who reads one line alone ends a tool by the signal: never what says "found"."""
+    """A full disk or a closed output gives status 3, and a reader that is gone ends a tool by SIGPIPE. Neither looks like findings."""
     note, found = str(TOP / 'examples' / 'note.sg'), []
     report = b'7:5 A01 note not owned\nfindings: 1\n'
     for tool, words, data in (('check', ['--program', program, note], b''), ('show', [note], report), ('explain', ['A01'], b'')):
@@ -265,7 +265,7 @@ def ends_as_other_tools(program):
 
 
 def ends_when_interrupted(note):
-    """An interrupt, sent as a terminal does it, ends `show` that reads and `check` that waits for the program."""
+    """An interrupt, sent as a terminal does, ends `show` while it reads, and `check` while it waits for the program."""
     found = []
     with tempfile.TemporaryDirectory() as folder:
         slow, begun = pathlib.Path(folder) / 'slow', pathlib.Path(folder) / 'begun'
@@ -275,7 +275,7 @@ def ends_when_interrupted(note):
             waiting = subprocess.Popen(command, stdin=subprocess.PIPE, stdout=subprocess.PIPE, stderr=subprocess.PIPE,
                                        start_new_session=True)
             if command[0].name == 'show':
-                waiting.stdin.write(b' ' * (1 << 18))  # more than a pipe holds, so it is written only once the tool reads
+                waiting.stdin.write(b' ' * (1 << 18))  # more than a pipe holds, so the write ends only once the tool reads
                 waiting.stdin.flush()
             else:
                 while not begun.exists() and waiting.poll() is None:
@@ -287,7 +287,7 @@ def ends_when_interrupted(note):
 
 
 def on_a_terminal(program, *words, columns=40, **more):
-    """What is printed on a terminal of so many columns."""
+    """Returns what `tools/check` prints on a terminal with `columns` columns."""
     master, slave = pty.openpty()
     env = {**os.environ, 'COLUMNS': str(columns), 'TERM': 'xterm', **more}
     env.pop('NO_COLOR', None) if 'NO_COLOR' not in more else None

@@ -1,69 +1,69 @@
-"""Cases whose inputs are big: at the limits of a text, of a program's states, methods and variables, of a schedule, and brackets as
-deep as they may be."""
+"""Makes cases with large inputs: at the limits of a text, of the states, methods and variables of a program, of a schedule, and of nested
+brackets."""
 
 TEXT = 4194304
 NOTHING = b'ok: 0 contracts\n'
 HEAD = b'contract B { out message A(); in message Z(); state S: '
 TAIL = b'T; state T: Z? -> S; }'
-# The column of the name one past the limit of states: it is T, the 500,001st, behind the chain.
+# The column of the name of the 500,001st state, one past the limit: T, after the chain.
 PAST_STATES = len(HEAD) + 4 * 500000 + len(b'T; state ') + 1
 
 
 def chain(states):
-    """A contract with so many states, all but two of them unnamed, and a walk of sends through all but the last."""
+    """Returns a contract with this number of states, all but two of them unnamed, and a walk of sends from the first to the last."""
     return HEAD + b'A!->' * (states - 1) + TAIL
 
 
 def methods(count):
-    """A class of so many methods."""
+    """Returns a class with this number of methods."""
     return b'class K {\n' + b''.join(b'static void M%d() { }\n' % k for k in range(count)) + b'}\n'
 
 
 def variables(count):
-    """A method with so many variables of the exchange heap."""
+    """Returns a method with this number of variables of the exchange heap."""
     declared = b''.join(b'D* in ExHeap v%d;\n' % k for k in range(count))
     return b'rep struct D { int n; }\nclass K { static void F() {\n' + declared + b'} }\n'
 
 
 def uses(count):
-    """A method whose one parameter is used so often, a point each, and then a Return."""
+    """Returns a method that uses its parameter `count` times, with a point for each use and one for the Return."""
     return b'rep struct D { int n; }\nclass K {\nstatic void F(D* in ExHeap p) { int k;\n' + b'k=p.n;' * count + b'\n} }\n'
 
 
 def maybe_freed(count):
-    """A method of so many blocks, each freed on one way of an `if`: 4 * 2^n - 3 pairs, the points of the end among them."""
+    """Returns a method that frees each of n blocks on one branch of an `if`. It has 4 * 2^n - 3 pairs, including those at the end."""
     declared = b''.join(b'D* in ExHeap p%d = new[ExHeap] D(); if (b) { delete p%d; }\n' % (k, k) for k in range(1, count + 1))
     return b'rep struct D { int n; }\nclass K {\nstatic void F(bool b) {\n' + declared + b'}\n}\n'
 
 
 def kept(*numbers):
-    """What is found where these blocks of such a method are kept."""
+    """Returns the findings of such a method about these blocks."""
     return b''.join(b'16:1 A08 p%d still owned\n' % k for k in numbers)
 
 
 def kept_behind(count):
-    """A method that keeps its block, and so many conditions before, each on a line of its own. On the shortest way none is true."""
+    """Returns a method that keeps its block after `count` conditions, each on its own line. On the shortest path none is true."""
     head = b'rep struct D { int n; }\nclass K {\nstatic void F([Claims] D* in ExHeap p, bool b) { int k;\n'
     return head + b'if (b) { k = p.n; }\n' * count + b'} }\n'
 
 
 def why_kept_behind(count):
-    """What is told of it."""
+    """Returns what `why` prints for it."""
     choices = b''.join(b'  %d:1 condition false\n' % (4 + k) for k in range(count))
     return b'%d:1 A08 p still owned\n  3:13 p has a block\n' % (4 + count) + choices + b'findings: 1\n'
 
 
 def within(statement):
-    """A method with this statement, which stands behind two open brackets."""
+    """Returns a method with this statement, inside two open brackets."""
     return b'class K { static void F(bool b, int[] in ExHeap a) { ' + statement + b' } }\n'
 
 
 def explained():
-    """Methods at the limit of pairs, and what is told of long paths: (name, text, stdout, status)."""
+    """Returns methods at the limit of pairs, and long traces: (name, text, stdout, status)."""
     return [
         ('pairs_20000_explained', uses(19999), b'ok: 0 contracts, 1 methods\n', 0),
         ('pairs_20001_explained', uses(20000), b'3:13 A14 too many pairs\n  3:13 more than 20000 pairs are reached\nfindings: 1\n', 1),
-        # A path of 19,999 steps, on which nothing is told but what the method begins with.
+        # A path of 19,999 steps. Its trace has only what the method begins with.
         ('steps_19999_explained', uses(19999).replace(b'F(D*', b'F([Claims] D*'),
          b'5:1 A08 p still owned\n  3:13 p has a block\nfindings: 1\n', 1),
         ('lines_9999_explained', kept_behind(9998), why_kept_behind(9998), 1),
@@ -77,7 +77,7 @@ def explained():
 
 
 def schedules():
-    """Schedules at the limit of their bytes: (name, bytes, stdout, stderr, status). An event has four bytes and goes round a loop."""
+    """Returns schedules at the limit of bytes: (name, bytes, stdout, stderr, status). An event has four bytes and is a round of a loop."""
     rounds = b'0 0\n' * 262143
     steps = b'steps %d\nstop: end of schedule\nprocess 0 at 1:32, frames 1\n'
     refused = b'singcheck: schedule line %d\n'
@@ -86,7 +86,7 @@ def schedules():
         ('schedule_1048576_without_an_end', rounds + b'0  0', steps % 262144, b'', 0),
         ('schedule_1048577', rounds + b'0 0\n0', b'', refused % 262145, 2),
         ('schedule_1048577_of_whole_lines', rounds + b'0 0\n\n', b'', refused % 262145, 2),
-        # The end of a line belongs to that line, also where it is the first byte past the limit.
+        # The end of a line belongs to that line, even if it is the first byte past the limit.
         ('schedule_1048577_at_an_end', rounds + b'0  0\n', b'', refused % 262144, 2),
         ('schedule_of_malformed_lines_alone', b'x\n' * 524288, b'', refused % 1, 2),
         ('schedule_1048577_after_a_malformed_line', b'x\n' + rounds + b'0 0\n', b'', refused % 1, 2),
@@ -94,7 +94,7 @@ def schedules():
 
 
 def cases(folder):
-    """The cases, whose inputs are written to this folder: (name, folder, arguments, stdout, stderr, status)."""
+    """Writes the inputs to this folder, and returns the cases: (name, folder, arguments, stdout, stderr, status)."""
     passed = b'1:%d N06 limit passed\nfindings: 1\n' % PAST_STATES
     inputs = [
         ('states_500000', chain(500000), b'B: to Exp 1, to Imp 499999\nok: 1 contracts\n', 0),
@@ -114,10 +114,10 @@ def cases(folder):
     checked = [
         ('pairs_20000', uses(19999), b'ok: 0 contracts, 1 methods\n', 0),
         ('pairs_20001', uses(20000), b'3:13 A14 too many pairs\nfindings: 1\n', 1),
-        # Of twelve blocks 16,381 pairs are reached, of thirteen 32,765; text is sorted by bytes.
+        # Twelve blocks have 16,381 pairs, and thirteen 32,765. The texts of findings are sorted by bytes.
         ('blocks_12_maybe_freed', maybe_freed(12), kept(1, 10, 11, 12, 2, 3, 4, 5, 6, 7, 8, 9) + b'findings: 12\n', 1),
         ('blocks_13_maybe_freed', maybe_freed(13), b'3:13 A14 too many pairs\nfindings: 1\n', 1),
-        # In each of the methods as many pairs as there may be, but not more in any.
+        # Each method has as many pairs as allowed.
         ('pairs_40000_in_two_methods', uses(19999) + uses(19999).replace(b'rep struct D', b'rep struct E').replace(b'class K', b'class L'),
          b'ok: 0 contracts, 2 methods\n', 0),
         ('methods_4096_checked', methods(4096), b'ok: 0 contracts, 4096 methods\n', 0),

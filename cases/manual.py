@@ -1,5 +1,5 @@
-"""The page of the manual: what reads such pages has nothing to say against it, and it knows the commands and options of the help. The
-help itself has the program's name, the range and the default of each number, the exit statuses, and an example a command."""
+"""Tests the manual page: readers of such pages accept it without warnings, and it has the commands and options of the help. The help itself
+has the program's name, the range and the default of each number, the exit statuses, and an example for each command."""
 import os
 import pathlib
 import re
@@ -11,7 +11,7 @@ READERS = {'man': ['man', '--warnings', '-l', PAGE], 'groff': ['groff', '-man', 
 
 
 def without_warnings(_):
-    """Nothing is said of the page by the readers that are there."""
+    """The installed readers have no warnings about the page."""
     found = []
     for name, words in READERS.items():
         if shutil.which(name):
@@ -25,7 +25,7 @@ def helped(program, *words):
 
 
 def commands_and_options_of_the_help(program):
-    """Each command and each long option that the help names stands on the page, and the page names no others."""
+    """The page has each command and each long option of the help, and no others."""
     text = PAGE.read_text().replace('\\-', '-')
     known = set(re.findall(r'^  (\w+)\b', helped(program).partition('Commands:')[2].partition('\n\n')[0], re.M)) - {'help'}
     options = {option for words in ([], *([command] for command in known)) for option in re.findall(r'--\w+', helped(program, *words))}

@@ -1,7 +1,7 @@
-"""Each prefix of three programs has the report that the definition of the language gives it. What is expected stands in
-prefixes.txt, which a plain implementation of the language, written apart from this one, made once: a line has the name of the
-program, the first and the last length for which it holds, and the finding or the line `ok: ..`. `end` is the place after the last
-byte of the prefix, which is worked out here."""
+"""Tests that each prefix of three programs has the report that the definition of the language gives it. The expected reports are in
+prefixes.txt, made once by a separate plain implementation of the language. A line of that file has the name of the program, the first and
+the last length for which it holds, and the finding or the line `ok: ..`. `end` is the place after the last byte of the prefix, which this
+script computes."""
 import concurrent.futures
 import functools
 import pathlib
@@ -22,7 +22,7 @@ TEXTS = {
 
 
 def expected():
-    """For each program what is expected of each length."""
+    """Returns, for each program, the expected finding or `ok: ..` line of each length."""
     known = {name: {} for name in TEXTS}
     for line in (HERE / 'prefixes.txt').read_text().splitlines():
         name, first, last, what = line.split(' ', 3)
@@ -31,7 +31,7 @@ def expected():
 
 
 def report(text, what):
-    """The report of a text by a line of the file, and its status."""
+    """Returns the report and the status that a line of the file gives for a text."""
     if what.startswith('ok: '):
         return (what + '\n').encode(), 0
     end = '%d:%d' % (text.count(b'\n') + 1, len(text) - text.rfind(b'\n'))
@@ -39,7 +39,7 @@ def report(text, what):
 
 
 def unlike(program, folder, text, what):
-    """How the answer to a text differs."""
+    """Returns how the answer to a text differs from the expected one."""
     path = pathlib.Path(folder) / str(len(text))
     path.write_bytes(text)
     ran = subprocess.run([program, 'check', path], stdin=subprocess.DEVNULL, capture_output=True, timeout=60)

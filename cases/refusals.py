@@ -1,6 +1,6 @@
-"""Each growth of memory refused in turn. A small library in front of the C library's refuses the Nth one, for N = 1, 2, ..
-until runs meet no refusal. A thread that is asked for counts as a growth. Each run has to give the answer that the rules give, or to
-say that memory is out and write nothing."""
+"""Refuses each growth of memory in turn. A small library, loaded before the C library, refuses the Nth growth, for N = 1, 2, .. until
+runs meet no refusal. Starting a thread counts as a growth. Each run has to give the right answer, or report that memory is out and print
+nothing else."""
 import functools
 import itertools
 import os
@@ -15,7 +15,7 @@ BUILT = HERE.parent / 'crates' / 'singcheck_cli' / 'out' / 'singcheck_cli'
 OUT_OF_MEMORY = (b'', b'singcheck: out of memory\n', 4)
 MOST = 5000
 SECONDS = 60
-QUIET = 3  # workers share tasks out anew in each run, so one run has a few growths more than another
+QUIET = 3  # workers share the tasks differently in each run, so the number of growths varies a little
 ONCE = threading.Lock()
 REFUSER = r'''
 #define _GNU_SOURCE
@@ -46,7 +46,7 @@ int pthread_create(pthread_t *thread, const pthread_attr_t *with, void *(*run)(v
 
 @functools.lru_cache(maxsize=None)
 def refuser():
-    """The library, built once and kept until the process ends."""
+    """Builds the library once, and returns its folder, which lasts as long as the process, and its path."""
     folder = tempfile.TemporaryDirectory()
     source, library = pathlib.Path(folder.name) / 'refuser.c', pathlib.Path(folder.name) / 'refuser.so'
     source.write_text(REFUSER)
@@ -67,12 +67,12 @@ def run(program, words, folder, nth, mark):
 
 
 def itself(program):
-    """The program without the script before it: what the script calls asks for memory too."""
+    """Returns the program itself in place of its script, since what the script calls allocates memory too."""
     return program if pathlib.Path(program).read_bytes()[:2] != b'#!' else str(BUILT)
 
 
 def refused_runs(program, words, folder):
-    """A run for each N = 1, 2, ..: N, whether its Nth growth was there to be refused, and what the run gave."""
+    """Runs the program for N = 1, 2, .. and yields N, whether there was an Nth growth to refuse, and the answer."""
     quiet = 0
     with tempfile.TemporaryDirectory() as made:
         mark = pathlib.Path(made) / 'refused'
@@ -102,7 +102,7 @@ def each_refused(program, words, folder, answer):
 
 
 def stored(name, more, program):
-    """The case of that name, with some words more on its command line."""
+    """Tests the case of that name, with `more` at the end of its command line."""
     folder = HERE / name
     words = (folder / 'command').read_text().split()
     answer = ((folder / 'stdout').read_bytes(), b'', int((folder / 'status').read_text()))
@@ -110,8 +110,8 @@ def stored(name, more, program):
 
 
 def branching(methods, branches):
-    """Methods of so many blocks, each freed on one way of an `if`, and their report: each block may be the first that is left at
-    the end. A method has 2 to the power of `branches` rows there."""
+    """Returns methods that free each of their blocks on one branch of an `if`, and their report. Each block may be the first that is left
+    at the end. A method has 2 to the power of `branches` rows there."""
     lines, found = ['rep struct D { int n; }', 'class K {'], []
     names = ['p%d' % number for number in range(1, branches + 1)]
     for method in range(methods):
@@ -122,7 +122,7 @@ def branching(methods, branches):
 
 
 def branches_in_a_full_table(methods, branches, program):
-    """Each method with a worker of its own. The table has two slots, so the workers keep almost all rows themselves."""
+    """Tests methods with a worker for each. The table has two slots, so the workers keep almost all rows themselves."""
     text, report = branching(methods, branches)
     with tempfile.TemporaryDirectory() as folder:
         pathlib.Path(folder, 'input.sg').write_bytes(text)

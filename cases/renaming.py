@@ -1,4 +1,4 @@
-"""`tools/rename`, `./edits --carry` and `tools/together` in a small repository that is made for a test."""
+"""Tests `tools/rename`, `./edits --carry` and `tools/together` in a small repository made for a test."""
 import importlib.machinery
 import importlib.util
 import pathlib
@@ -61,7 +61,7 @@ def called(top, *words):
 
 
 def made(top, files=FILES, crate='low', mutant='first_one'):
-    """The repository, in which the mutant was tried, and everything is committed."""
+    """Makes the repository, with the mutant noted as tried and everything committed."""
     for name, text in files.items():
         (top / name).parent.mkdir(parents=True, exist_ok=True)
         (top / name).write_text(text)
@@ -128,7 +128,7 @@ def trials_are_carried_over(_):
 
 
 def fields_taken_over(_):
-    """A record that names each field is the same as one that only names those that differ."""
+    """A record that names each field equals one that only names those that differ."""
     with tempfile.TemporaryDirectory() as folder:
         top = pathlib.Path(folder)
         head, spec = 'abbrev pub in_front : Span → Span\n', 'crates/low/specs/Fronts.antt'
@@ -200,7 +200,7 @@ fn first(part: &Part) -> usize {
 
 
 def what_a_crate_meets(_):
-    """A mutant is due by the types below that its crate meets, by a name or as what a call gives, and by the calls that it makes."""
+    """A mutant is due after changes to lower types that its crate meets, by name or as results of calls, and to the calls it makes."""
     with tempfile.TemporaryDirectory() as folder:
         top = pathlib.Path(folder)
         made(top, {'crates.txt': 'low:\nhigh: low\n', 'crates/low/src/lib.rt': LOW, 'crates/low/src/parts.rt': PARTS,

@@ -1,4 +1,4 @@
-"""The repairs of the tour: after each one nothing is found in the example, and no run of it meets a fault."""
+"""Tests the repairs of the tour: after each one the example has no findings, and no tried run of it meets a fault."""
 import functools
 import pathlib
 import random
@@ -9,7 +9,7 @@ import tempfile
 import refusals
 
 TOP = pathlib.Path(__file__).resolve().parent.parent
-# The pieces of text that the tour says to put into a program.
+# `PIECES` are the pieces of text that the tour inserts into programs.
 BLOCKS = re.findall(r'^```(\w*)\n(.*?)^```$', (TOP / 'docs/TOUR.md').read_text(), re.M | re.S)
 PIECES = [body for kind, body in BLOCKS if not kind]
 
@@ -19,29 +19,29 @@ def lines_of(name):
 
 
 def exchanged(name, line):
-    """The program with this line and the next one exchanged."""
+    """Returns the program with this line and the next one exchanged."""
     lines = lines_of(name)
     return lines[:line - 1] + [lines[line], lines[line - 1]] + lines[line + 1:]
 
 
 def put(name, line, text):
-    """The program with this text put before the line of this number."""
+    """Returns the program with this text before the line of this number."""
     lines = lines_of(name)
     return lines[:line - 1] + [text] + lines[line - 1:]
 
 
 def without(name, line):
-    """The program without the line of this number."""
+    """Returns the program without the line of this number."""
     lines = lines_of(name)
     return lines[:line - 1] + lines[line:]
 
 
 def with_piece(name, line, word):
-    """The program with the piece of the tour that has this word put before the line of this number."""
+    """Returns the program with the piece of the tour that has this word before the line of this number."""
     return put(name, line, ''.join(piece for piece in PIECES if word in piece))
 
 
-# Each example with a mistake, repaired as the tour says, and what `check` prints then.
+# For each example with a mistake: the repair of the tour, its line, and what `check` then prints.
 REPAIRS = {
     'note': (exchanged, 6, 'ok: 0 contracts, 1 methods\n'),
     'state_forgotten': (functools.partial(with_piece, word='customer.Price'), 22, 'ok: 1 contracts, 2 methods\n'),
@@ -66,14 +66,14 @@ def nothing_found(name, program):
 
 
 def replayed(program, folder, entry, events):
-    """What `replay` prints of the program in this folder along these events."""
+    """Returns what `replay` prints for the program in this folder along these events."""
     (folder / 'schedule').write_text(''.join(events))
     words = [program, 'replay', folder / 'repaired.sg', entry, folder / 'schedule']
     return subprocess.run(words, capture_output=True, timeout=60, stdin=subprocess.DEVNULL).stdout.decode()
 
 
 def walked(program, folder, entry, chance):
-    """What is printed of a run that meets a fault. Its events are taken by chance, and those at which it would wait are left out."""
+    """Returns the answer for a random run that meets a fault, if it does. Events that are no steps are left out."""
     events = []
     for _ in range(EVENTS):
         events.append('%d %d\n' % (chance.choice([0, 0, 1, 2]), chance.choice([0, 0, 0, 1])))
@@ -86,7 +86,7 @@ def walked(program, folder, entry, chance):
 
 
 def no_fault(name, program):
-    """The schedule that meets the fault of the example meets none after the repair, and no other one does."""
+    """The schedule that meets the fault of the example meets none after the repair, and neither does a random one."""
     repair, line, _ = REPAIRS[name]
     program, entry = refusals.itself(program), ENTRIES[name]
     with tempfile.TemporaryDirectory() as made:

@@ -1,9 +1,9 @@
-"""Schedules with a malformed line, and entries with which no run can begin: each is refused with a line of its own, status 2."""
+"""Tests schedules with a malformed line, and entries that no run can begin with: each is refused with a line of its own and status 2."""
 import pathlib
 
 TEXT = pathlib.Path(__file__).resolve().parent / 'replays' / 'server_waits' / 'input.sg'
 
-# A schedule, and the number of its first malformed line. Empty lines count.
+# Each schedule with the number of its first malformed line. Empty lines count.
 MALFORMED = {
     'letters': (b'a b\n', 1),
     'one_number': (b'0 0\n\n0', 3),
@@ -46,7 +46,7 @@ ENTRIES = ['K.None', 'K.Number', 'K.Block', 'K.Lent', 'K.Claimed', 'K.Scalar', '
 
 
 def cases(folder):
-    """The cases, whose inputs are written to this folder: (name, folder, arguments, stdout, stderr, status)."""
+    """Writes the inputs to this folder, and returns the cases: (name, folder, arguments, stdout, stderr, status)."""
     (folder / 'server.sg').write_bytes(TEXT.read_bytes())
     (folder / 'heads.sg').write_bytes(HEADS)
     (folder / 'malformed').write_bytes(b'x\n')

@@ -1,5 +1,5 @@
-"""The language server: a client in a script opens, changes and closes texts, and is told just what `check` prints, and with it the
-traces that `why` prints."""
+"""Tests the language server. A scripted client opens, changes and closes texts, and gets exactly what `check` prints, with the traces that
+`why` prints."""
 import json
 import os
 import pathlib
@@ -18,7 +18,7 @@ WAIT = 60  # seconds for an answer that has to come
 
 
 class Client:
-    """A client of the server, which keeps what it is told by notifications."""
+    """A client of the server that keeps what notifications bring."""
 
     def __init__(self, program, encodings=('utf-8',), related=False):
         words = [TOP / 'tools' / 'lsp', *(['--program', program] if program else [])]
@@ -67,7 +67,7 @@ class Client:
         return self.until(lambda: self.answers.pop(self.number, None))
 
     def until(self, given):
-        """What is given, as soon as it is not None."""
+        """Waits until `given` returns something other than None, and returns that."""
         ended = time.monotonic() + WAIT
         with self.news:
             while True:
@@ -84,7 +84,7 @@ class Client:
         self.tell('textDocument/didChange', textDocument={'uri': uri, 'version': version}, contentChanges=[{'text': text}])
 
     def found(self, uri, version):
-        """The diagnostics of this version of a text."""
+        """Returns the diagnostics of this version of a text."""
         return self.until(lambda: self.published.get(uri) if self.published.get(uri, {}).get('version') == version else None)['diagnostics']
 
     def at(self, uri, line, character):
@@ -108,13 +108,13 @@ def with_client(test, **how):
 
 
 def checked(program, data):
-    """What `check` prints of a text: places, codes and texts."""
+    """Returns what `check` prints for a text: places, codes and texts."""
     said = subprocess.run([program, 'check', '/dev/stdin'], input=data, stdout=subprocess.PIPE, check=False).stdout.decode()
     return [(int(it[1]), int(it[2]), it[3], it[4]) for it in map(FINDING.fullmatch, said.splitlines()) if it]
 
 
 def told(diagnostics, text):
-    """Diagnostics as the program would print them, for a text of which each line ends in LF and that has no byte order mark."""
+    """Returns diagnostics as the program would print them, for a text with LF line ends and no byte order mark."""
     return [(its['range']['start']['line'] + 1, its['range']['start']['character'] + 1, its['code'], its['message']) for its in diagnostics]
 
 
@@ -123,12 +123,12 @@ def unlike(asked, given, of=''):
 
 
 def texts():
-    """The texts of the cases, and of the examples."""
+    """Returns the texts of the cases and the examples."""
     return sorted([*TOP.glob('cases/*/*/input.sg'), *TOP.glob('examples/*.sg')])
 
 
 def plain(data):
-    """A text that the protocol can say as it is, and of which it counts the lines as the program does."""
+    """Returns whether the protocol can carry a text unchanged and counts its lines as the program does."""
     try:
         return not data.startswith(b'\xef\xbb\xbf') and b'\r' not in data and data.decode('utf-8').encode() == data
     except UnicodeDecodeError:
@@ -136,7 +136,7 @@ def plain(data):
 
 
 def each_text_has_its_findings(client, program):
-    """What the server says of each text of the cases is what `check` prints of it."""
+    """For each text of the cases and examples the server publishes what `check` prints."""
     found = []
     for number, path in enumerate(texts()):
         data = path.read_bytes()
@@ -153,7 +153,7 @@ NOTE = (TOP / 'examples' / 'note.sg').read_text()
 
 
 def edits_faster_than_runs(client, _):
-    """Of twenty texts that change faster than they are checked, the last change of each is what counts."""
+    """If twenty texts change faster than they are checked, the last change of each counts."""
     uris = ['file:///edit%d.sg' % number for number in range(20)]
     for uri in uris:
         client.open(uri, NOTE)
@@ -171,14 +171,14 @@ def edits_faster_than_runs(client, _):
 
 
 def columns_are_the_clients(client, _):
-    """Behind letters of two and four bytes, a column counts the units that were agreed on."""
+    """After letters of two and four bytes, a column counts the agreed units."""
     client.open('file:///wide.sg', NOTE.replace('    note.pages = 2;', '/* \u00e4 \U0001f600 */ note.pages = 2;'))
     start = client.found('file:///wide.sg', 1)[0]['range']['start']
     return unlike({'utf-8': 14, 'utf-16': 11}[client.can['positionEncoding']], start['character']) + unlike(6, start['line'])
 
 
 def other_ends_of_lines(client, _):
-    """CR LF and a mark at the front change no place, and after a CR alone a client counts another line."""
+    """CR LF and a byte order mark change no place. After a CR alone a client counts another line."""
     found = []
     given = (('crlf', NOTE.replace('\n', '\r\n'), 6), ('mark', '\ufeff' + NOTE, 6), ('cr', NOTE.replace('// ', '/* \r */ // ', 1), 7))
     for name, text, line in given:
@@ -189,7 +189,7 @@ def other_ends_of_lines(client, _):
 
 
 def explained(program, data):
-    """The traces that `why` prints of a text: after the place, code and text of each finding the places and texts of its trace."""
+    """Returns what `why` prints for a text: the place, code and text of each finding, and the places and texts of its trace."""
     said = subprocess.run([program, 'why', '/dev/stdin'], input=data, stdout=subprocess.PIPE, check=False).stdout.decode()
     made = []
     for line in said.splitlines():
@@ -202,7 +202,7 @@ def explained(program, data):
 
 
 def traces_are_related_places(client, program):
-    """A client that can show related places gets the trace of each finding: of a note by hand, and of texts what `why` prints."""
+    """A client that can show related places gets each trace: here that of the note, worked out by hand, and what `why` prints for texts."""
     client.open('file:///note.sg', NOTE)
     start, deleted = client.found('file:///note.sg', 1)[0]['relatedInformation']
     found = unlike({'location': {'uri': 'file:///note.sg', 'range': {'start': {'line': 4, 'character': 20}, 'end': {
@@ -222,7 +222,7 @@ def traces_are_related_places(client, program):
 
 
 def findings_without_traces(program):
-    """If the program does not know `why`, or takes long for it, the findings come from `check`."""
+    """If the program does not know `why`, takes long for it or prints only part of it, the findings come from `check`."""
     found = []
     for name, answer in (('unknown', 'exit 2'), ('slow', 'exec sleep 600'), ('cut', 'echo "7:5 A01 note not owned"; exit 1')):
         with tempfile.TemporaryDirectory() as folder:
@@ -242,8 +242,8 @@ def findings_without_traces(program):
 
 
 def pages_and_bounds(client, _):
-    """Where the cursor is on a finding its page is shown, after the trace since the client cannot show related places, and on a
-    contract's name its bounds."""
+    """A hover over a finding shows the page of its code, after the trace because this client cannot show related places. A hover over a
+    contract's name shows its bounds."""
     client.open('file:///note.sg', NOTE)
     its = client.found('file:///note.sg', 1)[0]
     shown = client.ask('textDocument/hover', **client.at('file:///note.sg', 6, 5))['result']['contents']['value']
@@ -279,7 +279,7 @@ def names_lead_to_declarations(client, _):
 
 
 def parts_of_a_diagnostic(client, _):
-    """A finding is an error of singcheck with its code, over the word at its place, and with a link to the page of the code."""
+    """A finding is an error of singcheck with its code, on the word at its place, with a link to the page of the code."""
     client.open('file:///note.sg', NOTE)
     its = client.found('file:///note.sg', 1)[0]
     page = its.pop('codeDescription')['href']
@@ -289,7 +289,7 @@ def parts_of_a_diagnostic(client, _):
 
 
 def refusals(client, _):
-    """What the server does not know, or cannot read, gets the error of the protocol, and it goes on."""
+    """A request that the server does not know or cannot read gets the error of the protocol, and the server continues."""
     found = unlike(-32601, client.ask('textDocument/rename')['error']['code'])
     found += unlike(-32602, client.ask('textDocument/hover')['error']['code'])
     client.tell('$/setTrace', value='off')
@@ -311,7 +311,7 @@ def a_client_that_dies(client, _):
 
 
 class Slow:
-    """A program that does not know `why`, and of which a `check` notes its process and does not end."""
+    """A program that does not know `why`. Its `check` notes its process and does not end."""
 
     def __enter__(self):
         self.folder = tempfile.TemporaryDirectory()
@@ -325,12 +325,12 @@ class Slow:
         self.folder.cleanup()
 
     def runs(self, count):
-        """The processes of so many runs, as soon as these have begun."""
+        """Waits until `count` runs have begun, and returns their processes."""
         return awaited(lambda: self.noted.exists() and len(self.noted.read_text().split()) >= count and self.noted.read_text().split())
 
 
 def awaited(given):
-    """What is given, as soon as it is true; at last what is not."""
+    """Waits until `given` returns something true, and returns that, or the last value after the time limit."""
     ended = time.monotonic() + WAIT
     while not given() and time.monotonic() < ended:
         time.sleep(0.02)
@@ -342,7 +342,7 @@ def is_over(process):
 
 
 def an_overtaken_run_is_stopped(_):
-    """The run on an older text ends when a newer one comes, long before its own end, and the last one when the text is closed."""
+    """The run on an older text is stopped when a newer one comes, and the last run when the text is closed."""
     with Slow() as slow:
         client = Client(str(slow.program))
         try:
@@ -360,7 +360,7 @@ def an_overtaken_run_is_stopped(_):
 
 
 def a_server_that_is_killed(program):
-    """A server that is told to end stops the run that goes on, and one that is started anew knows the text as it is then."""
+    """A server that gets SIGTERM stops its current run, and a new server reports the findings of the text as it then is."""
     with Slow() as slow:
         client = Client(str(slow.program))
         client.open('file:///note.sg', NOTE)
@@ -385,7 +385,7 @@ def a_large_text(client, program):
 
 
 def not_built(_):
-    """Without a program the user is told so, once."""
+    """Without a program the user gets one message about it."""
     with tempfile.TemporaryDirectory() as folder:
         client = Client(os.path.join(folder, 'none'))
         try:

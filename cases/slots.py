@@ -1,5 +1,5 @@
-"""That `--slots` is the size of the table: with less memory than the words of a large table take, a check in it runs out of memory,
-and a check in a small one does not."""
+"""Tests that `--slots` is the size of the table: in less memory than the words of a large table take, a check with a large table runs out
+of memory, and one with a small table does not."""
 import pathlib
 import subprocess
 

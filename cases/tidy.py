@@ -1,4 +1,4 @@
-"""`tools/tidy` finds nothing new in the repository, and finds each kind of break in a small one that is made for a test."""
+"""Tests that `tools/tidy` finds nothing new in the repository, and finds each kind of break in a small one made for a test."""
 import os
 import pathlib
 import shutil
@@ -135,13 +135,13 @@ FOUND = ['crates/low/src/lib.rt:3 no doc comment on Bare, it is public',
 
 
 def run(top, *words):
-    # Not the file itself: it was just written, and while another thread starts a program the system may take it for open.
+    # Python runs the tool: its file was just written, and may still count as open while another thread starts a program.
     return subprocess.run([sys.executable, top / 'tools' / 'tidy', *words], stdin=subprocess.DEVNULL, stdout=subprocess.PIPE,
                           stderr=subprocess.STDOUT, timeout=60, text=True, env=dict(os.environ, PYTHONDONTWRITEBYTECODE='1'))
 
 
 def made(folder, known):
-    """A small repository with the tool and this list."""
+    """Makes a small repository with the tool and this list."""
     for name, text in {**FILES, 'tools/tidy.txt': known}.items():
         (folder / name).parent.mkdir(parents=True, exist_ok=True)
         (folder / name).write_text(text)
@@ -166,7 +166,7 @@ def each_kind_is_found(_):
 
 
 def what_is_listed_stays(_):
-    """Of what is listed nothing is said, unless it has no reason or is mended."""
+    """Listed breaks are not reported, unless an entry has no reason or its break is mended."""
     known = [line.partition(',')[0].partition(' ') for line in FOUND]
     known = ['%s %s: a reason' % (place.partition(':')[0], what) for place, _, what in known]
     found = []

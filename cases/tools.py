@@ -1,4 +1,4 @@
-"""The scripts of `tools` on reports and texts whose answers follow from what they promise, and on what the program reports."""
+"""Tests the scripts of `tools` on reports and texts whose answers follow from their documentation, and on reports of the program."""
 import pathlib
 import re
 import subprocess
@@ -20,14 +20,14 @@ def differs(ran, stdout, stderr=b'', status=1):
 
 
 def show(text, report, *words):
-    """What `show` prints for a report of this text."""
+    """Runs `show` on a report of this text."""
     with tempfile.TemporaryDirectory() as folder:
         (pathlib.Path(folder) / 'a.sg').write_bytes(text)
         return run('show', *words, 'a.sg', report=report, cwd=folder)
 
 
 def one(text, finding, line, caret):
-    """A finding without a page: the line that is shown, and the one with the caret below it."""
+    """Compares a finding without a page with the shown line, and the line with the caret below it."""
     place, rest = finding.split(' ', 1)
     number = place.split(':')[0]
     gutter = ' ' * len(number)
@@ -47,8 +47,8 @@ TRACED = b'4:1 Z99 here\n  2:3 p new\n  2:6 p sent as X on e\n  3:1 condition tr
 
 
 def a_trace(_):
-    """Under a finding the lines of its trace in the order of the path, each place with a dash and its words. A line is not shown twice in
-    a row. A place that the text lacks has no line of the text."""
+    """The trace is below its finding, in the order of the path, each place with a dash and its words. A line is not shown twice in a row. A
+    place that is not in the text has no line of the text."""
     text = b'class K {\n  p e;\nwhile\nend\n'
     asked = ('a.sg:4:1: Z99 here\n  |\n4 | end\n  | ^\n  |\n2 |   p e;\n  |   - p new\n  |      - p sent as X on e\n'
              '3 | while\n  | - condition true\n2 |   p e;\n  |   - p new\n\n'
@@ -59,7 +59,7 @@ def a_trace(_):
 
 
 def a_trace_of_longer_numbers(_):
-    """The numbers of a finding and of its trace stand below each other."""
+    """The line numbers of a finding and of its trace are aligned."""
     text = b'\n' * 8 + b'p\n' + b'q\n'
     asked = b'a.sg:9:1: Z99 here\n   |\n 9 | p\n   | ^\n   |\n10 | q\n   | - q new\n\nfindings: 1\n'
     return differs(show(text, b'9:1 Z99 here\n  10:1 q new\nfindings: 1\n'), asked)
@@ -79,7 +79,7 @@ def tabs(_):
 
 
 def columns_count_bytes(_):
-    # The letter takes two bytes and one column of a terminal, the sign behind it three bytes and two columns.
+    # The letter takes two bytes and one column of a terminal, and the character after it three bytes and two columns.
     return one('/* ä界 */ p'.encode(), '1:13 Z99 here', '/* ä界 */ p', ' ' * 10 + '^')
 
 
@@ -101,17 +101,17 @@ def end_of_a_line(_):
 
 
 def what_a_terminal_obeys(_):
-    # An escape, a byte that is no UTF-8, and a sign that turns the direction of the line.
+    # An escape, a byte that is not UTF-8, and a character that reverses the direction of the line.
     return one(b'//\x1b[2J\xff\xe2\x80\xaex', '1:11 Z99 here', '//␛[2J��x', ' ' * 8 + '^')
 
 
 def long_line(_):
-    # Sixty bytes in front of the place and sixty from there on.
+    # Sixty bytes before the place, and sixty from there on.
     return one(b'a' * 500 + b'#' + b'b' * 500, '1:501 Z99 here', '..' + 'a' * 60 + '#' + 'b' * 59 + '..', ' ' * 62 + '^')
 
 
 def long_line_cut_at_letters(_):
-    # The sixty bytes in front begin within a letter of two bytes, and those behind end within one: a letter is shown whole or not.
+    # The sixty bytes before the place begin inside a letter of two bytes, and those after it end inside one. Such letters are left out.
     line = ('ä' * 100 + 'x#' + 'ä' * 100).encode()
     return one(line, '1:202 Z99 here', '..' + 'ä' * 30 + 'x#' + 'ä' * 29 + '..', ' ' * 33 + '^')
 
@@ -137,7 +137,7 @@ def report_not_whole(_):
 
 
 def run_of_a_schedule(program):
-    """What `replay` prints of a run is no report, be it whole or not. The report that it prints in place of a run is one."""
+    """What `replay` prints of a run is not a report, whole or not. The report that it prints in place of a run is one."""
     words = [program, 'replay', 'examples/hand_over.sg', 'Desk.Main', 'examples/hand_over.schedule']
     printed = subprocess.run(words, cwd=TOP, capture_output=True, timeout=60).stdout
     refused = b'show: this is a run, printed by replay; a report of check, why or bounds is asked for\n'

@@ -1,4 +1,4 @@
-"""What the tools share: reports of `check`, `why` and `bounds`, how a finding is shown, and how a tool ends."""
+"""What the tools share: reading reports of `check`, `why` and `bounds`, showing findings, and ending a tool."""
 import collections
 import functools
 import json
@@ -17,7 +17,7 @@ CODES = TOP / 'docs' / 'codes'
 FINDING = re.compile(r'(\d+):(\d+) ([A-Z]\d\d) (.*)')
 NOTE = re.compile(r'  (\d+):(\d+) (.*)')
 MARK = b'\xef\xbb\xbf'
-WINDOW = 60  # how many bytes of a long line are shown before the place, and how many from there on, unless the terminal is narrower
+WINDOW = 60  # how many bytes of a long line are shown before the place, and as many after it, unless the terminal is narrower
 NARROWEST = 8
 FORMATS = ('plain', 'sarif', 'github', 'json')
 RED, BLUE, BOLD, OFF = '\x1b[31m', '\x1b[34m', '\x1b[1m', '\x1b[0m'
@@ -25,12 +25,12 @@ RED, BLUE, BOLD, OFF = '\x1b[31m', '\x1b[34m', '\x1b[1m', '\x1b[0m'
 # A finding, with the notes of its trace, which `why` prints below it.
 Finding = collections.namedtuple('Finding', 'line column code text trace')
 Note = collections.namedtuple('Note', 'line column text')
-# How wide the output may be (None: as wide as it is), and whether it has colours.
+# The greatest width of the output (None: no limit), and whether it has colours.
 Style = collections.namedtuple('Style', 'width colours')
 
 
 def parsed(report):
-    """The findings of a report and its other lines, or None if it does not end as a report ends."""
+    """Returns the findings of a report and its other lines, or None if its last line is not that of a complete report."""
     lines = report.split('\n')
     if lines.pop() != '' or not lines:
         return None
@@ -48,7 +48,7 @@ def parsed(report):
 
 
 def shown(character):
-    """A character that a terminal may be given: one that moves the cursor or turns the direction of the line is replaced."""
+    """Returns a character that is safe to print. It replaces one that moves the cursor or changes the direction of the line."""
     if character == '\t':
         return '    '
     if unicodedata.category(character) not in ('Cc', 'Cf', 'Cs', 'Zl', 'Zp'):
@@ -63,12 +63,12 @@ def visible(data):
 
 
 def visible_name(name):
-    """A file name that may be printed: what a terminal would obey is replaced."""
+    """Returns a file name that is safe to print. It replaces characters that control a terminal."""
     return name if name.isascii() and name.isprintable() else ''.join(map(shown, name))
 
 
 def width(text):
-    """How many columns of a terminal a text takes."""
+    """Returns how many columns of a terminal a text takes."""
     if text.isascii():
         return len(text)
     flat = (character for character in text if unicodedata.category(character) not in ('Mn', 'Me'))
@@ -76,7 +76,7 @@ def width(text):
 
 
 def boundary(line, at):
-    """The first byte of the character to which this byte belongs. UTF-8 has at most three more."""
+    """Returns where the character begins to which this byte belongs. In UTF-8 at most three more bytes follow the first."""
     if at >= len(line):
         return at
     back = next((k for k in range(min(3, at) + 1) if line[at - k] & 0xC0 != 0x80), 0)
@@ -84,8 +84,8 @@ def boundary(line, at):
 
 
 def excerpt(line, column, window=WINDOW):
-    """What is shown of a line, and how far to the right the caret is. Columns count bytes. Only what is shown is copied, since a long line
-    may have a finding at each place."""
+    """Returns the shown part of a line, and how far to the right the caret is. Columns count bytes. It copies only the shown part, since a
+    long line may have a finding at each place."""
     size = len(line) - line.endswith(b'\r')
     at = min(column - 1, size)
     start, end = boundary(line, max(0, at - window)), min(boundary(line, at + window), size)
@@ -95,7 +95,7 @@ def excerpt(line, column, window=WINDOW):
 
 @functools.lru_cache(maxsize=None)
 def repair(code):
-    """The line of the code's page that begins with `Repair:`, or None if there is no page."""
+    """Returns the rest of the line on the code's page that begins with `Repair:`, or None if there is none."""
     page = CODES / (code + '.md')
     lines = page.read_text(encoding='utf-8').splitlines() if page.exists() else []
     return next((line[len('Repair: '):] for line in lines if line.startswith('Repair: ')), None)
@@ -103,7 +103,7 @@ def repair(code):
 
 @functools.lru_cache(maxsize=None)
 def title(code):
-    """The title of the code's page, without the code."""
+    """Returns the title of the code's page without the code, or the code if there is no page."""
     page = CODES / (code + '.md')
     return page.read_text(encoding='utf-8').splitlines()[0].lstrip('# ').partition(': ')[2] if page.exists() else code
 
@@ -121,7 +121,7 @@ def painted(colour, text, style):
 
 
 def wrapped(front, text, style):
-    """A text after this front, in lines that fit."""
+    """Returns a text in lines that fit, the first one after this front and the others indented as far."""
     if style.width is None:
         return [front + text]
     room = max(style.width - len(front), NARROWEST)
@@ -130,19 +130,19 @@ def wrapped(front, text, style):
 
 
 def is_in(lines, it):
-    """Whether a finding or a note has its place in these lines."""
+    """Returns whether the place of a finding or a note is in these lines."""
     return it.line <= len(lines) and it.column <= len(lines[it.line - 1]) + 1
 
 
 def line_shown(gutter, lines, it, style):
-    """The line of a place as it is shown, and how far to the right the place is."""
+    """Returns the line of a place as it is shown, and how far to the right the place is."""
     room = WINDOW if style.width is None else min(WINDOW, max(NARROWEST, (style.width - len(gutter) - 7) // 2))
     line, right = excerpt(lines[it.line - 1], it.column, room)
     return (painted(BLUE, str(it.line).rjust(len(gutter)) + ' |', style) + ' ' + line).rstrip(), right
 
 
 def traced(gutter, lines, trace, style):
-    """The lines that are printed for a trace: each line of the text with a mark under each place, and the words of the note."""
+    """Returns the printed lines of a trace: each line of the text, a mark under each place, and the text of the note."""
     said, last = [], None
     bar = painted(BLUE, gutter + ' |', style)
     for it in trace:
@@ -161,7 +161,7 @@ def traced(gutter, lines, trace, style):
 
 
 def described(name, lines, finding, style=Style(None, False)):
-    """The lines that are printed for a finding."""
+    """Returns the printed lines of a finding."""
     gutter = ' ' * len(str(max(it.line for it in (finding, *finding.trace))))
     said = [painted(BOLD, heading(name, finding), style)]
     if is_in(lines, finding):
@@ -177,7 +177,7 @@ def described(name, lines, finding, style=Style(None, False)):
 
 
 def text_of(name):
-    """The lines of a text, without a byte order mark, which no column counts."""
+    """Returns the lines of a file without its byte order mark, which no column counts."""
     return lines_of(pathlib.Path(name).read_bytes())
 
 
@@ -186,32 +186,32 @@ def lines_of(data):
 
 
 def characters(lines, it):
-    """The column of a finding or a note in characters in place of bytes, from 1."""
+    """Returns the column of a finding or a note in characters instead of bytes, from 1."""
     line = lines[it.line - 1] if it.line <= len(lines) else b''
     return len(line[:it.column - 1].decode('utf-8', 'replace')) + 1
 
 
 def as_plain(found):
-    """A line for each finding, and one for each note of its trace."""
+    """Returns a line for each finding and for each note of its trace."""
     return [line for name, _, it in found for line in [heading(name, it)] + [note_heading(name, note) for note in it.trace]]
 
 
 def as_json(found):
-    """One object a line, with a list of the trace's notes if there is a trace. The column counts bytes, as the program does."""
+    """Returns one object a line, with a list of the notes if there is a trace. Columns count bytes, as in the program."""
     objects = [{'file': name, 'line': it.line, 'column': it.column, 'code': it.code, 'text': it.text,
                 **({'trace': [note._asdict() for note in it.trace]} if it.trace else {})} for name, _, it in found]
     return [json.dumps(its) for its in objects]
 
 
 def escaped(text, more=''):
-    """A text in a workflow command."""
+    """Returns a text escaped for a workflow command."""
     for sign in '%\r\n' + more:
         text = text.replace(sign, '%%%02X' % ord(sign))
     return text
 
 
 def as_github(found):
-    """Workflow commands of GitHub, which become annotations of the lines. The notes of a trace are further lines of the message."""
+    """Returns GitHub workflow commands, which annotate the lines. The notes of a trace are further lines of the message."""
     said = []
     for name, lines, it in found:
         text = '\n'.join([it.text] + ['%d:%d %s' % note for note in it.trace])
@@ -221,19 +221,19 @@ def as_github(found):
 
 
 def location(name, lines, it):
-    """A place as a location of SARIF."""
+    """Returns a place as a SARIF location."""
     return {'physicalLocation': {'artifactLocation': {'uri': urllib.parse.quote(name, errors='surrogateescape')},
                                  'region': {'startLine': it.line, 'startColumn': characters(lines, it)}}}
 
 
 def flow(name, lines, finding):
-    """A trace as the one flow of a result: its notes, and at its end the finding."""
+    """Returns a trace as the only code flow of a result: the notes, then the finding. Without a trace there is no flow."""
     steps = [{'location': {**location(name, lines, it), 'message': {'text': it.text}}} for it in (*finding.trace, finding)]
     return {'codeFlows': [{'threadFlows': [{'locations': steps}]}]} if finding.trace else {}
 
 
 def as_sarif(found):
-    """SARIF 2.1.0, for code scanning. Columns count characters, and LF alone ends a line."""
+    """Returns a SARIF 2.1.0 log for code scanning. Columns count characters, and only LF ends a line."""
     codes = sorted({it.code for _, _, it in found})
     rules = [{'id': code, 'shortDescription': {'text': title(code)}, **({'help': {'text': repair(code)}} if repair(code) else {})}
              for code in codes]
@@ -245,20 +245,20 @@ def as_sarif(found):
 
 
 def formatted(kind, found):
-    """The lines of findings in a format. Each finding comes with the name of its file and the lines of its text."""
+    """Returns the lines of findings in a format. Each finding comes with the name of its file and the lines of its text."""
     return {'plain': as_plain, 'sarif': as_sarif, 'github': as_github, 'json': as_json}[kind](found)
 
 
 def style_of(stream):
-    """How a stream is written to: as wide as a terminal, and with colours if it wants them."""
+    """Returns the style for a stream: on a terminal its width, and colours unless the environment turns them off."""
     if not stream.isatty():
         return Style(None, False)
     return Style(shutil.get_terminal_size().columns, 'NO_COLOR' not in os.environ and os.environ.get('TERM') != 'dumb')
 
 
 def built(asked=None):
-    """The program to run: the one that is asked for, or the built one, or the one built without its proof, or the one that is installed;
-    None if there is none."""
+    """Returns the program to run, or None if there is none: `asked` if it is given, else the built one, the one built without its proof,
+    or `singcheck` on the PATH."""
     for path in [asked] if asked else [TOP / 'out' / 'singcheck', TOP / 'out' / 'unproved', 'singcheck']:
         found = shutil.which(str(path))
         if found:
@@ -277,8 +277,8 @@ def failed(tool, text, status):
 
 
 def ended(tool, main):
-    """Runs a tool and ends it as others end: by the signal, if its reader has enough or it is interrupted; with 3 if its output cannot be
-    written."""
+    """Runs a tool and exits with its status, or with 3 if the output cannot be written. A closed pipe or an interrupt ends the tool by
+    its signal, as is usual."""
     signal.signal(signal.SIGPIPE, signal.SIG_DFL)
     signal.signal(signal.SIGINT, signal.SIG_DFL)
     if not sys.stdout:
@@ -290,5 +290,5 @@ def ended(tool, main):
         sys.stdout.flush()
     except OSError as error:
         status = failed(tool, 'cannot write: %s' % error.strerror, 3)
-        os.dup2(os.open(os.devnull, os.O_WRONLY), 1)  # what was not written is not tried again
+        os.dup2(os.open(os.devnull, os.O_WRONLY), 1)  # so that Python does not try to write the rest at exit
     sys.exit(status)

@@ -1,4 +1,4 @@
-"""Types, traits and constants of crates/*/src, as tools/theorem lists them."""
+"""Reads types, traits and constants of crates/*/src for tools/theorem, which lists them."""
 import functools
 import pathlib
 import re
@@ -7,7 +7,7 @@ CRATES = pathlib.Path(__file__).resolve().parent.parent / 'crates'
 
 
 class SourceItem:
-    """A public type, trait or constant that definitions name: its lines without comments, and what its comments say."""
+    """A public type, trait or constant that definitions name: its lines without comments, and the text of its comments."""
 
     def __init__(self, crate, file, name):
         self.crate, self.name, self.path = crate, name, CRATES / crate / 'src' / (file + '.rt')
@@ -28,7 +28,7 @@ class SourceItem:
         return len(self.lines)
 
     def parts(self):
-        """Its lines without the names of its variants and fields, and without what is known of its values."""
+        """Returns its lines without names of variants and fields, and without the `ghost` lines that state facts about its values."""
         return '\n'.join(re.sub(r'^ +(?:pub )?\w+', '', line) for line in self.lines if not line.lstrip().startswith('ghost'))
 
 
@@ -39,7 +39,7 @@ def source_item(crate, file, name):
 
 @functools.cache
 def source_named(crate, name):
-    """The type, trait or constant that a crate of the repository shows under this name, or None."""
+    """Returns the type, trait or constant of this name that a crate of the repository shows, or None."""
     for path in sorted((CRATES / crate / 'src').rglob('*.rt')):
         if re.search(r'^pub(?:\(\w+\))? (?:const|enum|struct|trait) %s\b' % name, path.read_text(), re.M):
             return source_item(crate, path.stem, name)
@@ -48,14 +48,14 @@ def source_named(crate, name):
 
 @functools.cache
 def source_imports(path):
-    """The crate from which each name comes that a source file brings in."""
+    """Maps each name that a source file imports to its crate."""
     text = re.sub(r'^ *ghost use .*', '', path.read_text(), flags=re.M)
     return {name: path.parts[-3] if crate == 'crate' else crate
             for crate, names in re.findall(r'^use (\w+)::([^;]*);', text, re.M) for name in re.findall(r'\w+', names)}
 
 
 def source_meant(path, text):
-    """The types, traits and constants of the code that a text of a source file names."""
+    """Yields the types, traits and constants of the code that a text from a source file names."""
     crates = source_imports(path)
     for name in set(re.findall(r'(?<![\w.])[A-Z]\w+', text)):
         item = source_named(crates.get(name, path.parts[-3]), name)

@@ -1,4 +1,4 @@
-"""What the trial of a mutant rests on, and the record of trials: crates/NAME/edits/TRIED. `./edits` says when a mutant is due."""
+"""Finds what the trial of a mutant rests on, and keeps the record of trials, crates/NAME/edits/TRIED. `./edits --help` defines due."""
 import collections
 import datetime
 import functools
@@ -23,13 +23,13 @@ def text_of(path):
 
 @functools.cache
 def needs():
-    """Each crate with the libraries that it names."""
+    """Maps each crate to the libraries that it names."""
     lines = [line.partition('#')[0].partition(':') for line in text_of(TOP / 'crates.txt').splitlines()]
     return {front.split()[0]: rest.split() for front, _, rest in lines if front.strip()}
 
 
 def below(name):
-    """The crates of the repository that a crate stands on, also through others."""
+    """Returns the crates of the repository that a crate depends on, directly or through others."""
     found, left = [], list(needs()[name])
     while left:
         need = left.pop()
@@ -41,8 +41,9 @@ def below(name):
 
 @functools.cache
 def items(source):
-    """What a source shows to other crates: its public types, each with its own name and no other; its public calls, up to the line that
-    opens the body, each with the type that it is of, if it is of one, and its name; and what it says of the values of a type."""
+    """Returns what a source shows to other crates, each item as a type, a name and a text. A public type has an empty name. A public call
+    has its own name and the type that it belongs to, if any; its text ends at the line that opens the body. What the source states about
+    the values of a type has an empty name too."""
     found, of, type_of = [], None, ''
     for line in source.splitlines():
         if IMPL.match(line):
@@ -74,7 +75,7 @@ def items(source):
 
 @functools.cache
 def brought(path):
-    """The names that a file brings in from definitions, each with the file and the name there; and the files that it calls by a name."""
+    """Returns imported names of definitions with their file and their name there; and files that are imported whole, by their name here."""
     names, called = {}, {}
     for line in re.findall(r'^ *(?:ghost )?use Rattle\.\w+\.specs\.[^;\n]*', text_of(path), re.M):
         crate, declared, file = NAMED.search(line).groups()
@@ -88,7 +89,7 @@ def brought(path):
 
 @functools.cache
 def paragraphs(path):
-    """The paragraphs of a file of definitions, but for what it brings in and the heads of modules, by the names that they define."""
+    """Returns the paragraphs of a file of definitions by the names that they define, without imports and comments."""
     found = collections.defaultdict(list)
     for text in re.split(r'\n\s*\n', text_of(path) if path.exists() else ''):
         lines = [line for line in text.split('\n') if not re.match(r'\s*(use |--)', line)]
@@ -98,7 +99,7 @@ def paragraphs(path):
 
 
 def meant(path, text):
-    """The definitions that a text of a file names: each by the file and the name there."""
+    """Returns the definitions that a text from a file names, each as its file and its name there."""
     names, called = brought(path)
     words = set(re.findall(r'\w+', text))
     found = {names[word] for word in words & set(names)}
@@ -107,7 +108,7 @@ def meant(path, text):
 
 
 def reached(texts):
-    """The definitions that these texts of files name, and those that these name in turn: each with its text. And the files of types."""
+    """Returns the texts of the definitions that these texts name, directly or through others; and the source files of named types."""
     left = {it for path, text in texts for it in meant(path, text)}
     known, sources = set(left), set()
     while left:
@@ -122,7 +123,7 @@ def reached(texts):
 
 
 def exported(name):
-    """The source files of which a crate exports something."""
+    """Returns the source files from which a crate exports something."""
     lib = CRATES / name / 'src' / 'lib.rt'
     if not lib.exists():
         return []
@@ -132,13 +133,13 @@ def exported(name):
 
 
 def own_files(name):
-    """The sources and definitions of a crate."""
+    """Returns the sources and files of definitions of a crate."""
     return sorted([*(CRATES / name / 'src').rglob('*.rt'), *(CRATES / name / 'specs').rglob('*.antt')])
 
 
 @functools.cache
 def shown(crate):
-    """What a crate shows to those above it, each part with its file."""
+    """Returns what a crate shows to those above it, each part with its file."""
     return [(path, of, name, text) for path in exported(crate) for of, name, text in items(text_of(path))]
 
 
@@ -149,15 +150,15 @@ def types_of(crate):
 
 @functools.cache
 def brought_in(path):
-    """What a source names of other crates: each name with the crate."""
+    """Returns the names that a source uses from other crates, each with its crate."""
     source = text_of(path)
     found = {(crate, word) for crate, words in re.findall(r'\b(\w+)::\{([^}]*)\}', source) for word in re.findall(r'\w+', words)}
     return found | {(crate, word) for crate, way in re.findall(r'(?<!:)\b(\w+)((?:::\w+)+)', source) for word in re.findall(r'\w+', way)}
 
 
 def met(known, named):
-    """What a crate meets of those below it by what it names of them: types, what holds of their values, their calls of these names, and
-    calls of their own; and what the types are that these name."""
+    """Returns what a crate reaches in the crates below through the names `known`, each part with its file: types, facts about their values,
+    their calls in `named`, and calls that belong to no type. Types that these parts name are followed too."""
     left, known, found = list(known), set(known), []
     while left:
         crate, word = left.pop()
@@ -174,7 +175,7 @@ def met(known, named):
 
 @functools.cache
 def basis(name):
-    """What the refusal of any edit of a crate rests on."""
+    """Returns what the refusal of every mutant of a crate rests on."""
     own = own_files(name)
     named = set(re.findall(r'\w+(?=\()|(?<=::)\w+', '\n'.join(map(text_of, [*own, *edits_of(name)]))))
     known = {it for path in own for it in brought_in(path) if it[0] in needs()}
@@ -200,7 +201,7 @@ def edits_of(name):
 
 
 def rests_on(name, edit):
-    """What the refusal of an edit rests on."""
+    """Returns what the refusal of a mutant rests on: the mutant, the basis of its crate, and for a wrong rule more files."""
     parts = [text_of(edit), basis(name)]
     if name == RULES:
         changed = re.findall(r'^\+\+\+ b/(\S+)', text_of(edit), re.M)
@@ -214,7 +215,7 @@ def hash_of(name, edit):
 
 
 def tried(name):
-    """The lines of TRIED: the hash and the date of each edit."""
+    """Returns the lines of TRIED: the hash and the date of each mutant."""
     record = folder_of(name) / 'TRIED'
     lines = [line.split() for line in record.read_text().splitlines()] if record.exists() else []
     return {words[0]: words[1:] for words in lines if len(words) == 3}
@@ -226,7 +227,7 @@ def due(name):
 
 
 def note(name, refused, dates=None):
-    """Keeps which edits were refused, each on its date or now, and forgets those that are there no more."""
+    """Records the refused mutants, each with its date in `dates` or today, and drops mutants that no longer exist."""
     known, today = tried(name), datetime.date.today().isoformat()
     known.update({it.stem: [hash_of(name, it), (dates or {}).get(it.stem, today)] for it in edits_of(name) if it.stem in refused})
     lines = ['%s %s\n' % (it.stem, ' '.join(known[it.stem])) for it in edits_of(name) if it.stem in known]

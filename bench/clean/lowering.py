@@ -1,9 +1,9 @@
-"""Methods as lists of instructions, as the page on ownership has them: one event for each."""
+"""Lowers methods to the instructions of docs/OWNERSHIP.md. Each instruction takes one event."""
 import collections
 
 from clean.tree import Body, If, Say, Switch, While
 
-# Where a `break` and a `continue` go, and whether something goes out of scope on the way.
+# The points to which a `break` and a `continue` go, and whether a variable goes out of scope before that.
 Ways = collections.namedtuple('Ways', 'behind forgets_behind again forgets_again')
 
 
@@ -24,7 +24,7 @@ class Method:
         return len(self.code) - 1
 
     def block(self, body, behind, ways, bound=(), whole=False):
-        """The point where a block begins that goes on at the point behind it. Forgets are left out in a method's own block."""
+        """Returns the first point of a block that continues at `behind`. A method's own block has no Forgets."""
         there, before = bool(bound), []
         for statement in body:
             before.append(there)
@@ -75,7 +75,7 @@ class Method:
         return point
 
     def numbered(self, instruction, point):
-        """An instruction with numbers for its names, and the point behind it."""
+        """Returns an instruction with its next point, and with numbers in place of names."""
         word, *names = instruction
         if word == 'channel':
             return word, point, self.number(names[0]), self.number(names[1]), names[2]

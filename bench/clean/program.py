@@ -1,4 +1,4 @@
-"""Programs that are clean because of how they are made, for the runs of `bench/runs`."""
+"""Makes programs that are clean by construction, for `bench/runs`."""
 from clean.tree import BLOCKS, SIDES, Block, Contract, End, Message, Method, Struct, other
 from clean.talking import Talker
 
@@ -6,7 +6,7 @@ MOST_METHODS = 9
 
 
 def payload(chance, number, blocks):
-    """What a message brings: scalars, blocks, and endpoints of earlier contracts in their first state."""
+    """Returns the payload of a message: scalars, blocks, and endpoints of earlier contracts in their first state."""
     kinds = []
     for _ in range(chance.choice([0, 0, 1, 1, 2])):
         ends = [End(chance.randrange(number), chance.choice(SIDES), 0)] * 3 if number else []
@@ -15,7 +15,7 @@ def payload(chance, number, blocks):
 
 
 def contract(chance, number, blocks):
-    """A sound contract. Edges lead on to later states, or back to the first one from a state whose sender is the other end."""
+    """Returns a sound contract. Edges lead to later states, or back to the first one from a state with the other sender."""
     count, ends = chance.randint(2, 5), chance.random() < 0.5
     senders = [chance.choice(SIDES) for _ in range(count)]
     if not ends:
@@ -35,7 +35,7 @@ def contract(chance, number, blocks):
 
 
 def structs(chance, contracts, count):
-    """Structs whose fields own blocks, endpoints in their first state, and blocks of earlier structs."""
+    """Returns structs whose fields own blocks, endpoints in their first state, and blocks of earlier structs."""
     made = []
     for number in range(count):
         blocks = BLOCKS + [Block(struct.name + '* in ExHeap') for struct in made] * 2
@@ -45,7 +45,7 @@ def structs(chance, contracts, count):
 
 
 class Program:
-    """Contracts, structs, methods and their bodies. It begins with K.Main."""
+    """Contracts, structs, methods and their bodies. A run begins with K.Main."""
 
     def __init__(self, chance):
         self.chance = chance
@@ -58,7 +58,7 @@ class Program:
             self.bodies[method.name] = Talker(self, method).whole()
 
     def method_for(self, wanted, word, behind):
-        """A method that takes these, to be called or started: one of those behind so many, or a new one, whose body comes later."""
+        """Returns a method to call or start with these arguments, numbered `behind` or later, or a new one without a body yet, or None."""
         there = [m for m in self.methods[behind:] if [(kind, claimed) for _, kind, claimed in m.parameters] == wanted
                  and (word == 'call' or m.result is None)]
         if there and (self.chance.random() < 0.5 or len(self.methods) >= MOST_METHODS):

@@ -1,4 +1,4 @@
-"""Writes what a method says along channels: sends, switches, and ways through a contract; and so its whole body."""
+"""Writes the sends and switches of a method, and walks through a contract; and so its whole body."""
 from clean.tree import SIDES, Body, Case, Condition, Switch, While
 from clean.writer import Writer
 
@@ -6,16 +6,16 @@ MOST_ENDS, DEEPEST = 4, 3
 
 
 class Talker(Writer):
-    """A writer that knows what endpoints send and receive."""
+    """A writer that can also send and receive."""
 
     def edges(self, kind):
-        """The edges along which an endpoint sends, and those along which it receives."""
+        """Returns the edges along which an endpoint sends, and those along which it receives."""
         contract = self.contracts[kind.contract]
         edges = contract.states[kind.state]
         return (edges, {}) if contract.senders[kind.state] == kind.side else ({}, edges)
 
     def switch(self, body, names, write):
-        """A switch at these endpoints. `write` goes on in each case, and is told where something came and whether it is the close."""
+        """Writes a switch at these endpoints. `write` writes the rest of a case, given its endpoint and whether it is the close."""
         cases, ways = [], []
         in_switch, self.in_switch = self.in_switch, True
         for name in names:
@@ -45,7 +45,7 @@ class Talker(Writer):
             self.switch(body, chosen, lambda inner, name, closed: self.statements(inner, 2))
 
     def leads(self, kind, target, always):
-        """Whether an endpoint comes to a state, whatever is received on the way, or at least where the right message comes."""
+        """Returns whether an endpoint can reach a state: for any messages received on the way if `always`, or else for some."""
         if kind.state == target:
             return True
         sends, receives = self.edges(kind)
@@ -55,7 +55,7 @@ class Talker(Writer):
         return bool(onward) and (whole and all(onward) if always and receives else any(onward))
 
     def drive(self, body, name, target, always, on=False):
-        """Brings an endpoint to a state. It goes at least one edge, unless it is on its way."""
+        """Brings an endpoint to a state, along at least one edge. With `on` it has already begun."""
         kind = self.has[name]
         if on and kind.state == target:
             return
@@ -67,7 +67,7 @@ class Talker(Writer):
         self.drive(body, name, target, always, True)
 
     def driven(self, body, name, before, target, always, closed):
-        """A case on the way to a state. What leads elsewhere, and often a close, ends the method."""
+        """Writes a case on the way to a state. The method ends if the case leads elsewhere, and often at a close."""
         now = self.has[name]
         if closed and self.chance.random() < (0.1 if self.serving else 0.7):
             self.has[name] = before._replace(state=target)
@@ -79,13 +79,13 @@ class Talker(Writer):
             self.drive(body, name, target, always, True)
 
     def rounds(self, kind):
-        """Whether an endpoint comes back to its state, whatever comes, and goes at least one edge."""
+        """Returns whether an endpoint can return to its state, along at least one edge, for any messages received."""
         sends, receives = self.edges(kind)
         on = [self.leads(kind._replace(state=s), kind.state, True) for s in list(sends.values()) + list(receives.values())]
         return bool(on) and (all(on) if receives else any(on))
 
     def round(self, body):
-        """Lent endpoints and those of an outer loop go round."""
+        """Brings an endpoint in the first state, which may be lent or from an outer loop, round to that state again."""
         names = [v for v in self.ends() if self.has[v].state == 0 and self.rounds(self.has[v])]
         if names:
             name = self.chance.choice(names)
@@ -101,7 +101,7 @@ class Talker(Writer):
                 self.drive(body, name, self.chance.choice(targets), False)
 
     def serve(self, body):
-        """A loop that answers at an endpoint in the first state."""
+        """Writes a loop that serves an endpoint in the first state."""
         names = [v for v in self.free(self.ends()) if self.has[v].state == 0 and self.returns(self.has[v])]
         if not names:
             return
@@ -132,7 +132,7 @@ class Talker(Writer):
             self.give_away(body, self.chance.choice(names))
 
     def opened(self, body):
-        """A channel, of which one end mostly goes to a process of its own."""
+        """Opens a channel, and mostly starts a process with one end."""
         names = self.channel(body, self.chance.randrange(len(self.contracts)))
         if self.chance.random() < 0.8:
             name = names[self.chance.choice(SIDES)]
@@ -141,7 +141,7 @@ class Talker(Writer):
                 self.call(body, method, [name], 'start')
 
     def statement(self, body):
-        """One statement, which may come to nothing where it has nothing to do something with."""
+        """Writes one statement, or nothing if the chosen kind lacks a suitable variable."""
         kinds = [(2, lambda b: self.new(b, self.chance.choice(self.program.blocks))), (2, self.use), (1, self.move),
                  (4, self.exchange), (4, self.calls), (1, lambda b: self.calls(b, 'start')), (1, self.out_of_loop),
                  (1, self.some_delete)]
@@ -160,7 +160,7 @@ class Talker(Writer):
                 self.statement(body)
 
     def whole(self):
-        """The body of the method. It first does something at the endpoints that it is given."""
+        """Returns the body of the method. It first uses the endpoints among its parameters."""
         body = Body()
         for write in self.chance.sample([self.onward, self.round, self.serve], 2) if self.ends() else []:
             if not body.left:

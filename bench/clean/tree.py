@@ -1,4 +1,4 @@
-"""Programs as trees: contracts, methods, and the statements of their bodies; and how they stand in a text."""
+"""Programs as trees of contracts, methods and statements, and their texts."""
 import collections
 
 Message = collections.namedtuple('Message', 'name sends types')
@@ -6,16 +6,16 @@ Contract = collections.namedtuple('Contract', 'name messages states senders')
 Method = collections.namedtuple('Method', 'name parameters result scalar')
 End = collections.namedtuple('End', 'contract side state')
 Block = collections.namedtuple('Block', 'name')
-# What a struct has in its owning fields f0, f1, ..; it has a number n too.
+# `fields` has the kinds of the owning fields f0, f1, ..; each struct also has a number n.
 Struct = collections.namedtuple('Struct', 'name fields')
 
-# A statement with its instructions and the variables of the exchange heap that it declares; and those that hold other statements.
+# A simple statement has its instructions and the variables of the exchange heap that it declares. The others contain statements.
 Say = collections.namedtuple('Say', 'text instructions declares')
 If = collections.namedtuple('If', 'condition first other')
 While = collections.namedtuple('While', 'condition body')
 Switch = collections.namedtuple('Switch', 'cases')
 Case = collections.namedtuple('Case', 'endpoint message name bound body')
-# A condition goes one way where it is fixed.
+# `fixed` is the number of the only branch that a condition takes, or None.
 Condition = collections.namedtuple('Condition', 'text reads fixed')
 
 SIDES = ('Imp', 'Exp')
@@ -24,7 +24,7 @@ STRUCTS = 'rep struct Page { int n; bool b; }\nrep struct Note { byte n; int m; 
 
 
 class Body(list):
-    """Statements in a block; `break` and `continue` are just these words. It is left where no way leads to its end."""
+    """The statements of a block; `break` and `continue` are plain words. `left` is set if its end cannot be reached."""
     left = False
 
 
@@ -33,7 +33,7 @@ def other(side):
 
 
 def written(kind, contracts, with_state):
-    """A type as it stands in the text; a scalar is None."""
+    """Returns a type as the text has it; a scalar is None."""
     if kind in (None, 'int'):
         return 'int'
     if isinstance(kind, Block):
@@ -43,7 +43,7 @@ def written(kind, contracts, with_state):
 
 
 def struct_of(kind):
-    """The name of the struct of a block, or None for an array."""
+    """Returns the name of the struct of a block, or None for an array."""
     return kind.name.split('*')[0] if '*' in kind.name else None
 
 

@@ -1,7 +1,7 @@
 """Runs of lowered methods. A schedule is chosen event by event, so that each event is a step.
 
-This knows of the machine only what tells where a process goes on: queues, peers that are gone, and frames. Whether an event is a fault is
-the program's to say.
+This knows only as much of the machine as decides where a process continues: queues, freed peers and frames. Whether an event is a fault is
+left to the program.
 """
 import collections
 
@@ -11,10 +11,10 @@ ONE = (0,)
 
 
 class World:
-    """Processes as stacks of frames; of each block its owner, as it is printed, what its owning fields hold and whether it is freed, and of
-    an endpoint its peer and its queue; and what was met so far.
+    """The processes as stacks of frames, the blocks, and what was met so far. A block has its owner as printed, the blocks in its owning
+    fields, and whether it is freed; an endpoint also has its peer and its queue.
 
-    A process that waits is asleep until something comes at an endpoint of its switch."""
+    A process that waits is asleep until something arrives at an endpoint of its switch."""
 
     def __init__(self, methods):
         self.methods, self.met = methods, collections.Counter()
@@ -48,14 +48,14 @@ class World:
             self.owners[address] = owner
 
     def taken(self, frame, names):
-        """What these variables have, which have nothing then."""
+        """Takes what these variables have out of them, and returns it."""
         addresses = [frame[2][name] for name in names]
         for name in names:
             frame[2][name] = None
         return addresses
 
     def choices(self, process):
-        """The choices with which the next event of a process is a step: none where it waits, and then it sleeps."""
+        """Returns the choices that make the next event of a process a step. Without any, the process waits and falls asleep."""
         code, point, variables = self.stacks[process][-1]
         instruction = code[point]
         if instruction[0] == 'branch':
@@ -72,7 +72,7 @@ class World:
         return choices
 
     def wake(self, address):
-        """Something has come at an endpoint. Who has waited there may have been woken by another one, and gone on."""
+        """Wakes the process that waits at an endpoint, unless another endpoint has already woken it."""
         process = self.waits.pop(address, None)
         if process in self.asleep:
             self.asleep.remove(process)
@@ -84,7 +84,7 @@ class World:
         self.met[instruction[0]] += 1
         self.does[instruction[0]](process, frame, instruction, choice)
 
-    # An instruction each, with the number of the process, its innermost frame, the instruction and the choice.
+    # One method for each instruction. It gets the number of the process, its innermost frame, the instruction and the choice.
 
     def use(self, process, frame, instruction, choice):
         frame[1] = instruction[1]
@@ -122,7 +122,7 @@ class World:
             self.free(inside.pop(), inside)
 
     def free(self, address, inside):
-        """Frees a block alone, and adds what is directly inside it."""
+        """Frees one block, and adds the blocks directly inside it to `inside`."""
         self.freed[address] = True
         if self.peers[address] is None:
             self.met['a block freed'] += 1
@@ -198,7 +198,7 @@ setattr(World, 'return', World.end)
 
 
 def scheduled(methods, chance, most):
-    """A schedule, the world behind it, and why it ends: all processes have ended, all that are left wait, or it has enough events."""
+    """Returns a schedule, the world after it, and why it ends: all processes have ended, the rest wait, or it has enough events."""
     world, events, mode = World(methods), [], chance.choice(MODES)
     leaves, at = chance.choice([0.3, 0.5, 0.5, 0.8]), 0
     while world.ready and len(events) < most:
@@ -215,7 +215,7 @@ def scheduled(methods, chance, most):
 
 
 def preferred(number, mode, ready, last):
-    """The process that is to go on next."""
+    """Returns the process that takes the next step."""
     if mode == 'first' and number < 0.9:
         return min(ready)
     if mode == 'newest' and number < 0.8:

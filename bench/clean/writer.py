@@ -1,14 +1,14 @@
-"""Writes the body of a method: blocks of the exchange heap, calls, and ways that part and meet.
+"""Writes the body of a method: blocks of the exchange heap, calls, and branches that part and meet.
 
-The writer knows at each place which variables have what. An endpoint that it believes to be in a state is in that state or cut off, since
-what a state allows is allowed of an endpoint that is cut off too. Where ways meet, each gives away what not all of them still have.
+The writer knows at each place what each variable has. An endpoint that it takes to be in a state is in that state or cut off: a cut off
+endpoint may do whatever a state allows. When branches meet, each gives away what not all of them still have.
 """
 from clean.tree import SIDES, Block, Body, Condition, End, If, Say, While, struct_of, written
 
 
 
 class Writer:
-    """Writes the body of one method of a program. What is lent or frozen may be used, but not given away or brought to another state."""
+    """Writes the body of one method of a program. A lent or frozen variable may be used, but not given away or brought to another state."""
 
     def __init__(self, program, method):
         self.program, self.chance, self.method = program, program.chance, method
@@ -29,25 +29,25 @@ class Writer:
         return [v for v, kind in self.has.items() if isinstance(kind, Block)]
 
     def scalar_of(self, name):
-        """A scalar field of the block of a variable, or an element."""
+        """Returns the suffix for a scalar field of a variable's block, or for an element."""
         struct = struct_of(self.has[name])
         return '[0]' if struct is None else '.m' if struct == 'Note' else '.n'
 
     def fields_of(self, kind):
-        """What the owning fields of a block hold."""
+        """Returns the kinds of the owning fields of a block."""
         return next((struct.fields for struct in self.program.structs if isinstance(kind, Block) and struct.name == struct_of(kind)), [])
 
     def free(self, names):
-        """Those that may be given away or brought to another state."""
+        """Returns those of the names that may be given away or brought to another state."""
         return [v for v in names if v not in self.lent and v not in self.frozen]
 
-    # Statements that say one thing.
+    # Simple statements.
 
     def say(self, body, text, *instructions, declares=()):
         body.append(Say(text, instructions, declares))
 
     def read(self):
-        """A number, and the variables that are read for it."""
+        """Returns a numeric expression and the instructions for its reads."""
         names = self.blocks()
         if not names or self.chance.random() < 0.5:
             return self.chance.choice(['n', str(self.chance.randint(0, 9)), 'n + 1']), []
@@ -62,7 +62,7 @@ class Writer:
         return Condition('%s %s %d' % (text, self.chance.choice(['<', '==', '>=']), self.chance.randint(0, 9)), reads, None)
 
     def new(self, body, kind, name=None, but=()):
-        """A new block in a variable, filled with what is there but for some variables, or with what is made for it."""
+        """Writes a new block for a variable and returns its name. Its fields take variables other than `but`, or new ones."""
         given = []
         for field in self.fields_of(kind):
             given.append(self.made(body, field, given + list(but)))
@@ -82,7 +82,7 @@ class Writer:
         return name
 
     def exchange(self, body):
-        """A field and a variable change places."""
+        """Exchanges a field and a variable."""
         holders = [v for v in self.blocks() if self.fields_of(self.has[v])]
         if holders:
             holder = self.chance.choice(holders)
@@ -102,7 +102,7 @@ class Writer:
         return names
 
     def made(self, body, kind, but=()):
-        """A variable of this kind: one that is there, or a new one."""
+        """Returns a variable of this kind other than `but`: an existing or a new one."""
         there = [v for v in self.free(self.has) if self.has[v] == kind and v not in but]
         if there and self.chance.random() < 0.6:
             return self.chance.choice(there)
@@ -113,12 +113,12 @@ class Writer:
         del self.has[name]
 
     def method_for(self, wanted, word):
-        """A method to call or to start. One that is begun already is taken on some ways only, so that not every run is endless."""
+        """Returns a method to call or start, or None. Only in a branch is it this method or an earlier one, so not every run is endless."""
         behind = 1 if self.deep and self.chance.random() < 0.7 else self.program.methods.index(self.method) + 1
         return self.program.method_for(wanted, word, behind)
 
     def give_away(self, body, name):
-        """Frees a variable's block, or starts a process with it."""
+        """Frees what a variable has, or starts a process with it."""
         kind = self.has[name]
         if isinstance(kind, End) and name not in self.lent and self.chance.random() < 0.6:
             method = self.method_for([(kind, True)], 'start')
@@ -180,10 +180,10 @@ class Writer:
             self.say(body, '%s %s = %s;' % (written(kind, self.contracts, False), to, name), ('move', to, name), declares=(to,))
             self.has[to] = kind
 
-    # Ways out, and where ways meet.
+    # Exits, and how branches meet.
 
     def leave(self, body):
-        """The method ends here."""
+        """Ends the method."""
         result = None
         if self.method.result not in (None, 'int'):
             result = self.made(body, self.method.result)
@@ -193,7 +193,7 @@ class Writer:
         body.left = True
 
     def way(self, write, bound=()):
-        """What a way leads through, and what is there behind it; what is declared on it is given away at its end."""
+        """Writes a branch. Returns its body and what the variables have after it. At its end it gives away what it declares."""
         before, body = dict(self.has), Body()
         self.deep += 1
         self.has.update(bound)
@@ -206,7 +206,7 @@ class Writer:
         return body, behind
 
     def meet(self, ways):
-        """Ways meet: what not all of them have in one state is given away. True where no way comes here."""
+        """Joins branches, which delete what not all of them have in the same state. Returns True if no branch reaches its end."""
         live = [(body, has) for body, has in ways if not body.left]
         if live:
             same = {v: kind for v, kind in live[0][1].items() if all(has.get(v) == kind for _, has in live)}
@@ -217,7 +217,7 @@ class Writer:
         return not live
 
     def restored(self, body, wanted):
-        """What a loop has where it goes round."""
+        """Gives the variables what a loop needs to start its next round."""
         for name in [v for v in wanted if v not in self.has]:
             self.new(body, wanted[name], name, wanted)
         for name in [v for v in self.has if v not in wanted]:
@@ -251,7 +251,7 @@ class Writer:
         body.append(While(condition, inner))
 
     def out_of_loop(self, body):
-        """A `break` or a `continue` on one way."""
+        """Writes a `break` or a `continue` under a condition."""
         if not self.loops:
             return
         word = 'continue' if self.in_switch else self.chance.choice(['break', 'continue'])
@@ -293,7 +293,7 @@ def declared_in(body, bound):
 
 
 def has_break(body):
-    """Whether a `break` in a body leaves the loop that it is the body of."""
+    """Returns whether a body has a `break` that leaves the loop around it."""
     for statement in body:
         inner = [statement] if isinstance(statement, Body) else []
         if isinstance(statement, If):

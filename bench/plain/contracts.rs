@@ -1,5 +1,5 @@
 //! A contract as a graph, and the four conditions on it: signs agree with the directions of messages, no state has a message twice or
-//! edges of both signs, and none lies on a closed walk of edges of one sign.
+//! edges of both signs, and none is on a closed walk of edges of one sign.
 use crate::names::{Contract, Edge, State};
 use crate::report::{Code, Findings};
 use crate::tree::{Direction, Sign};
@@ -8,7 +8,7 @@ use crate::walks::Walks;
 /// A contract with its edges sorted by the states that they leave.
 pub struct Graph<'a> {
     pub contract: Contract<'a>,
-    /// Where the edges of each state begin, and the number of all edges at the end.
+    /// The index of the first edge of each state, and at the end the number of all edges.
     starts: Vec<u32>,
 }
 
@@ -36,7 +36,7 @@ impl<'a> Graph<'a> {
         &self.contract.edges[self.starts[state] as usize..self.starts[state + 1] as usize]
     }
 
-    /// The states that can be reached from the start state.
+    /// Returns the states that can be reached from the start state.
     pub fn reached(&self) -> Vec<u32> {
         let mut seen = vec![false; self.states()];
         seen[0] = true;
@@ -65,7 +65,7 @@ pub fn check(graph: &Graph, walks: &Walks, findings: &mut Findings) {
     }
 }
 
-/// A text about a state, as it is printed: one without a name of its own in parentheses.
+/// Returns the text of a finding about a state. A state without a name of its own is printed in parentheses.
 fn about(what: &str, state: &State, findings: &Findings) -> String {
     let name = findings.shown(state.name);
     if state.named {

@@ -1,4 +1,4 @@
-//! Cuts a text into tokens. Blanks and comments are passed over.
+//! Cuts a text into tokens, without blanks and comments.
 use crate::report::{Code, Finding, Place};
 
 const DEEPEST: u32 = 100;
@@ -64,7 +64,7 @@ fn word_kind(word: &[u8]) -> Kind {
     }
 }
 
-/// The longest symbol that begins with these two bytes, and its length.
+/// Returns the longest symbol that these two bytes begin with, and its length.
 fn symbol(first: u8, second: u8) -> Option<(Kind, usize)> {
     let two = match (first, second) {
         (b'=', b'=') => Kind::Equal,
@@ -103,7 +103,7 @@ fn one_byte_symbol(byte: u8) -> Option<Kind> {
     })
 }
 
-/// Leading zeros don't count.
+/// Returns whether a number passes the limit. Leading zeros do not count.
 fn too_large(digits: &[u8]) -> bool {
     let zeros = digits.iter().take_while(|digit| **digit == b'0').count();
     let digits = &digits[zeros..];
@@ -125,7 +125,7 @@ impl Lexer<'_> {
         self.at = end;
     }
 
-    /// Where the run of such bytes ends that begins here.
+    /// Returns the end of the run of such bytes that begins here.
     fn run_end(&self, belongs: impl Fn(u8) -> bool) -> usize {
         let rest = &self.text[self.at..];
         self.at + rest.iter().position(|byte| !belongs(*byte)).unwrap_or(rest.len())
@@ -206,7 +206,7 @@ impl Lexer<'_> {
     }
 }
 
-/// The tokens of the text, or the first thing in it that is no token. A byte order mark at the front is passed over.
+/// Returns the tokens of the text, or the finding at the first place that is no token. Skips a byte order mark at the front.
 pub fn tokens(text: &[u8]) -> Result<Tokens, Finding> {
     let begin = if text.starts_with(BYTE_ORDER_MARK) { BYTE_ORDER_MARK.len() } else { 0 };
     let mut lexer = Lexer { text, at: begin, line: 1, line_start: begin, depth: 0, tokens: Vec::new() };

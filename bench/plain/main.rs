@@ -1,10 +1,10 @@
-//! A plain program of one thread that does the work of `singcheck bounds FILE` and is proved in nothing: what the times of the proved
-//! program are held against. It uses owned trees, vectors, sorted tables and std alone, and goes through every stage as the proved one
-//! does: tokens, the whole tree, names and types of contracts, structs and method bodies, the conditions on contracts, their bounds.
+//! A plain program with one thread and without proofs that does the work of `singcheck bounds FILE`, for comparison with the times of the
+//! proved program. It uses owned trees, vectors, sorted tables and only std. It has the same stages as the proved program: tokens, the
+//! whole tree, names and types of contracts, structs and method bodies, the conditions on contracts, their bounds.
 //!
 //!     rustc -O --edition 2021 -o plain main.rs && ./plain bounds FILE
 //!
-//! It prints what is wrong with the text (exit status 1), or how long the queues of each contract can be (exit status 0).
+//! It prints the findings in the text (exit status 1), or the bounds of the queues of each contract (exit status 0).
 mod contracts;
 mod lexer;
 mod names;
@@ -28,7 +28,7 @@ fn found(findings: Findings) -> Answer {
     (findings.report(), false)
 }
 
-/// A text fault is the only finding of its report.
+/// Returns a report with one finding, such as that of a text fault.
 fn found_one(text: &[u8], finding: Finding) -> Answer {
     let mut findings = Findings::new(text);
     findings.push(finding);
@@ -73,7 +73,7 @@ fn bounds(text: &[u8], graphs: &[Graph], walks: &[Walks]) -> String {
     lines + &format!("ok: {} contracts\n", graphs.len())
 }
 
-/// Reads one byte more than a text may have at most, so that a longer one is known.
+/// Reads at most one byte more than a text may have, enough to recognise a longer one.
 fn read(name: &str) -> std::io::Result<Vec<u8>> {
     let mut text = Vec::new();
     std::fs::File::open(name)?.take(LONGEST_TEXT as u64 + 1).read_to_end(&mut text)?;

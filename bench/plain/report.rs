@@ -32,7 +32,7 @@ pub enum Code {
     C04,
 }
 
-/// The fields stand in the order by which the report is sorted.
+/// The order of the fields is the sort order of the report.
 #[derive(PartialEq, Eq, PartialOrd, Ord)]
 pub struct Finding {
     place: Place,
@@ -46,7 +46,7 @@ impl Finding {
     }
 }
 
-/// A name where it is written.
+/// An occurrence of a name in the text.
 pub type Name<'a> = &'a Token;
 
 /// The findings in a text.
@@ -60,7 +60,7 @@ impl<'a> Findings<'a> {
         Findings { text, list: Vec::new() }
     }
 
-    /// A name as it is printed. Names are letters, digits and underscores, so nothing is lost.
+    /// Returns a name as it is printed. Names consist of letters, digits and underscores, so nothing is lost.
     pub fn shown(&self, name: Name) -> Cow<'a, str> {
         String::from_utf8_lossy(name.word(self.text))
     }
@@ -97,7 +97,7 @@ impl<'a> Findings<'a> {
         self.add(name.place, Code::N06, "limit passed");
     }
 
-    /// The lines in order, each once: two checks may come to the same line.
+    /// Returns the lines in order, each once, since two checks can have the same finding.
     pub fn report(mut self) -> String {
         self.list.sort();
         self.list.dedup();

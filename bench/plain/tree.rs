@@ -1,6 +1,6 @@
-//! The tree of a program: a node for each rule of the grammar, with what the text leaves open as an `Option`, a flag or a list.
+//! The tree of a program: a node for each rule of the grammar. Optional and repeated parts are an `Option`, a flag or a list.
 //! Chains of operators are lists and not nested nodes, so that no tree is deeper than its brackets.
-// The tree is whole, although the bounds of contracts don't ask for every piece of it.
+// The tree is whole, although the bounds of contracts do not need every part of it.
 #![allow(dead_code)]
 use crate::report::{Name, Place};
 
@@ -55,7 +55,7 @@ pub struct Path<'a> {
     pub target: Name<'a>,
 }
 
-/// `!` is sent by the exporter and `?` received by it.
+/// The exporter sends at `!` and receives at `?`.
 #[derive(Clone, Copy, PartialEq, Eq)]
 pub enum Sign {
     Sent,
@@ -111,7 +111,7 @@ pub enum Side {
     Exporter,
 }
 
-/// `marked` is an exclamation mark behind the type.
+/// `marked` is set if an exclamation mark follows the type.
 pub enum Type<'a> {
     Scalar(Scalar),
     Pointer { target: Name<'a>, marked: bool },
@@ -141,14 +141,14 @@ pub enum Statement<'a> {
     Switch { place: Place, cases: Vec<Case<'a>> },
 }
 
-/// A test and what is done where it holds; the place is that of its `if` or `while`.
+/// A test and the block that runs if it holds. The place is that of its `if` or `while`.
 pub struct Arm<'a> {
     pub place: Place,
     pub test: Expression<'a>,
     pub body: Block<'a>,
 }
 
-/// `message` is the word `ChannelClosed` where `closed` is set.
+/// `message` is the word `ChannelClosed` if `closed` is set.
 pub struct Case<'a> {
     pub place: Place,
     pub endpoint: Name<'a>,
@@ -217,7 +217,7 @@ impl<'a> Target<'a> {
 }
 
 impl Expression<'_> {
-    /// The place of its first token.
+    /// Returns the place of its first token.
     pub fn place(&self) -> Place {
         match self {
             Expression::Number(place) | Expression::Truth(_, place) | Expression::Bracketed(place, _) => *place,

@@ -1,4 +1,4 @@
-//! Walks of edges of one sign: which states lie on a closed one, and how long the longest from each state is.
+//! Walks of edges of one sign: which states are on a closed walk, and the length of the longest walk from each state.
 use crate::contracts::Graph;
 use crate::tree::Sign;
 
@@ -10,17 +10,17 @@ pub struct Walks {
     received: Vec<Node>,
 }
 
-/// What the search knows of a state.
+/// What the search knows about a state.
 #[derive(Clone)]
 struct Node {
-    /// When it was first seen, and when the earliest state was that it is known to reach and to be reached from.
+    /// Its number in the order of discovery, and the lowest number among the states known to reach it and to be reached from it.
     order: u32,
     earliest: u32,
-    /// The number of edges in the longest walk from it; of use only where there is no closed walk.
+    /// The number of edges in the longest walk from it. Only valid if there is no closed walk.
     length: u32,
-    /// Its component isn't known yet.
+    /// Set until its component is known.
     open: bool,
-    /// It lies on a closed walk: in a component with others, or with an edge to itself.
+    /// Set if it is on a closed walk: in a component with others, or with an edge to itself.
     closed: bool,
 }
 
@@ -33,8 +33,8 @@ impl Walks {
         self.sent[state].closed || self.received[state].closed
     }
 
-    /// How long the queues to the exporter and to the importer can be: the length of the longest walk from a state that can be reached.
-    /// The contract has met its conditions.
+    /// Returns the bounds of the queues to the exporter and to the importer: the lengths of the longest walks from reachable states.
+    /// The contract has to meet its conditions.
     pub fn bounds(&self, graph: &Graph) -> (u32, u32) {
         let reached = graph.reached();
         let longest = |nodes: &[Node]| reached.iter().map(|state| nodes[*state as usize].length).max().unwrap_or(0);
@@ -50,7 +50,7 @@ struct Search<'g, 'a> {
     seen: u32,
     /// The open states, in the order in which they were seen.
     open: Vec<u32>,
-    /// The states of the path that is followed, each with the number of its next edge.
+    /// The states of the current path, each with the number of its next edge.
     path: Vec<(u32, u32)>,
 }
 
@@ -117,7 +117,7 @@ impl Search<'_, '_> {
         if earliest != order {
             return;
         }
-        // The component is what was seen since the state, and the state itself.
+        // The component is the state and all open states seen after it.
         let alone = self.open.last() == Some(&state);
         while let Some(member) = self.open.pop() {
             let node = &mut self.nodes[member as usize];

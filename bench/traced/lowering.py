@@ -1,9 +1,9 @@
-"""Methods as lists of instructions, by the table of docs/OWNERSHIP.md. A point is the number of an instruction."""
+"""Lowers methods to lists of instructions, by the table of docs/OWNERSHIP.md. A point is the index of an instruction."""
 from traced.reading import Body, instruction
 
 
 class Method:
-    """The instructions of a method, made from its end to its beginning, and the point at which it begins."""
+    """The instructions of a method, built from its end to its beginning, and its first point."""
 
     def __init__(self, text, signature):
         body = Body(text, signature)
@@ -21,7 +21,7 @@ class Method:
         return point
 
     def several(self, statements, point, behind, again):
-        """The point at which statements begin that continue at a given point. A `break` goes to `behind`, a `continue` to `again`."""
+        """Returns the first point of statements that continue at `point`. A `break` goes to `behind`, a `continue` to `again`."""
         for word, *parts in reversed(statements):
             point = getattr(self, '_' + word)(*parts, point, behind, again)
         return point
@@ -54,5 +54,5 @@ class Method:
 
 
 def went(fixed, inside, past):
-    """The points to which a condition may go, the one for true first."""
+    """Returns the points to which a condition can lead, the one for true first."""
     return (inside, past) if fixed is None else (inside,) if fixed else (past,)

@@ -1,4 +1,4 @@
-"""Reads texts in which nothing is wrong but ownership: contracts, structs, and methods whose statements hold their instructions."""
+"""Reads texts whose only findings may be those in methods. The statements of a method have their instructions."""
 import collections
 import re
 from types import SimpleNamespace
@@ -9,7 +9,7 @@ ACCESS = ('public', 'private', 'internal')
 MARK = b'\xef\xbb\xbf'
 
 Token = collections.namedtuple('Token', 'word place')
-# A kind of the exchange heap: an endpoint with the state that is written, or a block with its struct; either may be None. Scalars are None.
+# A kind: an endpoint with its written state or None, a block with its struct or None for an array, or None for a scalar.
 End = collections.namedtuple('End', 'contract side state')
 Block = collections.namedtuple('Block', 'struct')
 Variable = collections.namedtuple('Variable', 'name kind role')
@@ -33,7 +33,7 @@ def instruction(word, place, **more):
 
 
 class Reader:
-    """A place among tokens."""
+    """A position in a list of tokens."""
 
     def __init__(self, tokens, at=0):
         self.tokens, self.at = tokens, at
@@ -49,7 +49,7 @@ class Reader:
         return token
 
     def has(self, word):
-        """Whether the word is next; it is taken then."""
+        """Takes the word if it is next, and returns whether it was."""
         there = self.word() == word
         self.at += there
         return there
@@ -72,7 +72,7 @@ class Reader:
         return made
 
     def listed(self, end, read):
-        """The items up to an end, with commas between them."""
+        """Reads items with commas between them, up to an end."""
         found = []
         while not self.has(end):
             found.append(read())
@@ -81,7 +81,7 @@ class Reader:
 
 
 class Text(Reader):
-    """The items of a text. Bodies are read later, when all items are known."""
+    """The items of a text. Bodies are read later, once all items are known."""
 
     def __init__(self, data):
         super().__init__(tokens_of(data))
@@ -191,7 +191,7 @@ class Text(Reader):
 
 
 class Body(Reader):
-    """The statements of a method, and its variables of the exchange heap by their numbers, in order of declaration."""
+    """The statements of a method, and its variables of the exchange heap, numbered in order of declaration."""
 
     def __init__(self, text, method):
         super().__init__(text.tokens, method.at)
@@ -206,7 +206,7 @@ class Body(Reader):
         self.statements.append(('chain', [end]))
 
     def declare(self, name, kind, role='local'):
-        """The number of a variable, or None for a scalar."""
+        """Declares a variable and returns its number, or None for a scalar."""
         number = None
         if kind:
             number = len(self.variables)
@@ -221,7 +221,7 @@ class Body(Reader):
         return any(name in scope for scope in self.scopes)
 
     def owned(self, level=0):
-        """The variables of the exchange heap in scope that are declared within so many blocks."""
+        """Returns the variables of the exchange heap that are declared in scopes from `level` on."""
         return [number for scope in self.scopes[level:] for number in scope.values() if number is not None]
 
     def forget(self, level, place):
@@ -255,7 +255,7 @@ class Body(Reader):
         return 'chain', found
 
     def other(self):
-        """A declaration, a call, a send, a new channel or an assignment. What follows the first name decides."""
+        """Reads a declaration, a call, a send, a new channel or an assignment. The words after the first name decide which."""
         if self.word() in SCALARS or self.word(1) == '*' or self.word(1) == '.' and self.word(2) in ('Imp', 'Exp'):
             return self.declaration()
         if self.word(1) == '.' and self.word(2) == 'NewChannel':
@@ -265,7 +265,7 @@ class Body(Reader):
     def is_call(self):
         return self.word(1) == '(' or self.word(1) == '.' and self.word(3) == '('
 
-    # Of an expression only its reads count. It ends at a comma, a semicolon or a closing bracket that is not its own.
+    # Only the reads of an expression count. It ends at a comma, a semicolon or a closing bracket that is not its own.
 
     def expression(self):
         begun, deep = self.at, 0
@@ -286,7 +286,7 @@ class Body(Reader):
         return len(tokens) == 1 and self.number(tokens[0].word) is not None
 
     def arguments(self):
-        """The reads of the arguments, and the variables that they give."""
+        """Returns the reads of the arguments, and the variables given as arguments."""
         self.take('(')
         reads, given = [], []
         for number, tokens in enumerate(self.listed(')', self.expression)):
@@ -297,14 +297,14 @@ class Body(Reader):
         return reads, given
 
     def condition(self):
-        """The reads of a condition, and its value if it is just `true` or `false`."""
+        """Returns the reads of a condition, and its value if it is just `true` or `false`."""
         self.take('(')
         tokens = self.expression()
         self.take(')')
         fixed = {'true': True, 'false': False}.get(tokens[0].word) if len(tokens) == 1 else None
         return self.reads(tokens), fixed
 
-    # Statements that are a chain of instructions.
+    # Statements that become a chain of instructions.
 
     def declaration(self):
         kind, token = self.kind(), self.take()
@@ -409,7 +409,7 @@ class Body(Reader):
             return [instruction('return', place, value=value, scope=self.owned())]
         return self.reads(tokens) + [instruction('return', place, value=None, scope=self.owned())]
 
-    # Statements that hold others, and those that leave them.
+    # Statements that contain others, and those that leave them.
 
     def branch(self):
         place = self.take('if').place
@@ -464,7 +464,7 @@ class Body(Reader):
         return Case(endpoint.variable, endpoint.place, message, [(v, kind) for v, kind in zip(bound, kinds) if kind], body)
 
     def bound(self):
-        """The name that a case binds, with or without a type."""
+        """Reads a name that a case binds, with or without a type."""
         if self.word(1) not in (',', ')'):
             self.kind()
         return self.take().word

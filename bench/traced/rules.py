@@ -1,10 +1,10 @@
-"""The rule table of docs/OWNERSHIP.md. A row has for each variable nothing, a block, cut off, or the number of a state."""
+"""The rule table of docs/OWNERSHIP.md. A row has a leaf for each variable: nothing, a block, cut off, or the number of a state."""
 
 NOTHING, BLOCK, CUT_OFF = 'has nothing', 'has a block', 'is cut off'
 
 
 class Failed(Exception):
-    """A check fails: the finding, and the variables that it is about."""
+    """A failed check: the finding, and the variables that it is about."""
 
     def __init__(self, place, code, text, about):
         super().__init__()
@@ -36,7 +36,7 @@ class Rules:
         return is_state(leaf) and leaf != self.declared(kind)
 
     def edges(self, variable, leaf, sends):
-        """The edges of an endpoint's state along which it sends, or along which it receives."""
+        """Returns the edges of an endpoint's state along which it sends, or those along which it receives."""
         if not is_state(leaf):
             return []
         sign = '?' if (self.variables[variable].kind.side == 'Imp') == sends else '!'
@@ -45,7 +45,7 @@ class Rules:
     def fail(self, place, code, text, variable, *more):
         raise Failed(place, code, self.variables[variable].name + text, [variable, *more])
 
-    # Checks of several instructions.
+    # Checks that several instructions share.
 
     def owned(self, row, variable, place):
         if row[variable] == NOTHING:
@@ -68,7 +68,7 @@ class Rules:
             seen.add(each.variable)
 
     def step(self, point, row):
-        """The successors of a pair; raises Failed if a check fails."""
+        """Returns the successors of a pair. Raises Failed if a check fails."""
         made = self.method.code[point]
         return [pair for _, pair in self.arrivals(made, row)] if made.word == 'switch' else getattr(self, '_' + made.word)(made, row)
 
@@ -136,7 +136,7 @@ class Rules:
         return [(made.next, put(row, changed))]
 
     def arrivals(self, made, row):
-        """The cases by which a switch may go on, each with the pair to which it leads."""
+        """Returns the cases that a switch can take, each with the pair to which it leads."""
         cases = {(case.endpoint, case.message): (case, point) for case, point in reversed(made.cases)}
         endpoints = {}
         for case, _ in made.cases:
@@ -157,7 +157,7 @@ class Rules:
         return found
 
     def passed(self, made, row):
-        """The row after a call or a start has claimed its arguments."""
+        """Returns the row after a call or a start has claimed its arguments."""
         self.once(made.given)
         claimed = []
         for number, variable, place in made.given:

@@ -1,4 +1,4 @@
-"""What lines show a finding of a contract: which sign a message takes, an earlier edge, an edge of each sign, a ring of one sign."""
+"""The lines that show a finding in a contract: the sign of a message, an earlier edge, an edge of each sign, or a ring of one sign."""
 import collections
 from types import SimpleNamespace
 
@@ -9,7 +9,7 @@ TAKES = {'in': 'an in message takes ?', 'out': 'an out message takes !'}
 
 
 class Contracts(Reader):
-    """The contracts of a text with nothing wrong before them, by their places."""
+    """The contracts of a text without findings of earlier stages. Their states and edges have places."""
 
     def __init__(self, data):
         super().__init__(tokens_of(data))
@@ -47,7 +47,7 @@ class Contracts(Reader):
                     self.take()
 
     def state(self, made):
-        """A state: its place by how it is printed, which no other state of the contract shares, and its edges."""
+        """Reads a state: how it is printed, by its place, and its edges. No other state of the contract has this place."""
         name, place = self.take()
         made.states[place] = name
         self.take(':')
@@ -79,7 +79,7 @@ class Contracts(Reader):
 
 
 def joined(contract):
-    """The edges with the place of the state in which each ends."""
+    """Returns the edges, with the place of the next state in place of its name."""
     named = {}
     for place, name in contract.states.items():
         named.setdefault(name, place)
@@ -91,7 +91,7 @@ def line(contract, edge):
 
 
 def ways_round(edges, state, sign):
-    """The length of a shortest way round of this sign, or None."""
+    """Returns the length of a shortest ring of this sign through a state, or None."""
     front, seen, steps = {state}, set(), 0
     while front:
         steps += 1
@@ -103,7 +103,7 @@ def ways_round(edges, state, sign):
 
 
 def is_round(contract, edges, state, lines):
-    """Whether the lines are those of a shortest way round from a state."""
+    """Returns whether the lines are those of a shortest ring of one sign from a state."""
     at, signs = state, set()
     for shown in lines:
         fit = [edge for edge in edges if edge.start == at and line(contract, edge) == shown]
@@ -115,7 +115,7 @@ def is_round(contract, edges, state, lines):
 
 
 def shows(data, finding, lines):
-    """Whether the lines show the finding of a contract: its place and its code."""
+    """Returns whether the lines show a finding in a contract, given its place and code."""
     place, code = finding
     for contract in Contracts(data).contracts:
         edges = joined(contract)

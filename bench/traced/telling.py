@@ -1,10 +1,10 @@
-"""The lines of a path through a method: its choices, and what it does to the variables that a finding is about."""
+"""The lines of a path through a method: its choices, and the changes of the variables that a finding is about."""
 import collections
 
 from traced.rules import NOTHING, Failed, Rules, is_state
 
 MOST_PAIRS = 20000
-# A finding: its distance, the pairs at this distance that fail with it, and the variables that it is about.
+# What is known of a finding: its distance, the pairs at this distance that fail with it, and the variables that it is about.
 Found = collections.namedtuple('Found', 'distance pairs about')
 
 
@@ -40,7 +40,7 @@ class Search:
         return self.method.variables[variable].name
 
     def has(self, variable, leaf):
-        """The words for what a variable has."""
+        """Returns the words for what a variable has."""
         return '%s %s' % (self.name(variable), 'in ' + self.rules.contract(variable).names[leaf] if is_state(leaf) else leaf)
 
     def beginning(self, about):
@@ -48,7 +48,7 @@ class Search:
         return [(*self.method.signature.place, self.has(v, row[v])) for v in about if row[v] != NOTHING]
 
     def lines(self, about, before, after):
-        """The lines of a step."""
+        """Returns the lines of a step."""
         made, told = self.method.code[before[0]], []
         place = made.place
         if made.word == 'branch' and len(set(made.ways)) == 2:
@@ -61,7 +61,7 @@ class Search:
             place = taken[0].place
         changed = [v for v in about if before[1][v] != after[1][v]]
         if made.word == 'move':
-            del changed[1:]  # it changes two variables, and is told once
+            del changed[1:]  # a move changes two variables, but has one line
         return told + [(*place, self.change(made, v, after[1][v])) for v in changed]
 
     def change(self, made, variable, leaf):
@@ -79,7 +79,7 @@ class Search:
         return self.has(variable, leaf)
 
     def is_told(self, finding, lines):
-        """Whether some shortest path to the finding has these lines."""
+        """Returns whether some shortest path to the finding has these lines."""
         found = self.found[finding]
         first = self.beginning(found.about)
         here = {(self.begin, len(first))} if lines[:len(first)] == first else set()
@@ -94,7 +94,7 @@ class Search:
         return any((pair, len(lines)) in here for pair in found.pairs)
 
     def example(self, finding):
-        """The lines of a shortest path to the finding."""
+        """Returns the lines of a shortest path to the finding."""
         found = self.found[finding]
         path, before = [found.pairs[0]], {}
         for pair, others in self.next.items():

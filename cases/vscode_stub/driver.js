@@ -1,5 +1,5 @@
-// Starts the extension with a program and a text, kills its server as soon as there are findings, and prints what the extension shows when
-// it has started another one: findings with their traces, the outline, and the page at the first finding.
+// Starts the extension with a program and a text, and kills its server as soon as there are findings. Once the extension has started
+// another server, prints what the extension shows: findings with their traces, the outline, and the page at the first finding.
 'use strict';
 
 const childProcess = require('child_process');

@@ -1,4 +1,4 @@
-// Stands for the editor's own module `vscode` in a test: keeps what the extension registers, and prints what it is shown.
+// Replaces the editor's module `vscode` in a test: keeps what the extension registers, and prints the messages that it shows.
 'use strict';
 
 const fs = require('fs');

@@ -1,5 +1,5 @@
-// Starts the language server of this repository, tools/lsp, and shows what it says. The protocol's messages are read and written here, so
-// that nothing has to be fetched for the extension.
+// Starts the language server of this repository, tools/lsp, and shows what it reports. This file reads and writes the protocol's messages
+// itself, so the extension needs no packages.
 'use strict';
 
 const childProcess = require('child_process');
@@ -9,10 +9,10 @@ const vscode = require('vscode');
 
 const LANGUAGE = 'sing';
 const SERVER = path.join(fs.realpathSync(__dirname), '..', '..', 'tools', 'lsp');
-const STARTS = 5; // how often the server is started, if it ends by itself
+const STARTS = 5; // how many times the server is started if it keeps ending by itself
 const KINDS = { 5: 'Class', 6: 'Method', 11: 'Interface', 22: 'EnumMember', 23: 'Struct', 24: 'Event' };
 
-/** The server as a process: requests with their answers, and notifications in both directions. */
+/** The server process: takes requests and returns their answers; notifications go in both directions. */
 class Server {
   constructor(words, notified, ended) {
     this.child = childProcess.spawn(words[0], words.slice(1), { stdio: ['pipe', 'pipe', 'ignore'] });
@@ -27,7 +27,7 @@ class Server {
       this.waiting.forEach(answer => answer(null));
       ended(null);
     });
-    this.child.stdin.on('error', () => {}); // a server that has ended says so by 'exit'
+    this.child.stdin.on('error', () => {}); // the event 'exit' reports that the server has ended
     this.child.stdout.on('data', data => this.take(data));
   }
 
@@ -63,7 +63,7 @@ class Server {
     this.write({ method, params });
   }
 
-  /** The result, or null if the server has none or has ended. */
+  /** Resolves to the result, or to null if the server reports an error or has ended. */
   ask(method, params) {
     if (this.over) return Promise.resolve(null);
     const id = (this.number += 1);

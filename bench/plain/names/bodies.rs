@@ -19,7 +19,7 @@ pub struct Body<'t, 'a> {
     pub method: &'t Method<'a>,
     pub findings: &'t mut Findings<'a>,
     scope: BTreeMap<&'a [u8], Variable>,
-    /// The names in scope in order of declaration, so that the last ones can be taken out again.
+    /// The names in scope in order of declaration, so that the end of a scope can remove the last ones.
     names: Vec<&'a [u8]>,
     variables: usize,
     heap_variables: usize,
@@ -45,7 +45,7 @@ impl<'a> Body<'_, 'a> {
         self.scope.get(self.word(name)).copied()
     }
 
-    /// The variable, or a finding.
+    /// Returns the variable, or adds a finding.
     pub fn look_up(&mut self, name: Name) -> Option<Variable> {
         let variable = self.find(name);
         if variable.is_none() {
@@ -69,7 +69,7 @@ impl<'a> Body<'_, 'a> {
         self.variables += 1;
     }
 
-    /// Does this with a scope of its own: what is declared within is out of scope behind it.
+    /// Runs `inner` in a scope of its own. What it declares goes out of scope afterwards.
     pub fn scoped(&mut self, inner: impl FnOnce(&mut Self)) {
         let before = self.names.len();
         inner(self);
@@ -112,7 +112,7 @@ impl<'a> Body<'_, 'a> {
         }
     }
 
-    /// The statements that lead on to others.
+    /// Checks the statements that contain others.
     fn control(&mut self, statement: &Statement<'a>) {
         match statement {
             Statement::If { arms, otherwise } => {
@@ -181,7 +181,7 @@ impl<'a> Body<'_, 'a> {
         }
     }
 
-    /// The side of an end of this contract; a finding where it is no end of it, or the side is taken.
+    /// Returns the side of an end of this contract. Adds a finding if it is no end of it, or if the side is taken.
     fn end(&mut self, typed: Type, contract: usize, taken: Option<Side>, place: Place) -> Option<Side> {
         match typed {
             Type::Unknown => None,
@@ -193,7 +193,7 @@ impl<'a> Body<'_, 'a> {
         }
     }
 
-    /// The type that is asked of the value for a target.
+    /// Returns the type that a value for this target has to have.
     fn assigned(&mut self, target: &Target<'a>) -> Type {
         match target {
             Target::Variable(name) => self.look_up(*name).map_or(Type::Unknown, |variable| variable.typed),
@@ -201,7 +201,7 @@ impl<'a> Body<'_, 'a> {
             Target::Field(name, field) => {
                 let typed = self.field(*name, *field);
                 let array = self.find(*name).is_some_and(|variable| matches!(variable.typed, Type::Array(_)));
-                // The length of an array is read and not written.
+                // The length of an array cannot be assigned.
                 if array && typed == INT || self.owns(*name, *field) {
                     self.findings.wrong_type(field.place);
                 }

@@ -6,7 +6,7 @@ use super::{ItemNumber, Method, Parameter};
 use crate::report::{Code, Name, Place};
 use crate::tree::{Call, Direction, Expression, Side, Value};
 
-/// How a call stands in the text; as a value it is asked for a type.
+/// The kind of a call. A call as a value has to have a type.
 #[derive(Clone, Copy)]
 enum Standing {
     Statement,
@@ -14,7 +14,7 @@ enum Standing {
     Value(Type),
 }
 
-/// What a call is of, as far as its names are found.
+/// What a call resolves to, as far as its names are found.
 enum Callee<'t, 'a> {
     Endpoint(Name<'a>, Variable),
     Method(&'t Method<'a>),
@@ -75,7 +75,7 @@ impl<'t, 'a> Body<'t, 'a> {
         self.call(call, Standing::Start);
     }
 
-    /// The arguments are compared as far as there are parameters; the names in the others are looked up all the same.
+    /// Compares arguments with parameters. Names in surplus arguments are looked up too.
     fn arguments(&mut self, arguments: &[Expression<'a>], parameters: &[Parameter]) {
         for (number, argument) in arguments.iter().enumerate() {
             let typed = self.whole(argument);
@@ -138,7 +138,7 @@ impl<'t, 'a> Body<'t, 'a> {
         }
     }
 
-    /// The message that is sent, and the side that sends it.
+    /// Returns the message that is sent, and the side that sends it.
     fn sent(&mut self, call: &Call<'a>, of: Name, variable: Variable) -> Option<(&'t Message<'a>, Side)> {
         let (contract, side) = match variable.typed {
             Type::Unknown => return None,

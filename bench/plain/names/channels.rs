@@ -6,12 +6,12 @@ use crate::report::{Code, Name};
 use crate::tree::{self, Case, Direction, Side};
 use std::collections::{BTreeMap, BTreeSet};
 
-/// What the cases so far have named.
+/// What earlier cases have named.
 #[derive(Default)]
 struct Named<'a> {
     /// Endpoints by the numbers of their variables: the first mention, and whether there is a case for the closed channel.
     endpoints: BTreeMap<usize, (Name<'a>, bool)>,
-    /// Endpoints with a message, or with none for the closed channel.
+    /// Endpoints with a message, or with `None` for the closed channel.
     cases: BTreeSet<(usize, Option<u32>)>,
 }
 
@@ -34,7 +34,7 @@ impl<'t, 'a> Body<'t, 'a> {
         }
     }
 
-    /// Looks at what a case waits for, and gives the parameters of the message.
+    /// Checks what a case waits for, and returns the parameters of the message.
     fn awaited(&mut self, case: &Case<'a>, named: &mut Named<'a>) -> &'t [Parameter] {
         let Some(variable) = self.look_up(case.endpoint) else { return &[] };
         let end = match variable.typed {
@@ -59,7 +59,7 @@ impl<'t, 'a> Body<'t, 'a> {
         message.map_or(&[], |message| &self.tables.contracts[contract].messages[message as usize].parameters)
     }
 
-    /// The number of the message that a case receives.
+    /// Returns the number of the message that a case receives.
     fn received(&mut self, case: &Case<'a>, contract: usize, side: Side) -> Option<u32> {
         let contract = &self.tables.contracts[contract];
         let Some(number) = contract.message_names.get(self.word(case.message)) else {
@@ -80,7 +80,7 @@ impl<'t, 'a> Body<'t, 'a> {
         Some(number)
     }
 
-    /// Declares a bound name. Without a type of its own it has the parameter's.
+    /// Declares a bound name. Without a written type it has that of the parameter.
     fn bind(&mut self, written: Option<&tree::Type<'a>>, name: Name<'a>, parameter: Option<&Parameter>) {
         let given = parameter.map_or(Type::Unknown, |parameter| parameter.typed);
         let Some(written) = written else {

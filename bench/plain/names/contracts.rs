@@ -13,7 +13,7 @@ pub struct Message<'a> {
     pub parameters: Vec<Parameter>,
 }
 
-/// A state that a path goes through has no name of its own: it is called after the message that is next in the path.
+/// A state inside a path has no name of its own. It is named after the next message in the path.
 pub struct State<'a> {
     pub name: Name<'a>,
     pub named: bool,
@@ -27,7 +27,7 @@ pub struct Edge {
     pub place: Place,
 }
 
-/// A contract in numbers. Its states stand in the order of the text, the start state first.
+/// A contract in numbers. Its states are in the order of the text, the start state first.
 pub struct Contract<'a> {
     pub name: Name<'a>,
     pub messages: Vec<Message<'a>>,
@@ -61,7 +61,7 @@ pub fn declare<'a>(node: &tree::Contract<'a>, before: usize, findings: &mut Find
     Contract { name: node.name, messages, message_names, states, state_names, edges: Vec::new() }
 }
 
-/// The parameters of each message, in order.
+/// Returns the parameters of each message, in order.
 pub fn parameters<'a>(node: &tree::Contract<'a>, tables: &Tables<'a>, findings: &mut Findings<'a>) -> Vec<Vec<Parameter>> {
     let mut all = Vec::with_capacity(node.messages.len());
     for message in &node.messages {
@@ -75,7 +75,7 @@ pub fn parameters<'a>(node: &tree::Contract<'a>, tables: &Tables<'a>, findings: 
 }
 
 impl<'a> Contract<'a> {
-    /// Lists the edges of which both ends and the message are found.
+    /// Lists the edges whose states and message are found.
     pub fn connect(&mut self, node: &tree::Contract<'a>, findings: &mut Findings) {
         let mut number = 0;
         for state in &node.states {

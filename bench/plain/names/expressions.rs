@@ -4,7 +4,7 @@ use super::types::{Type, BOOL, INT};
 use crate::report::{Name, Place};
 use crate::tree::{Expression, Operator, Prefix, Target};
 
-/// What an operator asks of an operand.
+/// What an operator requires of an operand.
 #[derive(Clone, Copy)]
 enum Asked {
     Number,
@@ -38,7 +38,7 @@ impl<'a> Body<'_, 'a> {
         }
     }
 
-    /// The type of an expression that is the whole of a value, argument or result: a variable of the exchange heap may stand here.
+    /// Returns the type of an expression that is a whole value, argument or result. It may be a variable of the exchange heap.
     pub fn whole(&mut self, expression: &Expression<'a>) -> Type {
         match expression {
             Expression::Target(Target::Variable(name)) => self.look_up(*name).map_or(Type::Unknown, |variable| variable.typed),
@@ -46,7 +46,7 @@ impl<'a> Body<'_, 'a> {
         }
     }
 
-    /// The type of an expression within another one.
+    /// Returns the type of an expression inside another one.
     fn inner(&mut self, expression: &Expression<'a>) -> Type {
         match expression {
             Expression::Number(_) => INT,
@@ -92,7 +92,7 @@ impl<'a> Body<'_, 'a> {
         })
     }
 
-    /// Whether a field owns what it holds.
+    /// Returns whether a field owns what it holds.
     pub fn owns(&self, name: Name, field: Name) -> bool {
         let Some(Type::Pointer(number)) = self.find(name).map(|variable| variable.typed) else { return false };
         let structure = &self.tables.structs[number];
@@ -117,7 +117,7 @@ impl<'a> Body<'_, 'a> {
         }
     }
 
-    /// The innermost operator is the last one; the operand of each begins at the next one.
+    /// The innermost operator is the last one. The operand of each begins at the next one.
     fn prefixed(&mut self, prefixes: &[(Prefix, Place)], atom: &Expression<'a>) -> Type {
         let mut typed = self.inner(atom);
         let mut place = atom.place();
@@ -135,7 +135,7 @@ impl<'a> Body<'_, 'a> {
         typed
     }
 
-    /// The left operand of each operator is all to its left.
+    /// The left operand of each operator is everything to its left.
     fn chain(&mut self, first: &Expression<'a>, rest: &[(Operator, Expression<'a>)]) -> Type {
         let place = first.place();
         let mut left = self.inner(first);
@@ -154,7 +154,7 @@ impl<'a> Body<'_, 'a> {
     }
 }
 
-/// What an operator asks of its operands. Of two that are compared, the left one decides what the right one has to be.
+/// Returns what an operator requires of its operands. In a comparison for equality the left operand decides for the right one.
 fn operands(operator: Operator, left: Type) -> (Asked, Asked) {
     match operator {
         Operator::Equal | Operator::Unequal if left.is_number() => (Asked::Either, Asked::Number),

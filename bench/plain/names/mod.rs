@@ -1,4 +1,4 @@
-//! Names and types: finds what each name stands for, and gives all findings of the stage.
+//! Names and types: resolves each name, and reports all findings of the stage.
 mod bodies;
 mod calls;
 mod channels;
@@ -25,7 +25,7 @@ pub enum ItemNumber {
     Class(usize),
 }
 
-/// A parameter of a message or method, or a field of a struct; `claims` is true where what is given is given away.
+/// A parameter of a message or method, or a field of a struct; `claims` is set if the argument is given away.
 #[derive(Clone, Copy)]
 pub struct Parameter {
     pub typed: Type,
@@ -51,7 +51,7 @@ pub struct Method<'a> {
     pub class: usize,
     pub result: Option<Type>,
     pub parameters: Vec<Parameter>,
-    /// Whether a block that it is given is only lent. Found once, so that a start takes no time in the parameters.
+    /// Whether it has a lent parameter. Computed once, so that the time of a start does not depend on the parameters.
     pub borrows: bool,
 }
 
@@ -97,7 +97,7 @@ impl<'a> Nodes<'a> {
 }
 
 impl<'a> Tables<'a> {
-    /// The tables in which other names are looked up: everything but the types of parameters and results, and the edges.
+    /// Returns the tables for looking up names: everything but the types of fields, parameters and results, and the edges.
     fn declare(nodes: &mut Nodes<'a>, findings: &mut Findings<'a>) -> Tables<'a> {
         if let Some(node) = nodes.contracts.get(MOST_CONTRACTS) {
             findings.limit_passed(node.name);
@@ -132,7 +132,7 @@ impl<'a> Tables<'a> {
         Method { node, class, result, parameters, borrows }
     }
 
-    /// Adds what looks names up in the tables: the types of fields, parameters and results, and the edges.
+    /// Adds what needs the tables to look up names: the types of fields, parameters and results, and the edges.
     fn complete(&mut self, nodes: &Nodes<'a>, findings: &mut Findings<'a>) {
         for (number, node) in nodes.structs.iter().enumerate() {
             let fields = node.fields.iter().map(|field| self.parameter(&field.written, true, findings)).collect();
@@ -182,7 +182,7 @@ impl<'a> Class<'a> {
     }
 }
 
-/// The contracts in numbers. They can be trusted only where nothing was found.
+/// Returns the contracts in numbers. They are only valid if there are no findings.
 pub fn resolve<'a>(program: &'a Program<'a>, findings: &mut Findings<'a>) -> Vec<Contract<'a>> {
     let mut nodes = Nodes::new(program);
     let mut tables = Tables::declare(&mut nodes, findings);

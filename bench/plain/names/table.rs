@@ -1,4 +1,4 @@
-//! A sorted table from names to what they stand for.
+//! A sorted table from names to values.
 use crate::report::{Findings, Name};
 
 pub struct Table<'a, T> {
@@ -6,7 +6,7 @@ pub struct Table<'a, T> {
 }
 
 struct Row<'a, T> {
-    /// The first bytes of the name. They tell most names apart without a look into the text.
+    /// The first bytes of the name. They distinguish most names without reading the text.
     front: u64,
     text: &'a [u8],
     name: Name<'a>,
@@ -18,7 +18,7 @@ fn front(text: &[u8]) -> u64 {
 }
 
 impl<'a, T: Copy> Table<'a, T> {
-    /// The names in the order of the text: the first declaration of a name counts, and each later one is a finding.
+    /// Takes the names in the order of the text. The first declaration of a name counts, and each later one is a finding.
     pub fn new(names: impl IntoIterator<Item = (Name<'a>, T)>, findings: &mut Findings<'a>) -> Table<'a, T> {
         let row = |(name, value): (Name<'a>, T)| {
             let text = name.word(findings.text);

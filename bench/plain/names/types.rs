@@ -5,9 +5,9 @@ use crate::tree::{self, Scalar, Side};
 
 #[derive(Clone, Copy, PartialEq, Eq)]
 pub enum Type {
-    /// The type of what is built on a name that isn't found. It agrees with every type.
+    /// The type of an expression with an unknown name. It agrees with every type.
     Unknown,
-    /// The type of a part of a variable that has no parts. It agrees with what is asked of it, but an operator over it gives its own type.
+    /// The type of an element or field of a variable without such parts. It agrees with every type, but an operator on it gives its own.
     Missing,
     Scalar(Scalar),
     Pointer(usize),
@@ -36,13 +36,13 @@ impl Type {
     }
 }
 
-/// Whether a written type is one of the exchange heap, be its names found or not.
+/// Returns whether a written type is one of the exchange heap, even if its names are unknown.
 pub fn in_heap(written: &tree::Type) -> bool {
     !matches!(written, tree::Type::Scalar(_))
 }
 
 impl<'a> Tables<'a> {
-    /// The type that is written; unknown where one of its names isn't found.
+    /// Returns the type that is written, or `Unknown` if one of its names is not found.
     pub fn written(&self, written: &tree::Type, findings: &mut Findings) -> Type {
         match written {
             tree::Type::Scalar(scalar) => Type::Scalar(*scalar),

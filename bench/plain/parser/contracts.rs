@@ -58,7 +58,7 @@ impl<'a> Parser<'a> {
         Ok(paths)
     }
 
-    /// A name with a sign behind it is an edge, the one without is the end.
+    /// A name followed by a sign is an edge, and a name without one is the end.
     fn path(&mut self) -> Parsed<Path<'a>> {
         let mut edges = vec![self.edge()?];
         while matches!(self.ahead(1), Kind::Exclamation | Kind::Question) {

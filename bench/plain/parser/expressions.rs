@@ -3,7 +3,7 @@ use super::{Parsed, Parser, Unexpected};
 use crate::lexer::Kind;
 use crate::tree::{Call, Expression, Operator, Prefix, Target, Value};
 
-/// The operator that a token is, and its level: the higher one binds more.
+/// Returns the operator of a token and its level. A higher level binds more tightly.
 fn operator(kind: Kind) -> Option<(Operator, u32)> {
     Some(match kind {
         Kind::Or => (Operator::Or, 0),
@@ -26,7 +26,7 @@ impl<'a> Parser<'a> {
         self.chain(0)
     }
 
-    /// An expression of operators that bind at least so much. What one level gives is the first operand of a lower one.
+    /// Parses an expression of operators of this level or higher. The result of one level is the first operand of a lower one.
     fn chain(&mut self, least: u32) -> Parsed<Expression<'a>> {
         let mut first = self.prefixed()?;
         while let Some((operator, level)) = self.operator(least) {
@@ -39,7 +39,7 @@ impl<'a> Parser<'a> {
         Ok(first)
     }
 
-    /// Takes an operator that binds at least so much.
+    /// Takes an operator of this level or higher.
     fn operator(&mut self, least: u32) -> Option<(Operator, u32)> {
         let found = operator(self.peek()).filter(|(_, level)| *level >= least);
         self.at += found.is_some() as usize;
@@ -94,7 +94,7 @@ impl<'a> Parser<'a> {
         Ok(Target::Variable(name))
     }
 
-    /// Whether a call stands here: a name, or two with a dot between them, and a parenthesis.
+    /// Returns whether a call begins here: a name, or two with a dot between them, and a parenthesis.
     pub(super) fn at_call(&self) -> bool {
         match (self.peek(), self.ahead(1)) {
             (Kind::Identifier, Kind::OpenParenthesis) => true,

@@ -1,5 +1,5 @@
-//! Makes the tree of a program from its tokens. Every rule reads from left to right and looks at most three tokens ahead, so the token
-//! at which a rule gives up is the first one that no program continues with.
+//! Makes the tree of a program from its tokens. Every rule reads from left to right and looks at most three tokens ahead. A rule gives up
+//! at the first token with which no program can continue.
 mod contracts;
 mod expressions;
 mod statements;
@@ -8,7 +8,7 @@ use crate::lexer::{Kind, Token, Tokens};
 use crate::report::{Code, Finding, Name, Place};
 use crate::tree::{Access, Class, Field, Item, ItemBody, Method, Parameter, Program, Scalar, Side, Struct, Type};
 
-/// The token at which the parser stands can't stand there.
+/// The parser cannot accept its current token.
 pub struct Unexpected;
 
 type Parsed<T> = Result<T, Unexpected>;
@@ -54,14 +54,14 @@ impl<'a> Parser<'a> {
         }
     }
 
-    /// The place of an expected token.
+    /// Takes an expected token and returns its place.
     fn expect_place(&mut self, kind: Kind) -> Parsed<Place> {
         let place = self.place();
         self.expect(kind)?;
         Ok(place)
     }
 
-    /// An expected token as a name: an identifier, or a word that stands where a name could.
+    /// Takes an expected token and returns it as a name: an identifier, or a reserved word in the position of a name.
     fn expect_name(&mut self, kind: Kind) -> Parsed<Name<'a>> {
         match self.tokens.get(self.at) {
             Some(token) if token.kind == kind => {
@@ -76,7 +76,7 @@ impl<'a> Parser<'a> {
         self.expect_name(Kind::Identifier)
     }
 
-    /// A list in parentheses, with commas between its parts; it may be empty.
+    /// Parses a list in parentheses, with commas between its parts. It may be empty.
     fn list<T>(&mut self, part: impl Fn(&mut Self) -> Parsed<T>) -> Parsed<Vec<T>> {
         self.expect(Kind::OpenParenthesis)?;
         if self.accept(Kind::CloseParenthesis) {

@@ -12,7 +12,7 @@ impl<'a> Parser<'a> {
         Ok(Block { statements, close })
     }
 
-    /// The statements up to the end of a block or case. Most lists are short, so none keeps the room that it doesn't need.
+    /// Parses the statements up to the end of a block or case. Most lists are short, so each gives back its unused memory.
     fn statements(&mut self) -> Parsed<Vec<Statement<'a>>> {
         let mut statements = Vec::new();
         while !matches!(self.peek(), Kind::Case | Kind::CloseBrace) {
@@ -38,7 +38,7 @@ impl<'a> Parser<'a> {
         }
     }
 
-    /// A statement that begins with a word of its own and ends with a semicolon, without that semicolon.
+    /// Parses a statement that begins with a word of its own and ends with a semicolon, without that semicolon.
     fn short_statement(&mut self) -> Parsed<Statement<'a>> {
         let place = self.place();
         let kind = self.peek();
@@ -76,7 +76,7 @@ impl<'a> Parser<'a> {
         Ok(Statement::Declare { written, name, value })
     }
 
-    /// A statement that begins with a name.
+    /// Parses a statement that begins with a name.
     fn named_statement(&mut self) -> Parsed<Statement<'a>> {
         let statement = match (self.ahead(1), self.ahead(2)) {
             (Kind::Star, _) | (Kind::Dot, Kind::Imp | Kind::Exp) => return self.declaration(),
@@ -106,7 +106,7 @@ impl<'a> Parser<'a> {
         Ok(Statement::NewChannel { contract, place, first, second })
     }
 
-    /// `if` or `while`, its test and its block.
+    /// Parses `if` or `while`, its test and its block.
     fn arm(&mut self, word: Kind) -> Parsed<Arm<'a>> {
         let place = self.expect_place(word)?;
         self.expect(Kind::OpenParenthesis)?;
@@ -150,7 +150,7 @@ impl<'a> Parser<'a> {
         Ok(Case { place, endpoint, message, closed, bindings, statements })
     }
 
-    /// A name alone, or behind a type: only a type goes on with a star or a dot.
+    /// Parses a name alone, or a type and a name. Only a type continues with a star or a dot.
     fn binding(&mut self) -> Parsed<(Option<Type<'a>>, Name<'a>)> {
         let bare = self.peek() == Kind::Identifier && !matches!(self.ahead(1), Kind::Star | Kind::Dot);
         let written = if bare { None } else { Some(self.written_type()?) };

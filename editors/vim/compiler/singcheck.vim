@@ -1,4 +1,4 @@
-" `:make` checks the file of the buffer and puts what is found into the quickfix list, and `:make --why` the trace of each finding too.
+" `:make` checks the file of the buffer and puts the findings into the quickfix list. `:make --why` adds the trace of each finding.
 if exists('current_compiler')
   finish
 endif

@@ -1,4 +1,4 @@
-" Settings for a text of Sing#: how comments are written, and `:make` as a check.
+" Settings for Sing# files: the form of comments, the indentation, and `:make` as a check.
 if exists('b:did_ftplugin')
   finish
 endif
