@@ -10,7 +10,8 @@ ghost use Rattle.program.specs.declared.types.Side.{Side};
 
 use crate::sound::Sound;
 
-/// The findings of a contract form a list, and the bounds of a sound one are numbers, so an answer other than `Memory` always exists.
+/// The findings of a contract form a list, and the bounds of a sound one are numbers, both as double negations, so `Memory` is never
+/// the only result allowed.
 pub fn each_contract_is_judged()
     ensures found { (parts : Parts) → ((found : List FindingModel) → AreExactly (IsFlaw parts) found → ⊥) → ⊥ }
     ensures bounds { (parts : Parts) → IsWhole parts → IsSound parts → (side : Side)

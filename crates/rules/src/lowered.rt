@@ -103,7 +103,7 @@ impl Program {
         &self.repeats[method.0 as usize]
     }
 
-    /// Returns whether a run may begin with a method: it returns nothing and has no parameter of any kind, numbers included.
+    /// Returns whether `replay` may begin with a method: it returns nothing and has no parameter of any type, numbers included.
     pub fn is_entry(&self, method: MethodId) -> bool
         requires there { method.0 < length (model_of self.now).methods }
         ensures { IsSomeAnd (slice_get (model_of self.now).methods method.0) (λ m. result ≡ is_entry m) }
