@@ -62,7 +62,8 @@ impl ValueType {
         )
     }
 
-    /// Returns whether both are of the same type; `int` and `byte` count as the same.
+    /// Returns whether both are of the same type; `int` and `byte` count as one, except as elements of arrays. A missing or unknown type
+    /// is like no other.
     fn is_like(self, other: ValueType) -> bool
         ensures { result ≡ specs.alike self other }
     {

@@ -21,7 +21,7 @@ pub(crate) fn contract_at<'s>(directory: &Directory<'s, '_>, index: usize) -> Op
     directory.resolved.contracts.get(before.contracts)
 }
 
-/// Returns the number of the contract that is the item at this index, if it is one.
+/// Returns the number of the contract that is the item at this index. Of another item it is that of the next contract, if there is one.
 fn contract_number(directory: &Directory<'_, '_>, index: usize) -> Option<ContractId>
     ensures { (p : ProgramText) → IsDirectory p directory.now → result ≡ model.number_at p index }
 {
