@@ -13,7 +13,7 @@ pub struct Text {
     most: usize,
     calls: u64,
     failing: u64,
-    failure_count: u64,
+    failures: u64,
 }
 
 impl Text {
@@ -25,7 +25,7 @@ impl Text {
             most,
             calls: 0,
             failing,
-            failure_count: 0,
+            failures: 0,
         })
     }
 
@@ -45,12 +45,12 @@ impl Text {
 impl Source for Text {
     ghost remaining = { λ _. None };
 
-    ghost failed = { λ s. s.failure_count };
+    ghost failed = { λ s. s.failures };
 
     fn read(&mut self, buffer: &mut [u8]) -> Result<usize, Failed> {
         self.calls = self.calls.wrapping_add(1);
         if self.calls == self.failing {
-            self.failure_count = self.failure_count.wrapping_add(1);
+            self.failures = self.failures.wrapping_add(1);
             return Err(Failed);
         }
         let part = self.part(buffer.len());
@@ -60,8 +60,8 @@ impl Source for Text {
         Ok(n)
     }
 
-    fn failure_count(&self) -> u64 {
-        self.failure_count
+    fn failures(&self) -> u64 {
+        self.failures
     }
 }
 
@@ -72,7 +72,7 @@ pub struct Page {
     most: usize,
     calls: u64,
     failing: u64,
-    failure_count: u64,
+    failures: u64,
 }
 
 impl Page {
@@ -83,7 +83,7 @@ impl Page {
             most,
             calls: 0,
             failing,
-            failure_count: 0,
+            failures: 0,
         }
     }
 }
@@ -91,20 +91,20 @@ impl Page {
 impl Sink for Page {
     ghost contents = { λ _. None };
 
-    ghost failed = { λ s. s.failure_count };
+    ghost failed = { λ s. s.failures };
 
     fn write(&mut self, bytes: &[u8]) -> Result<usize, Failed> {
         self.calls = self.calls.wrapping_add(1);
         let n = bytes.len().min(self.most).max(1).min(bytes.len());
         if self.calls == self.failing || self.bytes.extend_from_slice(&bytes[..n]).is_err() {
-            self.failure_count = self.failure_count.wrapping_add(1);
+            self.failures = self.failures.wrapping_add(1);
             return Err(Failed);
         }
         Ok(n)
     }
 
-    fn failure_count(&self) -> u64 {
-        self.failure_count
+    fn failures(&self) -> u64 {
+        self.failures
     }
 }
 
@@ -113,7 +113,7 @@ impl Sink for Page {
 pub struct Card {
     bytes: [u8; 512],
     len: usize,
-    failure_count: u64,
+    failures: u64,
     ghost within: { len ≤ 512 },
 }
 
@@ -123,7 +123,7 @@ impl Card {
         Card {
             bytes: [0; 512],
             len: 0,
-            failure_count: 0,
+            failures: 0,
         }
     }
 
@@ -136,12 +136,12 @@ impl Card {
 impl Sink for Card {
     ghost contents = { λ _. None };
 
-    ghost failed = { λ s. s.failure_count };
+    ghost failed = { λ s. s.failures };
 
     fn write(&mut self, bytes: &[u8]) -> Result<usize, Failed> {
         let room = self.bytes.len() - self.len;
         if bytes.len() > room {
-            self.failure_count = self.failure_count.wrapping_add(1);
+            self.failures = self.failures.wrapping_add(1);
             return Err(Failed);
         }
         let end = self.len + bytes.len();
@@ -150,7 +150,7 @@ impl Sink for Card {
         Ok(bytes.len())
     }
 
-    fn failure_count(&self) -> u64 {
-        self.failure_count
+    fn failures(&self) -> u64 {
+        self.failures
     }
 }

@@ -2,7 +2,7 @@
 
 use crate::texts::{ASKS, WAITS, with_one_contract};
 use program::{ContractId, MessageId, MethodId, Side, StateId};
-use rules::{Leaf, Onward, Row, Spare, StepOutcome, entry_pair, step, step_in_place};
+use rules::{Leaf, Onward, Outcome, Row, Spare, entry_pair, step, step_in_place};
 use std::test::Fail;
 
 #[test]
@@ -17,14 +17,14 @@ fn sends_by_the_contract(rt: HostRuntime) -> Result<(), Fail> {
     assert!(rt; point == 2);
     assert!(rt; row.leaves() == [Leaf::State(0)].as_slice());
     match step(rt.alloc(), &program, MethodId(0), point, &row)? {
-        StepOutcome::Next(pairs) => match pairs.get(0) {
+        Outcome::Next(pairs) => match pairs.get(0) {
             Some((point, row)) => {
                 assert!(rt; *point == 1);
                 assert!(rt; row.leaves() == [Leaf::State(1)].as_slice());
             }
             None => assert!(rt; false),
         },
-        StepOutcome::Found(_) => assert!(rt; false),
+        Outcome::Found(_) => assert!(rt; false),
     }
     Ok(())
 }

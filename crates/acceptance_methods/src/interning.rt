@@ -4,7 +4,7 @@ ghost use Rattle.std.specs.Prelude.{◌≡◌, IfOk, IfSome};
 ghost use Rattle.intern.specs.Seats.{IsSeatOf};
 
 use intern::laws::an_id_names_its_row_for_good;
-use intern::{InternFault, InternNew, RowId, Rows, Seat, word_of};
+use intern::{InternFault, InternNew, Rows, Seat, Token, word_of};
 use rules::{Leaf, Row};
 use std::alloc::Global;
 use std::test::Fail;
@@ -41,29 +41,29 @@ fn row_of_two(alloc: Global, first: Leaf, second: Leaf) -> Result<Row, Fail> {
 }
 
 /// Interns all 81 rows, in an order of its own: first row 0, then each row that is `by` further, in a ring.
-fn intern_all(alloc: Global, rows: &Rows, mut seat: Seat, by: usize) -> Option<(Seat, Vec<RowId>)>
+fn intern_all(alloc: Global, rows: &Rows, mut seat: Seat, by: usize) -> Option<(Seat, Vec<Token>)>
     requires { IsSeatOf rows.now seat }
     ensures { IfSome result (λ r. IsSeatOf rows.now r.0) }
 {
-    let mut ids = vec![in alloc; RowId::Empty; 81].ok()?;
+    let mut ids = vec![in alloc; Token::Empty; 81].ok()?;
     if by > 1000 || ids.len() != 81 {
         return None;
     }
     for k in 0..81 {
         let number = k * by % 81;
         let row = row_of_four(alloc, number)?;
-        let Ok(row_id) = rows.intern(&mut seat, &row) else {
+        let Ok(token) = rows.intern(&mut seat, &row) else {
             return None;
         };
         if number < ids.len() {
-            ids[number] = row_id;
+            ids[number] = token;
         }
     }
     Some((seat, ids))
 }
 
 /// A seat that knows what two threads know, and the ids that each gave.
-type OfTwo = (Seat, Vec<RowId>, Vec<RowId>);
+type OfTwo = (Seat, Vec<Token>, Vec<Token>);
 
 /// Interns all rows in two threads, each in an order of its own.
 fn in_two<R: Threads>(
@@ -99,7 +99,7 @@ fn in_four<R: Threads + Sync>(
     alloc: Global,
     rows: &Rows,
     seat: Seat,
-) -> Option<[Vec<RowId>; 4]>
+) -> Option<[Vec<Token>; 4]>
     requires { IsSeatOf rows.now seat }
 {
     let Ok((left, right)) = rows.split(seat) else {
@@ -129,13 +129,13 @@ fn a_full_table_refuses_and_keeps(rt: HostRuntime) -> Result<(), Fail> {
     let Ok((rows, mut seat)) = Rows::new(alloc, 2) else {
         return Err(Fail::from("no table"));
     };
-    let Ok(row_id) = rows.intern(&mut seat, &first) else {
+    let Ok(token) = rows.intern(&mut seat, &first) else {
         return Err(Fail::from("no room"));
     };
     assert!(rt; rows.intern(&mut seat, &second) == Err(InternFault::Full));
-    assert!(rt; rows.intern(&mut seat, &first) == Ok(row_id));
+    assert!(rt; rows.intern(&mut seat, &first) == Ok(token));
     an_id_names_its_row_for_good();
-    let read = rows.row_of(alloc, &mut seat, row_id)?;
+    let read = rows.row_of(alloc, &mut seat, token)?;
     assert!(rt; read == first);
     Ok(())
 }
@@ -191,21 +191,21 @@ fn a_row_is_read_again_where_memory_was_refused(rt: HostRuntime) -> Result<(), F
     let Ok((rows, mut seat)) = table(alloc, 4) else {
         return Err(Fail::from("no table"));
     };
-    let Ok(row_id) = rows.intern_near(&mut seat, &row) else {
+    let Ok(token) = rows.intern_near(&mut seat, &row) else {
         return Err(Fail::from("no room"));
     };
     an_id_names_its_row_for_good();
-    let read = match rows.row_of(alloc, &mut seat, row_id) {
+    let read = match rows.row_of(alloc, &mut seat, token) {
         Ok(read) => read,
-        Err(_) => rows.row_of(alloc, &mut seat, row_id)?,
+        Err(_) => rows.row_of(alloc, &mut seat, token)?,
     };
     assert!(rt; read == row);
     let mut over = Row::empty(alloc);
-    if rows.read(&mut seat, row_id, &mut over).is_err() {
-        rows.read(&mut seat, row_id, &mut over)?;
+    if rows.read(&mut seat, token, &mut over).is_err() {
+        rows.read(&mut seat, token, &mut over)?;
     }
     assert!(rt; over == row);
-    assert!(rt; rows.intern(&mut seat, &row) == Ok(row_id));
+    assert!(rt; rows.intern(&mut seat, &row) == Ok(token));
     Ok(())
 }
 

@@ -12,7 +12,7 @@ use program::{
     Action, Effect, HeapType, MOST_STATES, MOST_VARIABLES, Mention, Method, MethodId, Role, Simple,
     Statement, StructId, VarId, Variable,
 };
-use rules::{Leaf, Row, StepOutcome, entry_pair, step};
+use rules::{Leaf, Outcome, Row, entry_pair, step};
 use source::{Memory, Place};
 use std::alloc::Global;
 use std::test::Fail;
@@ -149,14 +149,14 @@ fn steps_by_the_rule_table(rt: HostRuntime) -> Result<(), Fail> {
     assert!(rt; point == 3);
     assert!(rt; row.leaves() == [Leaf::Block, Leaf::Nothing].as_slice());
     match step(rt.alloc(), &program, MethodId(0), point, &row)? {
-        StepOutcome::Next(pairs) => match pairs.get(0) {
+        Outcome::Next(pairs) => match pairs.get(0) {
             Some((point, row)) => {
                 assert!(rt; *point == 2);
                 assert!(rt; row.leaves() == [Leaf::Nothing, Leaf::Block].as_slice());
             }
             None => assert!(rt; false),
         },
-        StepOutcome::Found(_) => assert!(rt; false),
+        Outcome::Found(_) => assert!(rt; false),
     }
     Ok(())
 }

@@ -3,7 +3,7 @@
 ghost use Rattle.std.specs.Prelude.{◌≡◌, ◌<◌, IfOk, length};
 ghost use Rattle.rules.specs.Programs.{model_of};
 
-use contracts::{Judged, Sound, contract_at};
+use contracts::{Judged, Sound, edges};
 use names::{MOST_CONTRACTS, resolve};
 use program::ContractId;
 use rules::Program;
@@ -114,7 +114,7 @@ pub(crate) fn with_one_contract(alloc: Global, text: &str) -> Result<Program, Fa
     if resolved.contracts.len() != 1 {
         return Err(Fail::from("not one contract"));
     }
-    let contract = contract_at(&resolved, ContractId(0));
+    let contract = edges(&resolved, ContractId(0));
     let Judged::Sound(sound) = Sound::judge(alloc, contract)? else {
         return Err(Fail::from("not sound"));
     };

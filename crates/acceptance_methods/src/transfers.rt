@@ -4,7 +4,7 @@ use crate::texts::{FREED_AND_READ, only};
 use intern::{code_of, leaf_at};
 use program::{MethodId, VarId};
 use rules::{
-    Leaf, Onward, Row, Spare, StepOutcome, Transfer, entry_pair, step, step_in_place, transfer_at,
+    Leaf, Onward, Outcome, Row, Spare, Transfer, entry_pair, step, step_in_place, transfer_at,
 };
 use source::{Code, Place};
 use std::alloc::Global;
@@ -90,13 +90,13 @@ fn a_breach_has_a_finding(rt: HostRuntime) -> Result<(), Fail> {
         return Err(Fail::from("no row"));
     };
     match step(rt.alloc(), &program, MethodId(0), 1, &row)? {
-        StepOutcome::Found(breach) => {
+        Outcome::Found(breach) => {
             let finding = program.finding(rt.alloc(), MethodId(0), breach)?;
             assert!(rt; finding.place == Place { line: 3, col: 22 });
             assert!(rt; finding.code == Code::A01);
             assert!(rt; finding.text.as_str() == "q not owned");
         }
-        StepOutcome::Next(_) => assert!(rt; false),
+        Outcome::Next(_) => assert!(rt; false),
     }
     Ok(())
 }

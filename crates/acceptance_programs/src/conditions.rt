@@ -3,7 +3,7 @@
 ghost use Rattle.std.specs.Prelude.{IfOk};
 ghost use Rattle.contracts.specs.Parts.{IsWhole, contract_parts};
 
-use contracts::{Sound, SoundFault, contract_at, findings_of, is_whole, two_ends};
+use contracts::{Sound, SoundFault, edges, faults, is_whole, two_ends};
 use program::{
     Contract, ContractId, Direction, Edge, Message, MessageId, Part, Resolved, Side, Sign, State,
     StateId,
@@ -113,7 +113,7 @@ fn are(findings: &[Finding], wanted: &[(Code, u32, &str)]) -> bool {
 fn ping_is_sound(rt: HostRuntime) -> Result<(), Fail> {
     let alloc = rt.alloc();
     let ping = whole(&rt, alloc, ping(alloc)?)?;
-    assert!(rt; findings_of(alloc, &ping)?.is_empty());
+    assert!(rt; faults(alloc, &ping)?.is_empty());
     let sound = Sound::new(alloc, &ping)?;
     assert_eq!(rt; sound.bound(Side::Exp), 1);
     assert_eq!(rt; sound.bound(Side::Imp), 1);
@@ -144,7 +144,7 @@ fn parts_are_taken(rt: HostRuntime) -> Result<(), Fail> {
     };
     resolved.contracts.push(ping(alloc)?)?;
     assert!(rt; !resolved.contracts.is_empty());
-    let taken = contract_at(&resolved, ContractId(0));
+    let taken = edges(&resolved, ContractId(0));
     assert_eq!(rt; taken.first, StateId(7));
     assert_eq!(rt; taken.states.len(), 2);
     assert_eq!(rt; taken.messages.len(), 2);
@@ -204,7 +204,7 @@ fn rings_are_found_at_each_state(rt: HostRuntime) -> Result<(), Fail> {
     add_edge(&mut ring, 1, 0, Sign::Send, 2, 4)?;
     add_edge(&mut ring, 2, 0, Sign::Send, 1, 3)?;
     let ring = whole(&rt, alloc, ring)?;
-    let found = findings_of(alloc, &ring)?;
+    let found = faults(alloc, &ring)?;
     let wanted = [
         (Code::C04, 2, "one direction round U"),
         (Code::C04, 3, "one direction round (A)"),
@@ -226,7 +226,7 @@ fn mixed_and_repeated(rt: HostRuntime) -> Result<(), Fail> {
     add_edge(&mut mixed, 0, 0, Sign::Send, 1, 3)?;
     add_edge(&mut mixed, 0, 1, Sign::Receive, 1, 4)?;
     add_edge(&mut mixed, 0, 0, Sign::Send, 1, 5)?;
-    let found = findings_of(alloc, &whole(&rt, alloc, mixed)?)?;
+    let found = faults(alloc, &whole(&rt, alloc, mixed)?)?;
     let wanted = [
         (Code::C02, 5, "A twice in a state"),
         (Code::C03, 1, "both directions in S"),
@@ -245,7 +245,7 @@ fn signs_count_as_written(rt: HostRuntime) -> Result<(), Fail> {
     add_state(&mut against, 0, "S", 53)?;
     add_edge(&mut against, 0, 0, Sign::Send, 0, 62)?;
     add_edge(&mut against, 0, 1, Sign::Send, 0, 71)?;
-    let found = findings_of(alloc, &whole(&rt, alloc, against)?)?;
+    let found = faults(alloc, &whole(&rt, alloc, against)?)?;
     let wanted = [
         (Code::C04, 53, "one direction round S"),
         (Code::C01, 62, "X against its direction"),
@@ -286,7 +286,7 @@ fn two_thousand_states_on_a_ring(rt: HostRuntime) -> Result<(), Fail> {
     let mut ring = contract_with_path(alloc, 2_000)?;
     add_edge(&mut ring, 2_000, 0, Sign::Send, 0, 2)?;
     let ring = whole(&rt, alloc, ring)?;
-    assert_eq!(rt; findings_of(alloc, &ring)?.len(), 2_001);
+    assert_eq!(rt; faults(alloc, &ring)?.len(), 2_001);
     Ok(())
 }
 

@@ -1,6 +1,6 @@
 //! The row that a search works on.
 
-use intern::RowId;
+use intern::Token;
 use rules::Row;
 
 /// The row that a search works on, and its name while that is known. The next pair usually has the same row, which is
@@ -8,5 +8,5 @@ use rules::Row;
 #[derive(Drop)]
 pub(crate) struct RowInHand {
     pub(crate) row: Row,
-    pub(crate) name: Option<RowId>,
+    pub(crate) name: Option<Token>,
 }

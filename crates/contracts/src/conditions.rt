@@ -28,7 +28,7 @@ use std::alloc::{AllocError, Global};
 ///
 /// Signs count as they are written. Villard, Lozes and Calcagno (APLAS 2009) require contracts to be deterministic and to have
 /// one direction in a state; the Singularity team (EuroSys 2006) requires each cycle to have both directions.
-pub fn findings_of(alloc: Global, contract: &Contract) -> Result<Vec<Finding>, Memory>
+pub fn faults(alloc: Global, contract: &Contract) -> Result<Vec<Finding>, Memory>
     requires whole { IsWhole (contract_parts contract.now) }
     ensures exactly { IfOk result (λ found. AreExactly (IsFlaw (contract_parts contract.now))
         (map finding_model found.items)) }

@@ -21,8 +21,8 @@ mod sound;
 mod taking;
 mod wholeness;
 
-pub use conditions::findings_of;
+pub use conditions::faults;
 pub use ends::two_ends;
 pub use sound::{Judged, Sound, SoundFault};
-pub use taking::contract_at;
+pub use taking::edges;
 pub use wholeness::is_whole;

@@ -5,10 +5,10 @@ ghost use Rattle.contracts.specs.Parts.{contract_parts};
 
 use program::{Contract, ContractId, Resolved};
 
-/// Returns the contract that has the number, with the states, messages and edges that `findings_of` and `Sound` ask for.
+/// Returns the contract that has the number, with the states, messages and edges that `faults` and `Sound` ask for.
 ///
 /// Borrows from the program: nothing is copied or allocated.
-pub fn contract_at(resolved: &Resolved, id: ContractId) -> &Contract
+pub fn edges(resolved: &Resolved, id: ContractId) -> &Contract
     requires { id.0 < length resolved.now.contracts.items }
     ensures { slice_get (map contract_parts resolved.now.contracts.items) id.0 ≡ Some (contract_parts result.now) }
 {

@@ -13,7 +13,7 @@ use std::alloc::Global;
 
 /// Returns whether a contract is whole: its lists contain its first state and the states and messages of its edges, their numbers
 /// go up by one from those of the first state and of the first message, and each number of a state is less than `MOST_STATES`.
-/// `findings_of` and `Sound::new` require this.
+/// `faults` and `Sound::new` require this.
 pub fn is_whole(alloc: Global, contract: &Contract) -> Result<bool, Memory>
     ensures { IfOk result (λ whole. IsTrue whole ↔ IsWhole (contract_parts contract.now)) }
 {

@@ -22,10 +22,10 @@ pub trait Source {
     fn read(&mut self, buffer: &mut [u8]) -> Result<usize, Failed>
         ensures bound { IfOk result (λ n. n ≤ length buffer.new) }
         ensures bytes { ReadConsumes (remaining self.old) (remaining self.new) result buffer.new }
-        ensures failure_count { Counts (failed self.old) (failed self.new) result };
+        ensures failures { Counts (failed self.old) (failed self.new) result };
 
     /// Returns how often a call has failed, wrapping.
-    fn failure_count(&self) -> u64
+    fn failures(&self) -> u64
         ensures { result ≡ failed self.now };
 }
 
@@ -42,10 +42,10 @@ pub trait Sink {
         ensures bound { IfOk result (λ n. n ≤ length bytes.now) }
         ensures some { IfOk result (λ n. 0 < length bytes.now → 0 < n) }
         ensures bytes { WriteAppends (contents self.old) (contents self.new) result bytes.now }
-        ensures failure_count { Counts (failed self.old) (failed self.new) result };
+        ensures failures { Counts (failed self.old) (failed self.new) result };
 
     /// Returns how often a call has failed, wrapping.
-    fn failure_count(&self) -> u64
+    fn failures(&self) -> u64
         ensures { result ≡ failed self.now };
 }
 
@@ -53,18 +53,18 @@ pub trait Sink {
 #[derive(Drop)]
 pub struct Counted<D> {
     pub device: D,
-    pub failure_count: u64,
+    pub failures: u64,
 }
 
 impl<D> Counted<D> {
     /// Returns a device that has not failed yet.
     pub fn new(device: D) -> Counted<D>
         ensures device { result.device ≡ device }
-        ensures failure_count { result.failure_count ≡ 0 }
+        ensures failures { result.failures ≡ 0 }
     {
         Counted {
             device,
-            failure_count: 0,
+            failures: 0,
         }
     }
 }
@@ -72,40 +72,40 @@ impl<D> Counted<D> {
 impl<D: Read> Source for Counted<D> {
     ghost remaining = { λ s. D.remaining s.device };
 
-    ghost failed = { λ s. s.failure_count };
+    ghost failed = { λ s. s.failures };
 
     fn read(&mut self, buffer: &mut [u8]) -> Result<usize, Failed> {
         match self.device.read(buffer) {
             Ok(n) => Ok(n),
             Err(_) => {
-                self.failure_count = self.failure_count.wrapping_add(1);
+                self.failures = self.failures.wrapping_add(1);
                 Err(Failed)
             }
         }
     }
 
-    fn failure_count(&self) -> u64 {
-        self.failure_count
+    fn failures(&self) -> u64 {
+        self.failures
     }
 }
 
 impl<D: Write> Sink for Counted<D> {
     ghost contents = { λ s. D.contents s.device };
 
-    ghost failed = { λ s. s.failure_count };
+    ghost failed = { λ s. s.failures };
 
     /// Writes bytes. A write of zero bytes counts as a failure, unless `bytes` is empty.
     fn write(&mut self, bytes: &[u8]) -> Result<usize, Failed> {
         match self.device.write(bytes) {
             Ok(n) if 0 < n || bytes.is_empty() => Ok(n),
             _ => {
-                self.failure_count = self.failure_count.wrapping_add(1);
+                self.failures = self.failures.wrapping_add(1);
                 Err(Failed)
             }
         }
     }
 
-    fn failure_count(&self) -> u64 {
-        self.failure_count
+    fn failures(&self) -> u64 {
+        self.failures
     }
 }

@@ -2,5 +2,5 @@ pub mod Codes
 pub mod Layout
 pub mod Rule
 pub mod Seats
-pub mod RowIds
+pub mod Tokens
 pub mod View

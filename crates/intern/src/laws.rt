@@ -10,14 +10,14 @@ ghost use Rattle.intern.specs.Codes.{code};
 ghost use Rattle.intern.specs.Layout.{word};
 ghost use Rattle.intern.specs.Rule.{Filled};
 ghost use Rattle.intern.specs.Seats.{IsOfEmptyTable, IsSeatOf, IsStateFor, slots_of, view};
-ghost use Rattle.intern.specs.RowIds.{HasNoRoom, IsFaithful, IsKnown, Names};
+ghost use Rattle.intern.specs.Tokens.{HasNoRoom, IsFaithful, IsKnown, Names};
 ghost use Rattle.intern.specs.View.{ViewGrows, IsInside, IsSoundView, LeadsDown, Knowledge, View};
 ghost use Rattle.intern.specs.contracts.row_table.Rows as rows;
 ghost use Rattle.intern.specs.declared.layout.TheConstants.{LEAVES, LENGTHS, MOST_LOOKS, MOST_SLOTS};
 ghost use Rattle.intern.specs.declared.row_table.Rows.{Rows};
 ghost use Rattle.intern.specs.declared.seat.Seat.{Seat};
-ghost use Rattle.intern.specs.declared.row_id.RowId.{RowId};
-ghost use Rattle.intern.specs.declared.row_id.RowId.TheVariants.{At};
+ghost use Rattle.intern.specs.declared.token.Token.{Token};
+ghost use Rattle.intern.specs.declared.token.Token.TheVariants.{At};
 
 use crate::row_table::Rows;
 
@@ -45,8 +45,8 @@ pub fn what_a_seat_knows_is_sound()
 
 /// An id that a seat knows stays known, and names the same row.
 pub fn an_id_names_its_row_for_good()
-    ensures known { (v u : View) → ViewGrows v u → (row_id : RowId) → IsKnown v row_id → IsKnown u row_id }
-    ensures names { (v u : View) → ViewGrows v u → (row_id : RowId) (row : List Leaf) → Names v row_id row → Names u row_id row }
+    ensures known { (v u : View) → ViewGrows v u → (token : Token) → IsKnown v token → IsKnown u token }
+    ensures names { (v u : View) → ViewGrows v u → (token : Token) (row : List Leaf) → Names v token row → Names u token row }
 {}
 
 /// An id is known exactly if its words are: that of its slot and, while the length is above 1, that of the slot which the word names,

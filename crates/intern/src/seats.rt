@@ -4,7 +4,7 @@ ghost use Rattle.std.specs.Prelude.{◌≡◌, ◌↔◌, IfErr, IfOk, IsOkAnd};
 ghost use Rattle.intern.specs.declared.fault.InternNew.TheVariants.{Slots};
 ghost use Rattle.intern.specs.Layout.{IsTableSize};
 ghost use Rattle.intern.specs.Seats.{IsOfEmptyTable, IsSeatOf, slots_of, view};
-ghost use Rattle.intern.specs.RowIds.{IsFaithful};
+ghost use Rattle.intern.specs.Tokens.{IsFaithful};
 ghost use Rattle.intern.specs.View.{ViewGrows};
 
 use crate::fault::InternNew;

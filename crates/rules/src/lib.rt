@@ -25,7 +25,7 @@ mod transfer;
 pub use breach::{Breach, Reason};
 pub use lowered::Program;
 pub use onward::Onward;
-pub use outcome::StepOutcome;
+pub use outcome::Outcome;
 pub use rows::{Leaf, Row, Spare};
 pub use stepping::{condition, entry_pair, step, step_in_place};
 pub use transfer::{Transfer, transfer_at};

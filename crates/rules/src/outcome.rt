@@ -5,7 +5,7 @@ use rows::Row;
 
 /// The outcome of a step.
 #[derive(Drop)]
-pub enum StepOutcome {
+pub enum Outcome {
     /// The method continues at one of these points, each with its row; if there are none, it ends.
     Next(Vec<(usize, Row)>),
     /// A check failed. The method does not continue.

@@ -21,7 +21,7 @@ use crate::endpoints::declared_leaf;
 use crate::here::Site;
 use crate::lowered::Program;
 use crate::onward::Onward;
-use crate::outcome::StepOutcome;
+use crate::outcome::Outcome;
 use crate::table::apply;
 use flow::{Branches, Instr};
 use program::{HeapType, MethodId, Role, Variable};
@@ -88,7 +88,7 @@ pub fn step(
     method: MethodId,
     point: usize,
     row: &Row,
-) -> Result<StepOutcome, Memory>
+) -> Result<Outcome, Memory>
     requires there { method.0 < length (model_of program.now).methods }
     ensures { IfOk result (λ o. outcome_model (breach_in (model_of program.now) method.0) o
         ≡ outcome (model_of program.now) method.0 (point, row_model row.now)) }
@@ -155,34 +155,34 @@ fn branches_of(instruction: &Instr) -> Option<Branches>
 }
 
 /// Turns the outcome of a step in place into one with rows of its own.
-fn apart(alloc: Global, onward: Onward, row: Row) -> Result<StepOutcome, Memory>
+fn apart(alloc: Global, onward: Onward, row: Row) -> Result<Outcome, Memory>
     ensures { IfOk result (λ o. (says : BreachModel → FindingModel) → outcome_model says o ≡ onward_model says onward (row_model row)) }
 {
     match onward {
-        Onward::Ends => Ok(StepOutcome::Next(Vec::new(alloc))),
+        Onward::Ends => Ok(Outcome::Next(Vec::new(alloc))),
         Onward::Same(point) | Onward::Changed(point) => goes(alloc, point, row),
         Onward::Both(first, second) => goes_both(alloc, first, second, row),
-        Onward::Ways(pairs) => Ok(StepOutcome::Next(pairs)),
-        Onward::Found(breach) => Ok(StepOutcome::Found(breach)),
+        Onward::Ways(pairs) => Ok(Outcome::Next(pairs)),
+        Onward::Found(breach) => Ok(Outcome::Found(breach)),
     }
 }
 
 /// Returns the outcome that the method continues at one point, with this row.
-fn goes(alloc: Global, point: usize, row: Row) -> Result<StepOutcome, Memory>
+fn goes(alloc: Global, point: usize, row: Row) -> Result<Outcome, Memory>
     ensures { IfOk result (λ o. (says : BreachModel → FindingModel) → outcome_model says o ≡ Goes ((point, row_model row) ∷ [])) }
 {
     let mut pairs = Vec::new(alloc);
     pairs.push((point, row))?;
-    Ok(StepOutcome::Next(pairs))
+    Ok(Outcome::Next(pairs))
 }
 
 /// Returns the outcome that the method continues at one of two points, with this row.
-fn goes_both(alloc: Global, first: usize, second: usize, row: Row) -> Result<StepOutcome, Memory>
+fn goes_both(alloc: Global, first: usize, second: usize, row: Row) -> Result<Outcome, Memory>
     ensures { IfOk result (λ o. (says : BreachModel → FindingModel)
         → outcome_model says o ≡ Goes ((first, row_model row) ∷ (second, row_model row) ∷ [])) }
 {
     let mut pairs = Vec::new(alloc);
     pairs.push((first, row.copy(alloc)?))?;
     pairs.push((second, row))?;
-    Ok(StepOutcome::Next(pairs))
+    Ok(Outcome::Next(pairs))
 }

@@ -16,7 +16,7 @@ ghost use Rattle.singcheck.specs.Explains.{IsExplainedIn, IsShownIn, explained_b
 use crate::lines::{add_count, add_finding, add_line};
 use crate::seats::table;
 use analyse::Worker;
-use contracts::{contract_at, findings_of};
+use contracts::{edges, faults};
 use program::{ContractId, MethodId, Resolved};
 use rules::Program;
 use source::{Memory, Place, compare};
@@ -69,8 +69,8 @@ pub(crate) fn explain_contracts(
 {
     let mut found = Vec::new(alloc);
     for number in 0..resolved.contracts.len() as u32 {
-        let contract = contract_at(resolved, ContractId(number));
-        let broken = findings_of(alloc, contract)?;
+        let contract = edges(resolved, ContractId(number));
+        let broken = faults(alloc, contract)?;
         let mut more = show_faults(alloc, contract, broken, named)?;
         found.append(&mut more)?;
     }

@@ -5,7 +5,7 @@ ghost use Rattle.program.specs.Parts.{ContractModel, IsWhole, contract_model};
 ghost use Rattle.singcheck.specs.Stages.{IsJudgement, JudgesContract};
 
 use crate::stage::Stage;
-use contracts::{Judged, Sound, contract_at};
+use contracts::{Judged, Sound, edges};
 use program::{ContractId, Resolved};
 use source::{Finding, Memory};
 use std::alloc::Global;
@@ -66,7 +66,7 @@ fn judge(
         → slice_get (map contract_model resolved.now.contracts.items) id.0 ≡ Some c
         → JudgesContract c judging.old judging.new) }
 {
-    match Sound::judge(alloc, contract_at(resolved, id))? {
+    match Sound::judge(alloc, edges(resolved, id))? {
         Judged::Sound(sound) => judging.sounds.push(sound)?,
         Judged::Broken(found) => add_found(&mut judging.findings, found)?,
     }

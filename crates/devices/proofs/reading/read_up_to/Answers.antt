@@ -12,7 +12,7 @@ reads-preserved g c =
     record {
       long = longer _ _ _ c.in-Ok.n c.min-room.result c.args.most more (omega (arith, c.len.ensures, c.reads-test.true, c.reads.bytes.ok.0)) (omega (arith, c.min-room.ensures, c.len.ensures, c.reads.bytes.ok.0)) (search rules);
       bytes = subst (Consumes _ _) (sym more) (Consumes-trans _ _ _ _ _ kept.bytes c.in-Ok.ensures.bytes.0);
-      same = c.in-Ok.ensures.failure_count ∙ kept.same;
+      same = c.in-Ok.ensures.failures ∙ kept.same;
     }
 
 pub returns-in_err-extend_from_slice-in-Ok-clause-most :

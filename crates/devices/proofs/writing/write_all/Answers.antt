@@ -12,5 +12,5 @@ writes-preserved g c =
       done = kept.done ++ take n rest;
       all = ap (λ r. (kept.done ++ take n rest) ++ r) (take_rest rest n) ∙ append_assoc kept.done (take n rest) (drop n rest) ∙ ap (λ r. kept.done ++ r) (take-append-drop n rest) ∙ kept.all;
       bytes = Appends-trans _ _ _ kept.done (take n rest) kept.bytes c.in-Ok.ensures.bytes;
-      same = c.in-Ok.ensures.failure_count ∙ kept.same;
+      same = c.in-Ok.ensures.failures ∙ kept.same;
     }
