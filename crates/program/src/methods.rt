@@ -1,11 +1,12 @@
 //! The methods of a program, with its contracts and types.
 
-ghost use Rattle.std.specs.Prelude.{◌≡◌, ◌<◌, Some, length, map, slice_get};
+ghost use Rattle.std.specs.Prelude.{◌≡◌, ◌≤◌, ◌<◌, Some, length, map, slice_get};
 ghost use Rattle.program.specs.Parts.{contract_model};
 ghost use Rattle.program.specs.Methods.{method_model};
 ghost use Rattle.program.specs.Programs.{contracts_model, messages_model, methods_model, program_model, structs_model, type_lists};
 ghost use Rattle.program.specs.Lists.{Each};
 ghost use Rattle.program.specs.WellFormed.{AreFields, AreWellFormed, IsType, IsWellFormed};
+ghost use Rattle.program.specs.declared.limits.TheConstants.{MOST_METHODS};
 
 use crate::contract::Resolved;
 use crate::method::Method;
@@ -16,8 +17,8 @@ use std::marker::Model;
 /// The methods of a program in order of the text, with its contracts, the types that its messages bring and the
 /// types of the owning fields of its structs.
 ///
-/// All names are resolved, and the program is well formed: each number refers to something; a method has at most
-/// `MOST_VARIABLES` variables, and a struct at most `MOST_FIELDS` owning fields; a call and a send give a variable
+/// There are at most `MOST_METHODS`. All names are resolved, and the program is well formed: each number refers to something; a method has at
+/// most `MOST_VARIABLES` variables, and a struct at most `MOST_FIELDS` owning fields; a call and a send give a variable
 /// of the right type for each parameter of the exchange heap, and a call has a target exactly if the callee gives a
 /// block; what is assigned is in scope; a started method gives nothing and claims its parameters; a switch has a
 /// case for the close of each of its endpoints; what a case binds takes what its message brings, and comes into
@@ -32,9 +33,10 @@ pub struct Methods {
 
 impl Model for Methods {
     ghost use Rattle.std.specs.Coded.{codes};
-    ghost use Rattle.std.specs.Prelude.{List};
+    ghost use Rattle.std.specs.Prelude.{List, ◌×◌, ◌≤◌, length};
     ghost use Rattle.program.specs.Programs.{program_model, type_lists};
     ghost use Rattle.program.specs.WellFormed.{AreWellFormed};
+    ghost use Rattle.program.specs.declared.limits.TheConstants.{MOST_METHODS};
     ghost use Rattle.program.specs.contracts.statement.Statement as statement;
     ghost use Rattle.program.specs.declared.contract.Contract.{Contract};
     ghost use Rattle.program.specs.declared.types.HeapType.{HeapType};
@@ -51,7 +53,7 @@ impl Model for Methods {
       type_lists m.messages.items,
       type_lists m.structs.items,
       m.list.items,
-    )) };
+    )) × (length m.list.items ≤ MOST_METHODS) };
 }
 
 impl Methods {
@@ -68,6 +70,7 @@ impl Methods {
           type_lists structs.items,
           list.items,
         )) }
+        requires few { length list.items ≤ MOST_METHODS }
         ensures contracts { contracts_model result ≡ map contract_model contracts.contracts.items }
         ensures messages { messages_model result ≡ type_lists messages.items }
         ensures structs { structs_model result ≡ type_lists structs.items }
@@ -109,6 +112,7 @@ impl Methods {
     pub fn list(&self) -> &[Method]
         ensures list { map method_model result.now ≡ methods_model self.now }
         ensures well_formed { AreWellFormed (program_model self.now) }
+        ensures few { length (methods_model self.now) ≤ MOST_METHODS }
     {
         self.list.as_slice()
     }

@@ -10,7 +10,7 @@ ghost use Rattle.program.specs.Parts.{contract_model};
 ghost use Rattle.program.specs.Programs.{contracts_model, methods_model, program_model, type_lists};
 ghost use Rattle.program.specs.WellFormed as formed;
 ghost use Rattle.program.specs.WellFormed.{IsWellFormed, parameters};
-ghost use Rattle.program.specs.declared.limits.TheConstants.{MOST_VARIABLES};
+ghost use Rattle.program.specs.declared.limits.TheConstants.{MOST_METHODS, MOST_VARIABLES};
 ghost use Rattle.rules.specs.Repeats.{again_in, repeated_in};
 
 use crate::repeats::{Repeats, repeats_of};
@@ -58,9 +58,10 @@ impl Program {
         })
     }
 
-    /// Returns its methods, in order of the text.
+    /// Returns its methods, in order of the text. There are at most `MOST_METHODS`.
     pub fn methods(&self) -> &[Method]
-        ensures { map method_model result.now ≡ (model_of self.now).methods }
+        ensures methods { map method_model result.now ≡ (model_of self.now).methods }
+        ensures few { length (model_of self.now).methods ≤ MOST_METHODS }
     {
         self.methods.list()
     }

@@ -124,7 +124,6 @@ fn check_methods<R: Threads + Wait + Sync, G: Gate>(
     tools: &Tools<'_, R, G>,
     program: &Program,
 ) -> Result<Report, Memory>
-    requires few { length (model_of program.now).methods < 2 ^ 32 }
     ensures report { IfOk result (λ r. (text : List ℕ) → HasProgram text (model_of program.now) → Checks text r.bytes.items r.status) }
     ensures clean { IfOk result (λ r. r.status ≡ Status.Empty → NothingIsFound (model_of program.now)) }
 {

@@ -91,7 +91,6 @@ fn enter_method(
 
 /// Returns the method with this index, if there is one and a run may begin with it.
 fn entry_of(program: &Program, index: Option<usize>) -> Option<MethodId>
-    requires few { length (model_of program.now).methods < 2 ^ 32 }
     ensures some { IfSome result (λ id. (index ≡ Some id.0) × MayBegin (model_of program.now) id.0) }
     ensures none { IfNone result ((n : ℕ) → index ≡ Some n → ¬ MayBegin (model_of program.now) n) }
 {

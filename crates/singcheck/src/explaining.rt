@@ -36,7 +36,6 @@ pub(crate) fn explain_methods(
     program: &Program,
     named: Option<Place>,
 ) -> Result<Vec<Explained>, Memory>
-    requires few { length (model_of program.now).methods < 2 ^ 32 }
     ensures found { IfOk result (λ found. AreExactly (IsWrong (model_of program.now)) (map (λ e. finding_model e.finding) found.items)) }
     ensures each { IfOk result (λ found. All (λ e. IsExplainedIn named (model_of program.now) (explained_model e)) found.items) }
 {

@@ -32,7 +32,6 @@ pub(crate) fn analyse_methods<R: Threads + Wait + Sync, G: Gate>(
     tools: &Tools<'_, R, G>,
     program: &Program,
 ) -> Result<Vec<Finding>, Memory>
-    requires few { length (model_of program.now).methods < 2 ^ 32 }
     ensures { IfOk result (λ found. AreExactly (IsWrong (model_of program.now)) (map finding_model found.items)) }
 {
     threads_share_a_program();

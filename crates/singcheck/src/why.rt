@@ -121,7 +121,6 @@ fn report_of_contracts(
 
 /// Returns the answer to a program without findings before its methods.
 fn why_methods(alloc: Global, program: &Program, named: Option<Place>) -> Result<Report, Memory>
-    requires few { length (model_of program.now).methods < 2 ^ 32 }
     ensures { IfOk result (λ answer. (text : List ℕ) → HasProgram text (model_of program.now)
         → Explains named text answer.bytes.items answer.status) }
 {

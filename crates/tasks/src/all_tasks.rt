@@ -25,7 +25,6 @@ pub fn give_up_all(mut tasks: IntoIter<Task, Global>) {
 /// # Errors
 /// `Memory` if out of memory; the tasks made so far are given up.
 pub fn tasks(alloc: Global, program: &Program) -> Result<Vec<Task>, Memory>
-    requires few { length (model_of program.now).methods < 2 ^ 32 }
     ensures each { IfOk result (λ tasks. map number_of tasks.items ≡ numbers_below (length (model_of program.now).methods)) }
     ensures program { IfOk result (λ tasks. All (λ task. task_program task ≡ program.now) tasks.items) }
 {

@@ -40,8 +40,3 @@ returns-in-Clean-Program-clause-safe g c =
     let p = model_of c.in-Clean-Program.program in
     let built = subst (IsBuiltIn text) c.in-Clean-Program.field-0-is (subst (IsBuiltOf text) c.in-Clean-Program.is c.in_ok-findings.ensures) in
     IfOk-weaker c.check_methods.result _ _ (λ r clean empty. safe_text text p (λ items parsed. c.one_program.ensures.told text items p built.has parsed) (clean empty) built.safe) c.check_methods.ensures.clean
-
-pub check_methods-requires-clause-few : goal.check_methods-requires-clause-few
-check_methods-requires-clause-few g c κs within =
-    let built = subst (IsBuiltIn c.args.text.now) c.in-Clean-Program.field-0-is (subst (IsBuiltOf c.args.text.now) c.in-Clean-Program.is c.in_ok-findings.ensures) in
-    omega (arith, built.few)

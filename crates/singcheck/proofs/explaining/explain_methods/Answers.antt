@@ -35,7 +35,7 @@ loop-number-preserved c =
     let more = c.in_ok-more.more.items in
     let all = c.in_ok-append.ensures.items in
     let later : suc n ≡ n + 1 = omega arith in
-    let below : n < length p.methods = let many = ap length c.methods.ensures in let t = c.loop-number-test.true in omega (arith, t, many, length-map c.methods.result.now method_model) in
+    let below : n < length p.methods = let many = ap length c.methods.ensures.methods in let t = c.loop-number-test.true in omega (arith, t, many, length-map c.methods.result.now method_model) in
     record {
       worker = c.explain.ensures.worker;
       found = subst (λ k. AreOfMethods p (numbers_below k) (map parts c.append.new.self.items)) later
@@ -49,5 +49,5 @@ returns-clause-found c =
     let p = model_of c.args.program.now in
     let n = c.loop-number.number in
     let same : n ≡ length p.methods
-    = let past = c.loop-number-test.false in let within = c.loop-number.auto.number-end in let many = ap length c.methods.ensures in omega (arith, past, within, many, length-map c.methods.result.now method_model) in
+    = let past = c.loop-number-test.false in let within = c.loop-number.auto.number-end in let many = ap length c.methods.ensures.methods in omega (arith, past, within, many, length-map c.methods.result.now method_model) in
     of_all_methods p (numbers_below n) (map (λ (e : Explained). finding_model e.finding) c.loop-number.found.items) (λ k. ap (λ m. times k (numbers_below m)) same) c.loop-number.invariant.found

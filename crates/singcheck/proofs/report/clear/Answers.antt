@@ -12,5 +12,5 @@ returns-clause-bytes c =
     let contracts = c.contracts-contracts.result.now in
     let methods = c.methods-methods.result.now in
     let all : length contracts ≡ length p.contracts = sym (length-map contracts contract_model) ∙ ap length c.contracts-contracts.ensures in
-    let many : length methods ≡ length p.methods = sym (length-map methods method_model) ∙ ap length c.methods-methods.ensures in
+    let many : length methods ≡ length p.methods = sym (length-map methods method_model) ∙ ap length c.methods-methods.ensures.methods in
     c.in_ok-add_clear.ensures ∙ ap (λ l. l ++ clear_line (length contracts) (length methods)) c.new-bytes.ensures.items ∙ ap₂ clear_line all many

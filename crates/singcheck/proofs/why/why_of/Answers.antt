@@ -29,11 +29,6 @@ returns-in-Clean-Broken c =
     let built = subst (IsBuiltIn text) c.in-Clean-Broken.field-0-is (subst (IsBuiltOf text) c.in-Clean-Broken.is c.in_ok-findings.ensures) in
     IfOk-weaker c.report_of_contracts.result _ _ (λ r told. told text found (subst (λ l. AreBrokenOf text l found) (sym c.contracts.ensures) built)) c.report_of_contracts.ensures
 
-pub why_methods-requires : goal.why_methods-requires
-why_methods-requires c =
-    let built = subst (IsBuiltIn c.args.text.now) c.in-Clean-Program.field-0-is (subst (IsBuiltOf c.args.text.now) c.in-Clean-Program.is c.in_ok-findings.ensures) in
-    record { few = omega (arith, built.few) }
-
 pub returns : goal.returns
 returns c =
     let built = subst (IsBuiltIn c.args.text.now) c.in-Clean-Program.field-0-is (subst (IsBuiltOf c.args.text.now) c.in-Clean-Program.is c.in_ok-findings.ensures) in

@@ -29,6 +29,7 @@ new-requires c =
     let brings = subst (λ ms. AreWellFormed (record { contracts = told; messages = ms; structs = structs; methods = methods })) (sym c.in_ok-messages.ensures.messages) has in
     record {
       well_formed = subst (λ cs. AreWellFormed (record { contracts = cs; messages = type_lists made.messages.items; structs = structs; methods = methods })) (sym c.requires.contracts) brings;
+      few = c.in_ok-messages.ensures.few;
     }
 
 pub returns-clause-bare : goal.returns-clause-bare

@@ -32,12 +32,12 @@ read_pair-requires-clause-there c =
 
 pub instruction_at-at-requires : goal.instruction_at-at-requires
 instruction_at-at-requires c = record {
-  graph = subst (λ o. IsSomeAnd o (λ (m : MethodModel). graph_model c.graph.result.now ≡ graph_of m)) (method_at c.methods.result.now (model_of c.args.self.now.program.now).methods c.args.self.now.method.0 c.index-methods-self.result c.methods.ensures c.requires.there c.index-methods-self.is) c.graph.ensures;
+  graph = subst (λ o. IsSomeAnd o (λ (m : MethodModel). graph_model c.graph.result.now ≡ graph_of m)) (method_at c.methods.result.now (model_of c.args.self.now.program.now).methods c.args.self.now.method.0 c.index-methods-self.result c.methods.ensures.methods c.requires.there c.index-methods-self.is) c.graph.ensures;
 }
 
 pub path_lines-requires-clause-graph : goal.path_lines-requires-clause-graph
 path_lines-requires-clause-graph c =
-    subst (λ o. IsSomeAnd o (λ (m : MethodModel). graph_model c.graph.result.now ≡ graph_of m)) (method_at c.methods.result.now (model_of c.args.self.now.program.now).methods c.args.self.now.method.0 c.index-methods-self.result c.methods.ensures c.requires.there c.index-methods-self.is) c.graph.ensures
+    subst (λ o. IsSomeAnd o (λ (m : MethodModel). graph_model c.graph.result.now ≡ graph_of m)) (method_at c.methods.result.now (model_of c.args.self.now.program.now).methods c.args.self.now.method.0 c.index-methods-self.result c.methods.ensures.methods c.requires.there c.index-methods-self.is) c.graph.ensures
 
 pub path_lines-requires-clause-there : goal.path_lines-requires-clause-there
 path_lines-requires-clause-there c =
@@ -62,7 +62,7 @@ returns-clause-trace c =
     let here = one_pair by.trace.at _ (sym way.1 ∙ c.in_ok-point.ensures.pair t.0 t.1) in
     let about : map (λ (v : VarId). v.0) c.in_ok-about.about.items ≡ variables_of_reason breach.reason (slice_get (graph_of m).instructions by.trace.at.0)
     = c.in_ok-about.ensures ∙ ap (variables_of_reason breach.reason) (c.instruction_at-at.ensures ∙ ap (λ x. slice_get (graph_of m).instructions x.0) (sym here)) in
-    let there = method_at c.methods.result.now p.methods n c.index-methods-self.result c.methods.ensures c.requires.there c.index-methods-self.is in
+    let there = method_at c.methods.result.now p.methods n c.index-methods-self.result c.methods.ensures.methods c.requires.there c.index-methods-self.is in
     let first : slice_get t.0 0 ≡ Some (entry_of p n) = first_seen p n t.0 c.args.trails.now t.2 in
     IfOk-weaker c.path_lines.result _ _ (λ lines told.
     let is : map line_model lines.items ≡ trace_lines p m breach (entry_of p n) by.steps trace.at
