@@ -35,7 +35,8 @@ use Rattle.machine.specs.declared.halts.Event.{Event}
 use Rattle.machine.specs.declared.halts.Fault.TheVariants.{F1, F2, F3, F7}
 use Rattle.sound.specs.GraphFit.{AreGraphsFit, IsFit, ScopeAt}
 use Rattle.sound.specs.Operands.{stateless}
-use Rattle.sound.specs.Queues.{IsBounded, IsLiveEnd}
+use Rattle.sound.specs.GraphSafe.{IsBounded}
+use Rattle.sound.specs.Queues.{IsLiveEnd}
 use Rattle.sound.proofs.Contracts.{sound_program}
 use Rattle.sound.proofs.Arguments.{or_false}
 use Rattle.sound.proofs.blocks.Blocks.{queues_append}

@@ -22,7 +22,8 @@ use Rattle.sound.specs.Premises.{AreSound, IsEntry, NothingIsFound}
 use Rattle.program.specs.WellFormed.{AreWellFormed}
 use Rattle.sound.proofs.Contracts.{sound_program}
 use Rattle.sound.proofs.Trees.{graphs_fit}
-use Rattle.sound.specs.Safe.{FieldsOwn, IsSafe}
+use Rattle.sound.specs.GraphSafe.{IsSafe}
+use Rattle.sound.specs.Safe.{FieldsOwn}
 use Rattle.program.specs.WellFormed.{field_types}
 use Rattle.program.specs.declared.types.HeapType.{HeapType}
 use Rattle.machine.specs.Heaps.{FieldsHold}

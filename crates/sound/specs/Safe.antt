@@ -7,12 +7,13 @@ use Rattle.program.specs.WellFormed.{field_types}
 use Rattle.program.specs.declared.types.Side.{Side}
 use Rattle.rules.specs.Mentions.{is_lent_role}
 use Rattle.machine.specs.Frames.{variables_of}
-use Rattle.machine.specs.Machine.{event_outcome}
-use Rattle.machine.specs.Outcomes.{QueueBounds, Faulty, Moved}
+use Rattle.machine.specs.Outcomes.{QueueBounds}
 use Rattle.machine.specs.Heaps.{Rooted, occurs, one_if}
-use Rattle.machine.specs.World.{Block, Frame, World, block_at, cut_off, is_freed_at, is_inside, owns, read, stack_at}
+use Rattle.machine.specs.World.{Block, block_at, cut_off, is_freed_at, is_inside, owns, read}
 use Rattle.machine.specs.declared.halts.Event.{Event}
 use Rattle.machine.specs.declared.halts.Fault.{Fault}
+use Rattle.semantics.specs.Events.{event_outcome}
+use Rattle.semantics.specs.Worlds.{Faulty, Frame, Moved, World, stack_at}
 use Rattle.sound.specs.Queues.{IsLiveEnd, QueueIsWalk}
 
 -- The number of variables of a frame that hold this address. A lent parameter does not count, since the caller has the address too.

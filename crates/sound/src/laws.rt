@@ -5,8 +5,12 @@ ghost use Rattle.contracts.specs.Sounds.{sound_parts};
 ghost use Rattle.program.specs.Programs.{ProgramModel, contracts_model, program_model};
 ghost use Rattle.program.specs.WellFormed.{AreWellFormed};
 ghost use Rattle.machine.specs.Outcomes.{QueueBounds};
-ghost use Rattle.machine.specs.Runs.{AreBounds, Run};
-ghost use Rattle.machine.specs.World.{World};
+ghost use Rattle.machine.specs.Runs as graph_runs;
+ghost use Rattle.machine.specs.Runs.{AreBounds};
+ghost use Rattle.machine.specs.World as graph_world;
+ghost use Rattle.semantics.specs.Events.{Run};
+ghost use Rattle.semantics.specs.Worlds.{World};
+ghost use Rattle.sound.specs.GraphSafe as graph_safe;
 ghost use Rattle.sound.specs.GraphFit.{AreGraphsFit};
 ghost use Rattle.sound.specs.Premises.{AreSound, IsEntry, NothingIsFound};
 ghost use Rattle.sound.specs.Queues.{IsBounded};
@@ -22,6 +26,26 @@ pub fn graphs_fit()
     ensures { (p : ProgramModel) → AreWellFormed p → AreGraphsFit p }
 {}
 
+/// In every run of the graphs of a program with sound contracts, whatever is found in its methods, queues keep to
+/// their contracts and bounds.
+pub fn graph_runs_are_bounded()
+    ensures { (p : ProgramModel) (bound : QueueBounds) → AreWellFormed p → AreSound p
+        → AreBounds p bound
+        → (n : ℕ) (w : graph_world.World) → graph_runs.Run p bound n w → graph_safe.IsBounded p bound w }
+{
+    two_ends();
+}
+
+/// A program with sound contracts and without findings in its methods is safe in every run of its graphs.
+pub fn graph_runs_are_safe()
+    ensures { (p : ProgramModel) (bound : QueueBounds) → AreWellFormed p → AreSound p
+        → AreBounds p bound
+        → NothingIsFound p → (n : ℕ) (w : graph_world.World) → IsEntry p n → graph_runs.Run p bound n w
+        → graph_safe.IsSafe p bound w }
+{
+    two_ends();
+}
+
 /// In every run of a program with sound contracts, whatever is found in its methods, each queue is a walk of its
 /// contract and no longer than its bound, and no send exceeds a bound.
 pub fn runs_are_bounded()
@@ -29,7 +53,7 @@ pub fn runs_are_bounded()
         → AreBounds p bound
         → (n : ℕ) (w : World) → Run p bound n w → IsBounded p bound w }
 {
-    two_ends();
+    graph_runs_are_bounded();
 }
 
 /// A program with sound contracts and without findings in its methods is safe in every run.
@@ -42,7 +66,7 @@ pub fn empty_report_is_safe()
         → AreBounds p bound
         → NothingIsFound p → (n : ℕ) (w : World) → IsEntry p n → Run p bound n w → IsSafe p bound w }
 {
-    two_ends();
+    graph_runs_are_safe();
 }
 
 /// The premises of `empty_report_is_safe` can be met together, as a double negation: some program, bounds and method

@@ -20,7 +20,8 @@ use Rattle.sound.proofs.Parameters.{each_argument}
 use Rattle.rows.specs.declared.row.Leaf.{Leaf}
 use Rattle.machine.specs.Frames.{method_at, variables_of, point_instruction}
 use Rattle.machine.specs.World.{Block, Frame, World, stack_at, read, owns, let_go}
-use Rattle.sound.specs.Safe.{stands_in, stands_in_frames}
+use Rattle.sound.specs.GraphSafe.{stands_in_frames}
+use Rattle.sound.specs.Safe.{stands_in}
 use Rattle.sound.proofs.Arguments.{PairApart, standing_of, pair_apart, go_other, go_counts, all_claimed_of, as_claimed_apart, numbers}
 use Rattle.sound.proofs.Basics.{standing_read}
 use Rattle.sound.proofs.Checks.{all_pass, passed_left, IsClean, number}

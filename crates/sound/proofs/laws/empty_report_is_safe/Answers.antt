@@ -1,5 +1,6 @@
-use Rattle.sound.proofs.Whole.{empty_report_is_safe as law}
+use Rattle.sound.proofs.Statements.{runs_safe}
 use Rattle.sound.proofs.laws.empty_report_is_safe.Goals as goal
 
 pub returns : goal.returns
-returns c = law c.two_ends.ensures.held c.two_ends.ensures.bounded
+returns c = λ p bound well sound bounds nothing n w entry run.
+    runs_safe p bound n (λ v r. c.graph_runs_are_safe.ensures p bound well sound bounds nothing n v entry r) w run

@@ -1,5 +1,6 @@
-use Rattle.sound.proofs.AnyRun.{runs_are_bounded as law}
+use Rattle.sound.proofs.Statements.{runs_bounded}
 use Rattle.sound.proofs.laws.runs_are_bounded.Goals as goal
 
 pub returns : goal.returns
-returns c = law c.two_ends.ensures.held c.two_ends.ensures.bounded
+returns c = λ p bound well sound bounds n w run.
+    runs_bounded p bound n (λ v r. c.graph_runs_are_bounded.ensures p bound well sound bounds n v r) w run
