@@ -1,5 +1,5 @@
 -- Small programs, run by the definitions, and the lines that are printed.
-use Rattle.std.proofs.Common.{◌≡◌, ◌∙◌, ◌+◌, ◌<◌, ◌≤◌, ◌/◌, ◌%◌, ◌++◌, ap, arith, ℕ, true, false, List, [], ◌∷◌, Option, Some, None, refl, replicate}
+use Rattle.std.proofs.Common.{◌≡◌, ◌∙◌, ◌+◌, ◌<◌, ◌≤◌, ◌/◌, ◌%◌, ◌++◌, ap, arith, ℕ, true, false, List, [], ◌∷◌, Option, Some, None, map, refl, replicate}
 use Rattle.std.specs.Prelude.{codes, unwrap_or}
 use Rattle.std.specs.Fmt.{decimal}
 use Rattle.std.proofs.lemmas.Fmt.{decimal_digit, decimal_step}
@@ -37,7 +37,7 @@ use Rattle.machine.specs.declared.halts.Halt.{Halt}
 use Rattle.machine.specs.declared.halts.Halt.TheVariants as halts
 use Rattle.machine.specs.declared.worlds.Owner.{Owner}
 use Rattle.machine.specs.declared.worlds.Owner.TheVariants.{Process, Inside, Freed}
-use Rattle.replays.specs.WorldLines.{replay_lines, world_lines}
+use Rattle.replays.specs.WorldLines.{position, replay_lines, world_lines}
 
 -- numbers of one digit, and two of two
 digit : (n : ℕ) → n < 10 → decimal n ≡ (48 + n) ∷ []
@@ -139,7 +139,9 @@ ran p (e ∷ events) n w = behind p w e n (event_outcome p bound w e) (ran p eve
 
 -- what is printed for these events from the beginning of the first method; the one struct is D
 abbrev printed : ProgramModel → List Event → List ℕ
-printed p events = let r = ran p events 0 (start_of p 0) in replay_lines (record { program = p; structs = codes "D" ∷ [] }) events r.steps r.why r.world
+printed p events =
+    let r = ran p events 0 (start_of p 0) in
+    replay_lines (record { program = p; structs = codes "D" ∷ [] }) events r.steps r.why (map (position p) r.world.processes) r.world.blocks
 
 abbrev program : ContractModel → List (List HeapType) → List MethodModel → ProgramModel
 program c messages methods = record { contracts = c ∷ []; messages = messages; structs = []; methods = methods }
@@ -259,7 +261,8 @@ nested = record {
       ∷ [];
 }
 
-pub nested_lines : world_lines (record { program = sends_an_end; structs = codes "D" ∷ [] }) nested
+pub nested_lines : world_lines (record { program = sends_an_end; structs = codes "D" ∷ [] })
+    (map (position sends_an_end) nested.processes) nested.blocks
     ≡ codes "process 0 ended\nblock 0 D owner process 0 holds [2,1]\nblock 1 W.Imp S owner block 0 queue []\n"
     ++ codes "block 2 D owner block 0\nblock 3 D freed\n"
 nested_lines = simp (digit 0 (omega arith), digit 1 (omega arith), digit 2 (omega arith), digit 3 (omega arith)) refl

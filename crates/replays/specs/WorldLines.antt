@@ -7,7 +7,7 @@ use Rattle.program.specs.Programs.{ProgramModel}
 use Rattle.program.specs.declared.types.HeapType.{HeapType}
 use Rattle.program.specs.declared.types.HeapType.TheVariants.{Endpoint}
 use Rattle.machine.specs.Places.{stack_place}
-use Rattle.machine.specs.World.{Block, Frame, MessageHeld, World}
+use Rattle.machine.specs.World.{Block, Frame, MessageHeld}
 use Rattle.machine.specs.declared.halts.Event.{Event}
 use Rattle.machine.specs.declared.halts.Fault.{Fault}
 use Rattle.machine.specs.declared.halts.Fault.TheVariants as faults
@@ -53,14 +53,18 @@ stop_text _ _ = codes "end of schedule"
 abbrev pub stop_line : Option Event → Option Halt → List ℕ
 stop_line e why = codes "stop: " ++ (stop_text e why ++ codes "\n")
 
--- where a process is, and how many frames it has; or that it has ended
+-- how many frames a process has, and where it is; or that it has ended
 abbrev pub position_text : ℕ → Option Place → List ℕ
 position_text frames None = codes " ended"
 position_text frames (Some at) = codes " at " ++ (place_text at ++ (codes ", frames " ++ decimal frames))
 
 -- `process P at LINE:COL, frames N`, or `process P ended`
-abbrev pub process_line : ProgramModel → ℕ → List Frame → List ℕ
-process_line p number stack = codes "process " ++ (decimal number ++ (position_text (length stack) (stack_place p stack) ++ codes "\n"))
+abbrev pub process_line : ℕ → ℕ × Option Place → List ℕ
+process_line number at = codes "process " ++ (decimal number ++ (position_text at.0 at.1 ++ codes "\n"))
+
+-- where a process with these frames is: how many they are, and the place of the innermost
+abbrev pub position : ProgramModel → List Frame → ℕ × Option Place
+position p stack = (length stack, stack_place p stack)
 
 -- an owner, as it is printed
 abbrev pub owner_text : Owner → List ℕ
@@ -101,11 +105,12 @@ module _ (w : Words) where
   abbrev pub block_line : ℕ → Block → List ℕ
   block_line address b = codes "block " ++ (decimal address ++ (codes " " ++ (type_name w b.ty ++ (block_text b b.owner ++ codes "\n"))))
 
-  -- a line for each process and one for each block, in order
-  abbrev pub world_lines : World → List ℕ
-  world_lines v = flat_map (λ q. process_line w.program q.0 q.1) (enumerate_from 0 v.processes)
-      ++ flat_map (λ b. block_line b.0 b.1) (enumerate_from 0 v.blocks)
+  -- a line for each process, by where it is, and one for each block, in order
+  abbrev pub world_lines : (positions : List (ℕ × Option Place)) → List Block → List ℕ
+  world_lines positions blocks = flat_map (λ q. process_line q.0 q.1) (enumerate_from 0 positions)
+      ++ flat_map (λ b. block_line b.0 b.1) (enumerate_from 0 blocks)
 
-  -- what is printed of a replay: how many events were steps, why it stopped, and the world after them
-  abbrev pub replay_lines : List Event → (steps : ℕ) → Option Halt → World → List ℕ
-  replay_lines events steps why v = steps_line steps ++ (stop_line (slice_get events steps) why ++ world_lines v)
+  -- what is printed of a replay: how many events were steps, why it stopped, and where processes and what blocks are after them
+  abbrev pub replay_lines : List Event → (steps : ℕ) → Option Halt → (positions : List (ℕ × Option Place)) → List Block → List ℕ
+  replay_lines events steps why positions blocks =
+      steps_line steps ++ (stop_line (slice_get events steps) why ++ world_lines positions blocks)

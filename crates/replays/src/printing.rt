@@ -3,7 +3,7 @@
 ghost use Rattle.std.specs.Prelude.{◌≡◌, IfOk, map, string_bytes};
 ghost use Rattle.rules.specs.Programs.{model_of};
 ghost use Rattle.machine.specs.Views.{world_model};
-ghost use Rattle.replays.specs.WorldLines.{replay_lines};
+ghost use Rattle.replays.specs.WorldLines.{position, replay_lines};
 
 use crate::blocks::add_blocks;
 use crate::naming::Naming;
@@ -28,7 +28,8 @@ pub fn lines_of(
 ) -> Result<Vec<u8>, Memory>
     ensures { IfOk result (λ bytes. bytes.items
         ≡ replay_lines (record { program = model_of program.now; structs = map string_bytes structs.now }) events.now replayed.now.steps
-        replayed.now.halt (world_model replayed.now.world)) }
+        replayed.now.halt (map (position (model_of program.now)) (world_model replayed.now.world).processes)
+        (world_model replayed.now.world).blocks) }
 {
     let naming = Naming::new(alloc, program, structs)?;
     let mut answer = Vec::new(alloc);

@@ -4,7 +4,7 @@ ghost use Rattle.std.specs.Prelude.{◌≡◌, ◌++◌, OnOk, map};
 ghost use Rattle.std.specs.List.{enumerate_from, flat_map};
 ghost use Rattle.rules.specs.Programs.{model_of};
 ghost use Rattle.machine.specs.Views.{stack_model};
-ghost use Rattle.replays.specs.WorldLines.{fault_name, halt_text, process_line, steps_line, stop_line};
+ghost use Rattle.replays.specs.WorldLines.{fault_name, halt_text, position, process_line, steps_line, stop_line};
 
 use crate::texts::{add, add_number, add_place};
 use machine::{Event, Fault, Halt, Process};
@@ -89,7 +89,8 @@ fn add_process(
     number: usize,
     process: &Process,
 ) -> Result<(), Memory>
-    ensures { OnOk result (answer.new.items ≡ answer.old.items ++ process_line (model_of program.now) number (stack_model process.now)) }
+    ensures { OnOk result (answer.new.items ≡ answer.old.items
+        ++ process_line number (position (model_of program.now) (stack_model process.now))) }
 {
     add(answer, b"process ")?;
     add_number(answer, number as u64)?;
@@ -112,7 +113,8 @@ pub(crate) fn add_processes(
     processes: &[Process],
 ) -> Result<(), Memory>
     ensures { OnOk result (answer.new.items ≡ answer.old.items
-        ++ flat_map (λ q. process_line (model_of program.now) q.0 q.1) (enumerate_from 0 (map stack_model processes.now))) }
+        ++ flat_map (λ q. process_line q.0 q.1)
+        (enumerate_from 0 (map (λ process. position (model_of program.now) (stack_model process)) processes.now))) }
 {
     for (number, process) in processes.iter().enumerate() {
         add_process(answer, program, number, process)?;

@@ -1,5 +1,5 @@
--- A replay over graphs is one over statements.
-use Rattle.std.proofs.Common.{◌≡◌, ℕ, List, [], ◌∷◌, refl, sym, ap, ◌∙◌, subst, Some, None, take}
+-- A replay over graphs is one over statements, and the other way round.
+use Rattle.std.proofs.Common.{◌≡◌, ℕ, suc, List, [], ◌∷◌, length, map, refl, sym, ap, ap₂, ◌∙◌, subst, Some, None, take}
 use Rattle.std.specs.Prelude.{Option, Err}
 use Rattle.std.specs.Option.{option_map}
 use Rattle.source.specs.declared.place.Place.{Place}
@@ -17,12 +17,12 @@ use Rattle.machine.specs.World as graph_world
 use Rattle.machine.specs.declared.halts.Event.{Event}
 use Rattle.machine.specs.declared.halts.Halt.{Halt}
 use Rattle.machine.specs.declared.halts.Halt.TheVariants as halt
-use Rattle.semantics.proofs.Running.{event_alike, stated_run}
+use Rattle.semantics.proofs.Running.{event_alike, graph_run, stated_run}
 use Rattle.semantics.proofs.Stacks.{stack_same}
 use Rattle.semantics.specs.Events.{event_outcome}
-use Rattle.semantics.specs.Places.{place_of, process_place, stack_place}
+use Rattle.semantics.specs.Places.{place_of, position, process_place, stack_place}
 use Rattle.semantics.specs.Replays.{EndsWith, IsHalt, IsReplay}
-use Rattle.semantics.specs.Same.{IsOutcome, IsStack, IsWorld}
+use Rattle.semantics.specs.Same.{AreStacks, AreWaiting, IsOutcome, IsStack, IsWorld}
 use Rattle.semantics.specs.Worlds.{Faulty, Frame, Moved, NoChoice, NoProcess, Outcome, Waits, World, stack_at}
 
 -- the place of what is still to do is that of the instruction
@@ -52,6 +52,31 @@ module _ (p : ProgramModel) where
   pub place_same : (w : graph_world.World) (s : World) → IsWorld p w s → (q : ℕ) → graph_places.process_place p w q ≡ process_place s q
   place_same w s h q =
       stack_place_same (graph_world.stack_at w.processes q) (stack_at s.processes q) (stack_same p w.processes s.processes h.processes q)
+
+  -- ---- where processes are
+  waiting_long : (fs : List graph_world.Frame) (ss : List Frame) → AreWaiting p fs ss → length fs ≡ length ss
+  waiting_long [] [] h = refl
+  waiting_long [] (t ∷ ts) h = absurd h
+  waiting_long (f ∷ gs) [] h = absurd h
+  waiting_long (f ∷ gs) (t ∷ ts) h = ap suc (waiting_long gs ts h.1.1)
+
+  stack_long : (fs : List graph_world.Frame) (ss : List Frame) → IsStack p fs ss → length fs ≡ length ss
+  stack_long [] [] h = refl
+  stack_long [] (t ∷ ts) h = absurd h
+  stack_long (f ∷ gs) [] h = absurd h
+  stack_long (f ∷ gs) (t ∷ ts) h = ap suc (waiting_long gs ts h.1)
+
+  abbrev graph_position : List graph_world.Frame → ℕ × Option Place
+  graph_position stack = (length stack, graph_places.stack_place p stack)
+
+  pub positions_same : (fs : List (List graph_world.Frame)) (ss : List (List Frame)) → AreStacks p fs ss
+      → map graph_position fs ≡ map position ss
+  positions_same [] [] h = refl
+  positions_same [] (t ∷ ts) h = absurd h
+  positions_same (f ∷ gs) [] h = absurd h
+  positions_same (f ∷ gs) (t ∷ ts) h =
+      ap₂ (λ (x : ℕ × Option Place) (l : List (ℕ × Option Place)). x ∷ l)
+      (ap₂ (λ (n : ℕ) (at : Option Place). (n, at)) (stack_long f t h.0) (stack_place_same f t h.0)) (positions_same gs ts h.1)
 
   -- ---- what is no step in one is none in the other
   faulty_here : (x : outcomes.Outcome) (o : Outcome) → IsOutcome p x o → (why : Halt) (place : Option Place) (w : graph_world.World)
@@ -94,6 +119,49 @@ module _ (p : ProgramModel) where
       by NoChoice h = absurd h
   faulty_here x o h halt.Memory place w known tells = absurd known
 
+  faulty_there : (x : outcomes.Outcome) (o : Outcome) → IsOutcome p x o → (why : Halt) (place : Option Place) (w : graph_world.World)
+      → IsHalt why o place → TellsStep {X = Unit {0}} (Err why) x place w
+  faulty_there x o h halt.NoSuchProcess place w is = by x (subst (λ (y : Outcome). IsOutcome p x y) is h)
+    where
+      by : (x : outcomes.Outcome) → IsOutcome p x NoProcess → x ≡ outcomes.NoProcess
+      by outcomes.NoProcess h = refl
+      by (outcomes.Moved v) h = absurd h
+      by (outcomes.Faulty y) h = absurd h
+      by outcomes.Waits h = absurd h
+      by outcomes.NoChoice h = absurd h
+  faulty_there x o h halt.NoSuchChoice place w is = by x (subst (λ (y : Outcome). IsOutcome p x y) is h)
+    where
+      by : (x : outcomes.Outcome) → IsOutcome p x NoChoice → x ≡ outcomes.NoChoice
+      by outcomes.NoChoice h = refl
+      by (outcomes.Moved v) h = absurd h
+      by (outcomes.Faulty y) h = absurd h
+      by outcomes.Waits h = absurd h
+      by outcomes.NoProcess h = absurd h
+  faulty_there x o h (halt.Fault fault at) place w is = (by x (subst (λ (y : Outcome). IsOutcome p x y) is.0 h), is.1)
+    where
+      by : (x : outcomes.Outcome) → IsOutcome p x (Faulty fault) → x ≡ outcomes.Faulty fault
+      by (outcomes.Faulty y) h = ap outcomes.Faulty h
+      by (outcomes.Moved v) h = absurd h
+      by outcomes.Waits h = absurd h
+      by outcomes.NoProcess h = absurd h
+      by outcomes.NoChoice h = absurd h
+  faulty_there x o h halt.Waits place w is = by x (subst (λ (y : Outcome). IsOutcome p x y) is h)
+    where
+      by : (x : outcomes.Outcome) → IsOutcome p x Waits → x ≡ outcomes.Waits
+      by outcomes.Waits h = refl
+      by (outcomes.Moved v) h = absurd h
+      by (outcomes.Faulty y) h = absurd h
+      by outcomes.NoProcess h = absurd h
+      by outcomes.NoChoice h = absurd h
+  faulty_there x o h halt.Memory place w is = absurd is
+
+  may_end : (why : Halt) (o : Outcome) (place : Option Place) → IsHalt why o place → graph_replays.MayEndReplay (Some why)
+  may_end halt.NoSuchProcess o place is = tt
+  may_end halt.NoSuchChoice o place is = tt
+  may_end (halt.Fault fault at) o place is = tt
+  may_end halt.Waits o place is = tt
+  may_end halt.Memory o place is = absurd is
+
   module _ (bound : QueueBounds) where
     ends_alike : (w : graph_world.World) (s : World) → IsWorld p w s → (events : List Event) (steps : ℕ) (why : Option Halt)
         → graph_replays.MayEndReplay why → graph_replays.EndsWith p bound w events steps why → EndsWith p bound s events steps why
@@ -112,3 +180,28 @@ module _ (p : ProgramModel) where
     replay_alike m events r is =
         let k = stated_run p bound m (take r.steps events) r.world is.leads in
         (k.0, (record { leads = k.1.0; ends = ends_alike r.world k.0 k.1.1 events r.steps r.halt is.known is.ends }, k.1.1))
+
+    ends_too : (w : graph_world.World) (s : World) → IsWorld p w s → (events : List Event) (steps : ℕ) (why : Option Halt)
+        → EndsWith p bound s events steps why
+        → graph_replays.EndsWith p bound w events steps why × graph_replays.MayEndReplay why
+    ends_too w s h events steps None ends = (ends, tt)
+    ends_too w s h events steps (Some why) ends = (
+      record {
+        event = ends.event;
+        there = ends.there;
+        tells =
+            faulty_there (graph.event_outcome p bound w ends.event) (event_outcome p bound s ends.event) (event_alike p bound w s h ends.event)
+            why (graph_places.process_place p w ends.event.process) w
+            (subst (λ (place : Option Place). IsHalt why (event_outcome p bound s ends.event) place)
+            (sym (place_same w s h ends.event.process)) ends.halts);
+      },
+      may_end why (event_outcome p bound s ends.event) (process_place s ends.event.process) ends.halts,
+    )
+
+    pub replay_too : (m : ℕ) (events : List Event) (steps : ℕ) (why : Option Halt) (s : World) → IsReplay p bound m events steps why s
+        → (w : graph_world.World)
+        × (graph_replays.IsReplay p bound m events (record { world = w; steps = steps; halt = why }) × IsWorld p w s)
+    replay_too m events steps why s is =
+        let k = graph_run p bound m (take steps events) s is.leads in
+        let ends = ends_too k.0 s k.1.1 events steps why is.ends in
+        (k.0, (record { leads = k.1.0; ends = ends.0; known = ends.1 }, k.1.1))

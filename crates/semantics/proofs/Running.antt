@@ -82,3 +82,12 @@ module _ (p : ProgramModel) (bound : QueueBounds) where
       let h = stated_run n before v r in
       let k = next_stated v u h.0 e h.1.1 is in
       (k.0, (events.moves before h.0 k.0 e h.1.0 k.1.0, k.1.1))
+
+  -- and each of statements, by the same events, by one of graphs
+  pub graph_run : (n : ℕ) (es : List Event) (s : World) → RunsTo p bound (start_of p n) es s
+      → (w : graph_world.World) × (graph_runs.RunsTo p bound (graph_runs.start_of p n) es w × IsWorld p w s)
+  graph_run n _ _ events.stays = (graph_runs.start_of p n, (graph_runs.stays, starts_alike n))
+  graph_run n _ _ (events.moves before t v e r is) =
+      let h = graph_run n before t r in
+      let k = next_graph h.0 t v e h.1.1 is in
+      (k.0, (graph_runs.moves before h.0 k.0 e h.1.0 k.1.0, k.1.1))

@@ -1,5 +1,5 @@
 -- Where a process is in the text.
-use Rattle.std.specs.Prelude.{ℕ, List, [], ◌∷◌, Option, None, Some}
+use Rattle.std.specs.Prelude.{ℕ, List, [], ◌∷◌, length, Option, None, Some}
 use Rattle.source.specs.declared.place.Place.{Place}
 use Rattle.program.specs.Statements as stated
 use Rattle.semantics.specs.Rests.{Rest, Act, New, Send, Switch, If, While, Forget, Call, Start, Return, Stop, Missing}
@@ -25,6 +25,10 @@ place_of Missing = None
 abbrev pub stack_place : List Frame → Option Place
 stack_place [] = None
 stack_place (f ∷ rest) = place_of f.rest
+
+-- where a process with these frames is: how many frames it has, and its place, none once it has ended
+abbrev pub position : List Frame → ℕ × Option Place
+position stack = (length stack, stack_place stack)
 
 -- the place at which a process of a world is
 abbrev pub process_place : World → ℕ → Option Place

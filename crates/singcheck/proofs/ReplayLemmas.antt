@@ -12,13 +12,14 @@ use Rattle.program.specs.WellFormed.{AreWellFormed}
 use Rattle.wellformed.specs.Bare.{IsBare}
 use Rattle.rules.specs.Programs.{is_entry}
 use Rattle.machine.specs.Outcomes.{QueueBounds}
-use Rattle.machine.specs.Replays.{EndsWith}
-use Rattle.machine.specs.Runs.{AreBounds, RunsTo, Run, begins, goes_on, moves, stays, start_of}
-use Rattle.machine.specs.World.{World}
+use Rattle.machine.specs.Runs.{AreBounds}
 use Rattle.machine.specs.declared.halts.Event.{Event}
 use Rattle.machine.specs.declared.halts.Fault.{Fault}
 use Rattle.machine.specs.declared.halts.Fault.TheVariants.{F6}
 use Rattle.machine.specs.declared.halts.Halt.TheVariants as halt
+use Rattle.semantics.specs.Events.{RunsTo, Run, begins, goes_on, moves, stays, start_of}
+use Rattle.semantics.specs.Replays.{EndsWith}
+use Rattle.semantics.specs.Worlds.{World}
 use Rattle.sound.specs.Premises.{AreSound, IsEntry, NothingIsFound}
 use Rattle.sound.specs.Queues.{IsBounded}
 use Rattle.sound.specs.Safe.{IsSafe}
@@ -218,32 +219,33 @@ bounded_run entry lines text bytes status known ran bound are k w led =
 
 -- the replay ends with the outcome of the next event in its last world
 ends_at : (entry lines text bytes : List ℕ) (status : Status) (ran : IsRan entry lines text bytes status) (fault : Fault) (at : Place)
-    → ran.replayed.halt ≡ Some (halt.Fault fault at) → (bound : QueueBounds) → AreBounds ran.program bound
-    → EndsWith ran.program bound ran.replayed.world ran.events ran.replayed.steps (Some (halt.Fault fault at))
+    → ran.halt ≡ Some (halt.Fault fault at) → (bound : QueueBounds) → (are : AreBounds ran.program bound)
+    → EndsWith ran.program bound (ran.led bound are).world ran.events ran.steps (Some (halt.Fault fault at))
 ends_at entry lines text bytes status ran fault at e bound are =
-    subst (EndsWith ran.program bound ran.replayed.world ran.events ran.replayed.steps) e (ran.led bound are).ends
+    let led = ran.led bound are in
+    subst (EndsWith ran.program bound led.world ran.events ran.steps) e led.replayed.ends
 
 meets_none : (entry lines text bytes : List ℕ) (status : Status) → KnownOf text → HasEmptyReport text
-    → (ran : IsRan entry lines text bytes status) → (fault : Fault) (at : Place) → ran.replayed.halt ≡ Some (halt.Fault fault at) → ⊥
+    → (ran : IsRan entry lines text bytes status) → (fault : Fault) (at : Place) → ran.halt ≡ Some (halt.Fault fault at) → ⊥
 meets_none entry lines text bytes status known empty ran fault at e =
     let p = ran.program in
     let has = ran.entered.has in
-    let world = ran.replayed.world in
     known.bounds p has (λ bound are.
-    let run = run_of p bound ran.n (take ran.replayed.steps ran.events) world (ran.led bound are).leads in
+    let led = ran.led bound are in
+    let run = run_of p bound ran.n (take ran.steps ran.events) led.world led.replayed.leads in
     let starts = entry_is p (known.formed p has) (known.bare p has) ran.n ran.entered.at.begins in
-    let safe = known.safe p bound (known.formed p has) (known.sound p has) are (none_found text p known has empty) ran.n world starts run in
+    let safe = known.safe p bound (known.formed p has) (known.sound p has) are (none_found text p known has empty) ran.n led.world starts run in
     let ends = ends_at entry lines text bytes status ran fault at e bound are in
-    safe.no_fault ends.event fault ends.tells.0)
+    safe.no_fault ends.event fault ends.halts.0)
 
 meets_no_overflow : (entry lines text bytes : List ℕ) (status : Status) → KnownOf text → (ran : IsRan entry lines text bytes status)
-    → (at : Place) → ran.replayed.halt ≡ Some (halt.Fault F6 at) → ⊥
+    → (at : Place) → ran.halt ≡ Some (halt.Fault F6 at) → ⊥
 meets_no_overflow entry lines text bytes status known ran at e =
     known.bounds ran.program ran.entered.has (λ bound are.
-    let led = (ran.led bound are).leads in
-    let kept = bounded_run entry lines text bytes status known ran bound are ran.replayed.steps ran.replayed.world led in
+    let led = ran.led bound are in
+    let kept = bounded_run entry lines text bytes status known ran bound are ran.steps led.world led.replayed.leads in
     let ends = ends_at entry lines text bytes status ran F6 at e bound are in
-    kept.fits ends.event ends.tells.0)
+    kept.fits ends.event ends.halts.0)
 
 pub ran_safely : (entry lines text bytes : List ℕ) (status : Status) → KnownOf text → IsRan entry lines text bytes status
     → HasEmptyReport text → RunsSafely entry lines text bytes status

@@ -3,8 +3,9 @@ use Rattle.std.specs.Prelude.{◌≡◌, ℕ, List, Option, None, Some, IsSomeAn
 use Rattle.program.specs.Programs.{ProgramModel}
 use Rattle.rules.specs.Programs.{is_entry, model_of}
 use Rattle.machine.specs.Outcomes.{QueueBounds}
-use Rattle.machine.specs.Runs.{AreBounds, Run}
-use Rattle.machine.specs.World.{World}
+use Rattle.machine.specs.Runs.{AreBounds}
+use Rattle.semantics.specs.Events.{Run}
+use Rattle.semantics.specs.Worlds.{World}
 use Rattle.sound.specs.Premises.{IsEntry, NothingIsFound}
 use Rattle.sound.specs.Safe.{IsSafe}
 use Rattle.devices.specs.declared.fault.Input.TheVariants as input

@@ -10,12 +10,15 @@ use Rattle.program.specs.Lists.{Each}
 use Rattle.program.specs.Programs.{ProgramModel}
 use Rattle.rules.specs.Programs.{is_entry}
 use Rattle.machine.specs.Outcomes.{QueueBounds}
-use Rattle.machine.specs.Replays.{IsReplay, ReplayModel}
 use Rattle.machine.specs.Runs.{AreBounds}
 use Rattle.machine.specs.declared.halts.Event.{Event}
 use Rattle.machine.specs.declared.halts.Halt.{Halt}
+use Rattle.replays.specs.Names.{Words}
 use Rattle.replays.specs.Schedules.{IsFirstMalformed, IsSchedule}
 use Rattle.replays.specs.WorldLines.{replay_lines}
+use Rattle.semantics.specs.Places.{position}
+use Rattle.semantics.specs.Replays.{IsReplay}
+use Rattle.semantics.specs.Worlds.{World}
 use Rattle.devices.specs.declared.fault.Status.{Status}
 use Rattle.devices.specs.declared.fault.Status.TheVariants.{Empty, Found}
 use Rattle.singcheck.specs.Answers.{AreFindings}
@@ -79,19 +82,25 @@ pub record LacksSchedule (text entry schedule : List ℕ) (line : ℕ) : Type 0 
 abbrev pub stop_status : Option Halt → Status
 stop_status halt = option_map_or (λ why. Found) halt Empty
 
--- the events of the schedule were replayed from the entry, and the bytes are what is printed of that
+-- the first of these events lead from the method to a world, where the replay stops for this reason, and the bytes are what is printed of that
+pub record IsPrinted (words : Words) (bound : QueueBounds) (n : ℕ) (events : List Event) (steps : ℕ) (halt : Option Halt) (bytes : List ℕ)
+    : Type 0 where
+  pub world : World
+  pub replayed : IsReplay words.program bound n events steps halt world
+  pub are : bytes ≡ replay_lines words events steps halt (map position world.processes) world.blocks
+
+-- the events of the schedule were replayed from the entry, with the bounds of the contracts, and the bytes are what is printed of that
 pub record IsRan (entry schedule text bytes : List ℕ) (status : Status) : Type 0 where
   pub program : ProgramModel
   pub n : ℕ
   pub entered : HasEntry text entry program n
   pub events : List Event
   pub told : IsSchedule schedule events
-  pub replayed : ReplayModel
-  pub led : (bound : QueueBounds) → AreBounds program bound → IsReplay program bound n events replayed
-  pub are : bytes
-      ≡ replay_lines (record { program = program; structs = struct_names text entered.has.resolved.items })
-      events replayed.steps replayed.halt replayed.world
-  pub is : status ≡ stop_status replayed.halt
+  pub steps : ℕ
+  pub halt : Option Halt
+  pub led : (bound : QueueBounds) → AreBounds program bound
+      → IsPrinted (record { program = program; structs = struct_names text entered.has.resolved.items }) bound n events steps halt bytes
+  pub is : status ≡ stop_status halt
 
 -- what `replay` returns: the findings before the methods, or the replay of the schedule
 pub data Replays (entry schedule text bytes : List ℕ) (status : Status) : Type 0 where

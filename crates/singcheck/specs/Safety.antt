@@ -5,11 +5,12 @@ use Rattle.tree.specs.Trees.{ItemTree}
 use Rattle.program.specs.Programs.{ProgramModel}
 use Rattle.wellformed.specs.Told.{program_told}
 use Rattle.machine.specs.Outcomes.{QueueBounds}
-use Rattle.machine.specs.Runs.{AreBounds, RunsTo, Run, start_of}
-use Rattle.machine.specs.World.{World}
+use Rattle.machine.specs.Runs.{AreBounds}
 use Rattle.machine.specs.declared.halts.Fault.{Fault}
 use Rattle.machine.specs.declared.halts.Fault.TheVariants.{F6}
 use Rattle.machine.specs.declared.halts.Halt.TheVariants as halt
+use Rattle.semantics.specs.Events.{RunsTo, Run, start_of}
+use Rattle.semantics.specs.Worlds.{World}
 use Rattle.sound.specs.Premises.{IsEntry}
 use Rattle.sound.specs.Queues.{IsBounded}
 use Rattle.sound.specs.Safe.{IsSafe}
@@ -36,14 +37,14 @@ HasEmptyReport text = (bytes : List ℕ) × Checks text bytes Empty
 -- a replay was printed that does not stop with a fault
 pub record RunsSafely (entry schedule text bytes : List ℕ) (status : Status) : Type 0 where
   pub ran : IsRan entry schedule text bytes status
-  pub no_fault : (fault : Fault) (at : Place) → ran.replayed.halt ≢ Some (halt.Fault fault at)
+  pub no_fault : (fault : Fault) (at : Place) → ran.halt ≢ Some (halt.Fault fault at)
 
 -- A replay was printed that keeps the bounds of its contracts: it does not stop at a send past a
 -- bound, and in each world on its way each queue is a walk of its contract and no longer than its
 -- bound.
 pub record KeepsBounds (entry schedule text bytes : List ℕ) (status : Status) : Type 0 where
   pub ran : IsRan entry schedule text bytes status
-  pub no_overflow : (at : Place) → ran.replayed.halt ≢ Some (halt.Fault F6 at)
+  pub no_overflow : (at : Place) → ran.halt ≢ Some (halt.Fault F6 at)
   pub bounded : (bound : QueueBounds) → AreBounds ran.program bound → (k : ℕ) (w : World)
       → RunsTo ran.program bound (start_of ran.program ran.n) (take k ran.events) w → IsBounded ran.program bound w
 

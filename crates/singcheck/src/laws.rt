@@ -25,6 +25,7 @@ use analyse::laws::each_method_has_a_verdict;
 use contracts::laws::each_contract_is_judged;
 use names::laws::clean_contracts_are_whole;
 use replays::laws::{each_schedule_is_read, one_reading};
+use semantics::laws::replays_agree;
 use source::laws::{each_text_is_cut, one_cutting, one_fault};
 use syntax::{one_tree_a_spelling, tokens_are_parsed};
 use wellformed::laws::clean_methods_are_well_formed;
@@ -71,6 +72,7 @@ pub fn one_replay()
     each_program_has_bounds();
     one_reading();
     machine::laws::one_replay();
+    replays_agree();
 }
 
 /// A text yields at most one program (`one`), the one that its items yield (`told`).
@@ -145,6 +147,7 @@ pub fn each_replay_is_answered()
     each_program_has_bounds();
     each_schedule_is_read();
     machine::laws::events_have_a_replay();
+    replays_agree();
 }
 
 /// The limits, in digits.

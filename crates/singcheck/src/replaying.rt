@@ -21,6 +21,7 @@ use devices::{Input, MAX_READ, RunFault, Sink, Source, Status, read_text, read_u
 use machine::{Event, Halt, replay};
 use replays::laws::a_front_tells_all;
 use replays::{ScheduleFault, lines_of, read_schedule};
+use semantics::laws::replays_agree;
 use sound::laws::{empty_report_is_safe, runs_are_bounded};
 use source::Memory;
 use std::alloc::Global;
@@ -151,6 +152,7 @@ fn replay_events(alloc: Global, begun: &Begun, events: &[Event]) -> Result<Repor
     ensures { IfOk result (λ r. (text entry schedule : List ℕ) → IsBegun text entry begun.now → IsSchedule schedule events.now
         → IsRan entry schedule text r.bytes.items r.status) }
 {
+    replays_agree();
     let came = replay(alloc, &begun.program, begun.method, events)?;
     let bytes = lines_of(alloc, &begun.program, &begun.structs, events, &came)?;
     Ok(Report {

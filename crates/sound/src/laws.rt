@@ -28,7 +28,7 @@ pub fn graphs_fit()
 
 /// In every run of the graphs of a program with sound contracts, whatever is found in its methods, queues keep to
 /// their contracts and bounds.
-pub fn graph_runs_are_bounded()
+pub(crate) fn graph_runs_are_bounded()
     ensures { (p : ProgramModel) (bound : QueueBounds) → AreWellFormed p → AreSound p
         → AreBounds p bound
         → (n : ℕ) (w : graph_world.World) → graph_runs.Run p bound n w → graph_safe.IsBounded p bound w }
@@ -37,7 +37,7 @@ pub fn graph_runs_are_bounded()
 }
 
 /// A program with sound contracts and without findings in its methods is safe in every run of its graphs.
-pub fn graph_runs_are_safe()
+pub(crate) fn graph_runs_are_safe()
     ensures { (p : ProgramModel) (bound : QueueBounds) → AreWellFormed p → AreSound p
         → AreBounds p bound
         → NothingIsFound p → (n : ℕ) (w : graph_world.World) → IsEntry p n → graph_runs.Run p bound n w

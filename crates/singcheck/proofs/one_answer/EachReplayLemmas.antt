@@ -7,17 +7,18 @@ use Rattle.program.specs.Programs.{ProgramModel}
 use Rattle.program.specs.declared.types.Side.{Side}
 use Rattle.wellformed.specs.Told.{program_told}
 use Rattle.machine.specs.Outcomes.{QueueBounds}
-use Rattle.machine.specs.Replays.{IsReplay, ReplayModel}
+use Rattle.machine.specs.Replays as graph_replays
+use Rattle.machine.specs.Replays.{ReplayModel}
 use Rattle.machine.specs.Runs.{AreBounds}
 use Rattle.machine.specs.declared.halts.Event.{Event}
 use Rattle.machine.proofs.BoundLemmas.{bound_is, bound_past}
 use Rattle.replays.specs.Schedules.{IsFirstMalformed, IsSchedule}
-use Rattle.replays.specs.WorldLines.{replay_lines}
 use Rattle.devices.specs.declared.fault.Status.{Status}
 use Rattle.devices.specs.declared.fault.Status.TheVariants.{Found}
 use Rattle.singcheck.specs.Checks.{HasProgram}
 use Rattle.singcheck.specs.Replays.{Answered as answered, ComesTo, HasEntry, IsRan, NoEntry, NoSchedule, OfFindings, OfRun, stop_status}
 use Rattle.singcheck.specs.Replays.{struct_names}
+use Rattle.singcheck.proofs.PrintedLemmas.{Agreeing, graph_printed, printed}
 use Rattle.singcheck.proofs.one_answer.EachLemmas.{Answered, program_there, sound_some}
 use Rattle.singcheck.proofs.one_answer.InsertLemmas.{report_there}
 
@@ -26,7 +27,8 @@ pub record Replaying : Type 0 where
   pub bounds : (text : List ℕ) (p : ProgramModel) → HasProgram text p → ((bound : QueueBounds) → AreBounds p bound → ⊥) → ⊥
   pub read : (bytes : List ℕ) → ((events : List Event) → ¬ IsSchedule bytes events) → ((n : ℕ) → ¬ IsFirstMalformed bytes n) → ⊥
   pub replays : (p : ProgramModel) (bound : QueueBounds) (m : ℕ) (events : List Event)
-      → ((r : ReplayModel) → ¬ IsReplay p bound m events r) → ⊥
+      → ((r : ReplayModel) → ¬ graph_replays.IsReplay p bound m events r) → ⊥
+  pub agree : Agreeing
 
 -- a program has one bound for each end of a contract
 bound_at : (p : ProgramModel) (a b : QueueBounds) (n : ℕ) (side : Side) → AreBounds p a → AreBounds p b
@@ -44,16 +46,17 @@ pub ran_some : Replaying → (entry lines text : List ℕ) (p : ProgramModel) (n
     → ((bytes : List ℕ) (status : Status) → ¬ IsRan entry lines text bytes status) → ⊥
 ran_some laws entry lines text p n events entered told none = laws.bounds text p entered.has (λ bound are.
     laws.replays p bound n events (λ r is.
-    let names = struct_names text entered.has.resolved.items in
-    none (replay_lines (record { program = p; structs = names }) events r.steps r.halt r.world) (stop_status r.halt) (record {
+    let words = record { program = p; structs = struct_names text entered.has.resolved.items } in
+    none (graph_printed words events r) (stop_status r.halt) (record {
       program = p;
       n = n;
       entered = entered;
       events = events;
       told = told;
-      replayed = r;
-      led = λ other others. subst (λ (b : QueueBounds). IsReplay p b n events r) (one_bounds p bound other are others) is;
-      are = refl;
+      steps = r.steps;
+      halt = r.halt;
+      led = λ other others. printed laws.agree words other n events r
+          (subst (λ (b : QueueBounds). graph_replays.IsReplay p b n events r) (one_bounds p bound other are others) is);
       is = refl;
     })))
 

@@ -3,19 +3,22 @@ use Rattle.std.proofs.Common.{◌≡◌, ℕ, Bool, true, false, List, refl, sym
 use Rattle.std.specs.Prelude.{nat_eq}
 use Rattle.std.specs.Cmp.Lexicographic.{pointwise, same_text, other_text}
 use Rattle.program.specs.Programs.{ProgramModel}
+use Rattle.tree.specs.Trees.{ItemTree}
 use Rattle.machine.specs.Outcomes.{QueueBounds}
-use Rattle.machine.specs.Replays.{IsReplay, ReplayModel}
+use Rattle.machine.specs.Replays as graph_replays
+use Rattle.machine.specs.Replays.{ReplayModel}
 use Rattle.machine.specs.Runs.{AreBounds}
 use Rattle.machine.specs.declared.halts.Event.{Event}
 use Rattle.replays.specs.Schedules.{IsFirstMalformed, IsSchedule}
-use Rattle.replays.specs.WorldLines.{replay_lines}
+use Rattle.replays.specs.Names.{Words}
 use Rattle.devices.specs.declared.fault.Status.{Status}
 use Rattle.devices.specs.declared.fault.Status.TheVariants.{Empty, Found}
 use Rattle.singcheck.specs.Checks.{HasProgram}
 use Rattle.singcheck.specs.Entered.{MayBegin}
-use Rattle.singcheck.specs.Replays.{HasEntry, IsFirstAt, IsRan, LacksEntry, LacksSchedule, OfFindings, OfRun, Replays, method_names}
+use Rattle.singcheck.specs.Replays.{HasEntry, IsFirstAt, IsPrinted, IsRan, LacksEntry, LacksSchedule, OfFindings, OfRun, Replays, method_names}
 use Rattle.singcheck.specs.Replays.{stop_status, struct_names}
 use Rattle.singcheck.proofs.EntryLemmas.{first_once}
+use Rattle.singcheck.proofs.PrintedLemmas.{Agreeing, one_printed}
 use Rattle.singcheck.proofs.one_answer.OneCheckLemmas.{before_or_methods, one_items, one_seen}
 use Rattle.singcheck.proofs.one_answer.OnlyLemmas.{Laws, one_findings}
 use Rattle.singcheck.proofs.one_answer.SameLemmas.{one_report}
@@ -27,7 +30,8 @@ pub record ReplayLaws : Type 0 where
   pub reading : (bytes : List ℕ) (a b : List Event) → IsSchedule bytes a → IsSchedule bytes b → a ≡ b
   pub apart : (bytes : List ℕ) (events : List Event) (n : ℕ) → IsSchedule bytes events → IsFirstMalformed bytes n → ⊥
   pub replays : (p : ProgramModel) (bound : QueueBounds) (n : ℕ) (events : List Event) (r s : ReplayModel)
-      → IsReplay p bound n events r → IsReplay p bound n events s → r ≡ s
+      → graph_replays.IsReplay p bound n events r → graph_replays.IsReplay p bound n events s → r ≡ s
+  pub agree : Agreeing
 
 -- bytes that cannot differ are the same
 equal_or_not : (a b : List ℕ) (is : Bool) → pointwise nat_eq a b ≡ is → ((a ≡ b → ⊥) → ⊥) → a ≡ b
@@ -59,35 +63,29 @@ module _ (known : ReplayLaws) (entry lines text a b : List ℕ) (s t : Status) (
   one_events : x.events ≡ y.events
   one_events = known.reading lines x.events y.events x.told y.told
 
-  moved : (bound : QueueBounds) → AreBounds y.program bound → IsReplay y.program bound y.n y.events x.replayed
+  abbrev words : List ItemTree → ProgramModel → Words
+  words items p = record { program = p; structs = struct_names text items }
+
+  moved : (bound : QueueBounds) → AreBounds y.program bound
+      → IsPrinted (words y.entered.has.resolved.items y.program) bound y.n y.events x.steps x.halt a
   moved bound are =
-      subst (λ l. IsReplay y.program bound y.n l x.replayed) one_events
-      (subst (λ m. IsReplay y.program bound m x.events x.replayed) one_method
-      (subst (λ p. IsReplay p bound x.n x.events x.replayed) one_program
-      (x.led bound (subst (λ p. AreBounds p bound) (sym one_program) are))))
+      subst (λ l. IsPrinted (words y.entered.has.resolved.items y.program) bound y.n l x.steps x.halt a) one_events
+      (subst (λ m. IsPrinted (words y.entered.has.resolved.items y.program) bound m x.events x.steps x.halt a) one_method
+      (subst (λ items. IsPrinted (words items y.program) bound x.n x.events x.steps x.halt a) same_items
+      (subst (λ p. IsPrinted (words x.entered.has.resolved.items p) bound x.n x.events x.steps x.halt a) one_program
+      (x.led bound (subst (λ p. AreBounds p bound) (sym one_program) are)))))
 
-  same_some : (x.replayed ≡ y.replayed → ⊥) → ⊥
+  same_some : ((a ≡ b) × (s ≡ t) → ⊥) → ⊥
   same_some differ = known.bounds text y.program y.entered.has (λ bound are.
-      differ (known.replays y.program bound y.n y.events x.replayed y.replayed (moved bound are) (y.led bound are)))
-
-  abbrev printed : List (List ℕ) → ProgramModel → List Event → ReplayModel → List ℕ
-  printed structs p events r = replay_lines (record { program = p; structs = structs }) events r.steps r.halt r.world
-
-  same_bytes : x.replayed ≡ y.replayed → a ≡ b
-  same_bytes same =
-      x.are
-      ∙ ap (λ p. printed (struct_names text x.entered.has.resolved.items) p x.events x.replayed) one_program
-      ∙ ap (λ items. printed (struct_names text items) y.program x.events x.replayed) same_items
-      ∙ ap (λ events. printed (struct_names text y.entered.has.resolved.items) y.program events x.replayed) one_events
-      ∙ ap (printed (struct_names text y.entered.has.resolved.items) y.program y.events) same
-      ∙ sym y.are
+      let one = one_printed known.agree known.replays (words y.entered.has.resolved.items y.program) bound y.n y.events x.steps y.steps
+      x.halt y.halt a b (moved bound are) (y.led bound are) in
+      differ (one.0, x.is ∙ (ap stop_status one.1 ∙ sym y.is)))
 
   ran_bytes : a ≡ b
-  ran_bytes = never_differ a b (λ differ. same_some (λ same. differ (same_bytes same)))
+  ran_bytes = never_differ a b (λ differ. same_some (λ same. differ same.0))
 
   ran_status : s ≡ t
-  ran_status = status_never_differs s t (λ differ. same_some
-      (λ same. differ (x.is ∙ ap (λ (r : ReplayModel). stop_status r.halt) same ∙ sym y.is)))
+  ran_status = status_never_differs s t (λ differ. same_some (λ same. differ same.1))
 
 pub one_bytes : ReplayLaws → (entry lines text a b : List ℕ) (s t : Status) → Replays entry lines text a s → Replays entry lines text b t
     → a ≡ b

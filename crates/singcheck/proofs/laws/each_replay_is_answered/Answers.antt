@@ -13,6 +13,7 @@ returns-clause-comes c = replay_some (record {
   bounds = c.each_program_has_bounds.ensures;
   read = c.each_schedule_is_read.ensures;
   replays = c.events_have_a_replay.ensures;
+  agree = record { positions = c.replays_agree.ensures.positions; graphs = c.replays_agree.ensures.graphs; statements = c.replays_agree.ensures.statements };
 })
 
 pub returns-clause-ran : goal.returns-clause-ran
@@ -20,4 +21,5 @@ returns-clause-ran c = ran_some (record {
   bounds = c.each_program_has_bounds.ensures;
   read = c.each_schedule_is_read.ensures;
   replays = c.events_have_a_replay.ensures;
+  agree = record { positions = c.replays_agree.ensures.positions; graphs = c.replays_agree.ensures.graphs; statements = c.replays_agree.ensures.statements };
 })

@@ -8,6 +8,7 @@ returns-clause-bytes c = one_bytes (record {
   reading = c.one_reading.ensures.events;
   apart = c.one_reading.ensures.apart;
   replays = c.one_replay.ensures;
+  agree = record { positions = c.replays_agree.ensures.positions; graphs = c.replays_agree.ensures.graphs; statements = c.replays_agree.ensures.statements };
 })
 
 pub returns-clause-status : goal.returns-clause-status
@@ -17,6 +18,7 @@ returns-clause-status c = one_status (record {
   reading = c.one_reading.ensures.events;
   apart = c.one_reading.ensures.apart;
   replays = c.one_replay.ensures;
+  agree = record { positions = c.replays_agree.ensures.positions; graphs = c.replays_agree.ensures.graphs; statements = c.replays_agree.ensures.statements };
 })
 
 pub returns-clause-entry : goal.returns-clause-entry
@@ -26,6 +28,7 @@ returns-clause-entry c = no_entry (record {
   reading = c.one_reading.ensures.events;
   apart = c.one_reading.ensures.apart;
   replays = c.one_replay.ensures;
+  agree = record { positions = c.replays_agree.ensures.positions; graphs = c.replays_agree.ensures.graphs; statements = c.replays_agree.ensures.statements };
 })
 
 pub returns-clause-line : goal.returns-clause-line
@@ -35,4 +38,5 @@ returns-clause-line c = no_schedule (record {
   reading = c.one_reading.ensures.events;
   apart = c.one_reading.ensures.apart;
   replays = c.one_replay.ensures;
+  agree = record { positions = c.replays_agree.ensures.positions; graphs = c.replays_agree.ensures.graphs; statements = c.replays_agree.ensures.statements };
 })
