@@ -33,7 +33,7 @@ pub struct Methods {
 
 impl Model for Methods {
     ghost use Rattle.std.specs.Coded.{codes};
-    ghost use Rattle.std.specs.Prelude.{List, ◌×◌, ◌≤◌, length};
+    ghost use Rattle.std.specs.Prelude.{List, ◌≤◌, length};
     ghost use Rattle.program.specs.Programs.{program_model, type_lists};
     ghost use Rattle.program.specs.WellFormed.{AreWellFormed};
     ghost use Rattle.program.specs.declared.limits.TheConstants.{MOST_METHODS};
