@@ -13,7 +13,9 @@ import unicodedata
 import urllib.parse
 
 TOP = pathlib.Path(__file__).resolve().parent.parent
+IS_INSTALLED = TOP.parts[-2:] == ('share', 'singcheck')  # as ./build --install does it
 CODES = TOP / 'docs' / 'codes'
+UNPROVED = TOP / 'out' / 'unproved'
 FINDING = re.compile(r'(\d+):(\d+) ([A-Z]\d\d) (.*)')
 NOTE = re.compile(r'  (\d+):(\d+) (.*)')
 MARK = b'\xef\xbb\xbf'
@@ -93,12 +95,20 @@ def excerpt(line, column, window=WINDOW):
     return front + visible(line[at:end]) + ('..' if end < size else ''), width(front)
 
 
+def for_reader(text):
+    """Returns a text with the names that tools and pages have for its reader. In the repository these are tools/NAME and docs/PAGE."""
+    if not IS_INSTALLED:
+        return text
+    named = re.sub(r'\btools/(check|explain|lsp|show)\b', r'singcheck-\1', text)
+    return re.sub(r'\bdocs/(?=\w+\.md)', lambda _: '%s/docs/' % TOP, named)
+
+
 @functools.lru_cache(maxsize=None)
 def repair(code):
     """Returns the rest of the line on the code's page that begins with `Repair:`, or None if there is none."""
     page = CODES / (code + '.md')
     lines = page.read_text(encoding='utf-8').splitlines() if page.exists() else []
-    return next((line[len('Repair: '):] for line in lines if line.startswith('Repair: ')), None)
+    return next((for_reader(line[len('Repair: '):]) for line in lines if line.startswith('Repair: ')), None)
 
 
 @functools.lru_cache(maxsize=None)
@@ -172,7 +182,8 @@ def described(name, lines, finding, style=Style(None, False)):
         said.append(gutter + ' = note: %s has no such place now' % visible_name(name))
     said += traced(gutter, lines, finding.trace, style)
     if repair(finding.code):
-        said += wrapped(gutter + ' = help: ', '%s (tools/explain %s)' % (repair(finding.code), finding.code), style)
+        hint = for_reader('(tools/explain %s)' % finding.code)
+        said += wrapped(gutter + ' = help: ', '%s %s' % (repair(finding.code), hint), style)
     return said + ['']
 
 
@@ -257,18 +268,32 @@ def style_of(stream):
 
 
 def built(asked=None):
-    """Returns the program to run, or None if there is none: `asked` if it is given, else the built one, the one built without its proof,
-    or `singcheck` on the PATH."""
-    for path in [asked] if asked else [TOP / 'out' / 'singcheck', TOP / 'out' / 'unproved', 'singcheck']:
+    """Returns the program to run, or None if there is none: `asked` if it is given, else the proved one of this repository or prefix, else
+    the one that is not proved. A repository without either uses `singcheck` on the PATH; installed tools use their own program only."""
+    own = [TOP / 'out' / 'singcheck', UNPROVED]
+    for path in [asked] if asked else own if IS_INSTALLED else [*own, 'singcheck']:
         found = shutil.which(str(path))
         if found:
             return found
     return None
 
 
+def not_built():
+    """Returns what to do if there is no program."""
+    if IS_INSTALLED:
+        return 'the program is not installed with this tool; ./build --install %s in the repository installs it' % TOP.parent.parent
+    return 'the program is not built; ./build proves and builds it, ./build --unproved is quicker'
+
+
 def say(tool, text):
     if sys.stderr:
         print('%s: %s' % (tool, text), file=sys.stderr)
+
+
+def helped(text):
+    """Prints the help of a tool and returns its exit status."""
+    print(for_reader(text), end='')
+    return 0
 
 
 def failed(tool, text, status):
