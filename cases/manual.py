@@ -1,5 +1,6 @@
-"""Tests the manual page: readers of such pages accept it without warnings, and it has the commands and options of the help. The help itself
-has the program's name, the range and the default of each number, the exit statuses, and an example for each command."""
+"""Tests the manual page: readers of such pages accept it without warnings, and it has the commands and options of the help, the version, and
+what `why` prints. The help itself has the program's name, the range and the default of each number, the exit statuses, and an example for
+each command."""
 import os
 import pathlib
 import re
@@ -46,4 +47,23 @@ def what_the_help_says(program):
     return ['help of %r lacks %r' % (command, word) for command, word in asked if word not in said[command]]
 
 
-TESTS = [('manual/' + test.__name__, test) for test in (without_warnings, commands_and_options_of_the_help, what_the_help_says)]
+def version_of_the_page(program):
+    """The program prints the version of the page. The script that starts it adds whether it is proved."""
+    version = re.match(r'\.TH SINGCHECK 1 "[\d-]+" "(singcheck [\d.]+)"', PAGE.read_text())[1]
+    ran = subprocess.run([program, '--version'], capture_output=True, timeout=60, stdin=subprocess.DEVNULL)
+    given = ran.stdout.decode().splitlines()
+    fits = given[:1] == [version] and given[1:] in ([], ['proved on this machine'], ['not proved on this machine'])
+    return [] if fits and ran.returncode == 0 else ['page %s, given %r' % (version, ran)]
+
+
+def unknown_names(program):
+    """Under an unknown name `why` prints the nearest name, as the page says."""
+    text = b'class K {\n  static void F(int count) {\n    int n = cuont;\n  }\n}\n'
+    ran = subprocess.run([program, 'why', '/dev/stdin'], input=text, capture_output=True, timeout=60)
+    has_line = ran.stdout.decode() == '3:13 N02 cuont unknown\n  2:21 the nearest name is count\nfindings: 1\n'
+    is_on_page = 'Under an unknown name it prints the nearest name that could be meant' in PAGE.read_text().replace('\n', ' ')
+    return [] if has_line and is_on_page else ['page: %s, given %r' % (is_on_page, ran.stdout)]
+
+
+TESTS = [('manual/' + test.__name__, test) for test in (
+    without_warnings, commands_and_options_of_the_help, what_the_help_says, version_of_the_page, unknown_names)]
