@@ -5,6 +5,7 @@ import os
 import pathlib
 import re
 import shlex
+import shutil
 import signal
 import subprocess
 import tempfile
@@ -20,8 +21,8 @@ WAIT = 60  # seconds for an answer that has to come
 class Client:
     """A client of the server that keeps what notifications bring."""
 
-    def __init__(self, program, encodings=('utf-8',), related=False):
-        words = [TOP / 'tools' / 'lsp', *(['--program', program] if program else [])]
+    def __init__(self, program, encodings=('utf-8',), related=False, top=TOP):
+        words = [top / 'tools' / 'lsp', *(['--program', program] if program else [])]
         self.server = subprocess.Popen(words, stdin=subprocess.PIPE, stdout=subprocess.PIPE, stderr=subprocess.PIPE,
                                        env=dict(os.environ, PYTHONDONTWRITEBYTECODE='1'))
         self.answers, self.published, self.shown, self.news = {}, {}, [], threading.Condition()
@@ -150,6 +151,7 @@ def each_text_has_its_findings(client, program):
 
 
 NOTE = (TOP / 'examples' / 'note.sg').read_text()
+TRACE_OF_NOTE = '```text\n7:5 A01 note not owned\n  5:21 note new\n  6:12 note deleted\n```\n\n---\n\n'
 
 
 def edits_faster_than_runs(client, _):
@@ -202,14 +204,15 @@ def explained(program, data):
 
 
 def traces_are_related_places(client, program):
-    """A client that can show related places gets each trace: here that of the note, worked out by hand, and what `why` prints for texts."""
+    """A client that takes related places gets each trace: here that of the note, worked out by hand, and what `why` prints for texts. Some
+    such clients show these places nowhere, so a hover has the trace too."""
     client.open('file:///note.sg', NOTE)
     start, deleted = client.found('file:///note.sg', 1)[0]['relatedInformation']
     found = unlike({'location': {'uri': 'file:///note.sg', 'range': {'start': {'line': 4, 'character': 20}, 'end': {
         'line': 4, 'character': 24}}}, 'message': 'note new'}, start)
     found += unlike((5, 11, 'note deleted'), (*deleted['location']['range']['start'].values(), deleted['message']))
     page = client.ask('textDocument/hover', **client.at('file:///note.sg', 6, 5))['result']['contents']['value']
-    found += unlike((TOP / 'docs' / 'codes' / 'A01.md').read_text(), page, 'page')
+    found += unlike(TRACE_OF_NOTE + (TOP / 'docs' / 'codes' / 'A01.md').read_text(), page, 'page')
     for path in sorted([*TOP.glob('examples/*.sg'), *TOP.glob('cases/channels/*/input.sg')]):
         uri, data = path.as_uri(), path.read_bytes()
         client.open(uri, data.decode())
@@ -242,13 +245,11 @@ def findings_without_traces(program):
 
 
 def pages_and_bounds(client, _):
-    """A hover over a finding shows the page of its code, after the trace because this client cannot show related places. A hover over a
-    contract's name shows its bounds."""
+    """A hover over a finding shows its trace and the page of its code. A hover over a contract's name shows its bounds."""
     client.open('file:///note.sg', NOTE)
     its = client.found('file:///note.sg', 1)[0]
     shown = client.ask('textDocument/hover', **client.at('file:///note.sg', 6, 5))['result']['contents']['value']
-    trace = '```text\n7:5 A01 note not owned\n  5:21 note new\n  6:12 note deleted\n```\n\n---\n\n'
-    found = unlike(trace + (TOP / 'docs' / 'codes' / 'A01.md').read_text(), shown) + unlike(False, 'relatedInformation' in its)
+    found = unlike(TRACE_OF_NOTE + (TOP / 'docs' / 'codes' / 'A01.md').read_text(), shown) + unlike(False, 'relatedInformation' in its)
     client.open('file:///ping.sg', (TOP / 'examples' / 'ping.sg').read_text())
     lines = (TOP / 'examples' / 'ping.sg').read_text().splitlines()
     row = next(number for number, line in enumerate(lines) if line.startswith('contract'))
@@ -398,10 +399,30 @@ def not_built(_):
             client.server.wait()
 
 
+def not_proved(program):
+    """If the server takes a program without proofs by itself, the user gets one message about it, and the findings."""
+    with tempfile.TemporaryDirectory() as folder:
+        top = pathlib.Path(folder)
+        for name in ('tools', 'docs/codes'):
+            shutil.copytree(TOP / name, top / name)
+        (top / 'out').mkdir()
+        (top / 'out' / 'unproved').symlink_to(program)
+        client = Client(None, top=top)
+        try:
+            for name in ('a', 'b'):
+                client.open('file:///%s.sg' % name, NOTE)
+                found = unlike([(7, 5, 'A01', 'note not owned')], told(client.found('file:///%s.sg' % name, 1), NOTE))
+            return found + unlike(['singcheck is not proved on this machine.'], client.shown)
+        finally:
+            client.server.kill()
+            client.server.wait()
+
+
 TESTS = [('server/' + test.__name__, with_client(test)) for test in
          (each_text_has_its_findings, edits_faster_than_runs, columns_are_the_clients, other_ends_of_lines, parts_of_a_diagnostic,
           pages_and_bounds, names_lead_to_declarations, refusals, a_client_that_dies, a_large_text)]
 TESTS += [('server/columns_of_utf_16', with_client(columns_are_the_clients, encodings=())), ('server/not_built', not_built),
+          ('server/not_proved', not_proved),
           ('server/traces_are_related_places', with_client(traces_are_related_places, related=True)),
           ('server/findings_without_traces', findings_without_traces),
           ('server/an_overtaken_run_is_stopped', an_overtaken_run_is_stopped),

@@ -33,7 +33,7 @@ registered.found = async found => {
   const outline = them => them.map(it => `${it.kind} ${it.name}${within(it)}`).join(', ');
   console.log(outline(await registered.symbols.provideDocumentSymbols(document)));
   const hover = await registered.hover.provideHover(document, { line, character: column });
-  console.log(hover.content.value.split('\n')[0]);
+  console.log(hover.content.value.split('\n').find(line => line.startsWith('# ')));
   subscriptions.forEach(it => it && it.dispose && it.dispose());
 };
 require('../../editors/vscode/extension.js').activate({ subscriptions });
