@@ -10,7 +10,7 @@ ghost use Rattle.declarations.specs.Types.{is_heap};
 use crate::types::is_heap;
 use source::Span;
 use std::alloc::{AllocError, Global};
-use tables::Table;
+use tables::{Seed, Table};
 use tree::{Field, Struct};
 
 /// The fields of a struct, its owning fields, and where each name of a field is declared first.
@@ -28,13 +28,14 @@ impl<'a> Fields<'a> {
     /// Returns the fields of a struct.
     pub(crate) fn of(
         alloc: Global,
+        seed: Seed,
         text: &'a [u8],
         structure: &'a Struct,
     ) -> Result<Fields<'a>, AllocError>
         ensures { IfOk result (AreFieldsOf text.now (struct_tree structure.now)) }
     {
         let names = names_of_fields(alloc, &structure.fields)?;
-        let table = Table::of(alloc, text, &names)?;
+        let table = Table::of(alloc, seed, text, &names)?;
         let owning = owning_fields(alloc, &structure.fields)?;
         Ok(Fields {
             list: &structure.fields,

@@ -14,7 +14,7 @@ use crate::starts::{Callee, startable_methods};
 use crate::state_names::{StateNames, state_names};
 use source::Span;
 use std::alloc::{AllocError, Global};
-use tables::Table;
+use tables::{Seed, Table};
 use tree::{Class, Contract, Definition, Message, Method};
 
 /// The declarations of a contract, where each of its names is declared first, and the names at which its states are counted.
@@ -49,6 +49,7 @@ impl<'a> Members<'a> {
     /// Returns what a definition declares.
     pub(crate) fn of(
         alloc: Global,
+        seed: Seed,
         text: &'a [u8],
         definition: &'a Definition,
     ) -> Result<Members<'a>, AllocError>
@@ -56,12 +57,14 @@ impl<'a> Members<'a> {
     {
         match definition {
             Definition::Contract(contract) => {
-                Ok(Members::Contract(Declared::of(alloc, text, contract)?))
+                Ok(Members::Contract(Declared::of(alloc, seed, text, contract)?))
             }
             Definition::Struct(structure) => {
-                Ok(Members::Struct(Fields::of(alloc, text, structure)?))
+                Ok(Members::Struct(Fields::of(alloc, seed, text, structure)?))
             }
-            Definition::Class(class) => Ok(Members::Class(ClassMethods::of(alloc, text, class)?)),
+            Definition::Class(class) => Ok(Members::Class(ClassMethods::of(
+                alloc, seed, text, class,
+            )?)),
         }
     }
 
@@ -102,6 +105,7 @@ impl<'a> Declared<'a> {
     /// Returns the declarations of a contract.
     pub(crate) fn of(
         alloc: Global,
+        seed: Seed,
         text: &'a [u8],
         contract: &'a Contract,
     ) -> Result<Declared<'a>, AllocError>
@@ -110,8 +114,8 @@ impl<'a> Declared<'a> {
         let outline = Outline::of(alloc, contract)?;
         let messages = outline.message_names(alloc)?;
         let states = outline.state_names(alloc)?;
-        let messages = Table::of(alloc, text, &messages)?;
-        let states = Table::of(alloc, text, &states)?;
+        let messages = Table::of(alloc, seed, text, &messages)?;
+        let states = Table::of(alloc, seed, text, &states)?;
         let counted = state_names(alloc, &outline.states)?;
         Ok(Declared {
             outline,
@@ -144,13 +148,14 @@ impl<'a> ClassMethods<'a> {
     /// Returns the methods of a class.
     pub(crate) fn of(
         alloc: Global,
+        seed: Seed,
         text: &'a [u8],
         class: &'a Class,
     ) -> Result<ClassMethods<'a>, AllocError>
         ensures { IfOk result (AreMethods text.now (class_tree class.now)) }
     {
         let names = names_of_methods(alloc, &class.methods)?;
-        let table = Table::of(alloc, text, &names)?;
+        let table = Table::of(alloc, seed, text, &names)?;
         let startable = startable_methods(alloc, &class.methods)?;
         Ok(ClassMethods {
             list: &class.methods,

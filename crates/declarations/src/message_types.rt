@@ -30,7 +30,7 @@ pub(crate) fn judge_message(
 {
     judge_types(scope, &message.params, found)?;
     let names = names_of(alloc, &message.params)?;
-    let table = Table::of(alloc, scope.text, &names)?;
+    let table = Table::of(alloc, scope.seed, scope.text, &names)?;
     judge_twice(scope.text, &table, &names, found)?;
     judge_limit(Limit::Parameters, &names, found)
 }

@@ -15,7 +15,7 @@ use crate::members::{ClassMethods, Declared, Members};
 use crate::noted::NotedTypes;
 use source::Span;
 use std::alloc::{AllocError, Global};
-use tables::Table;
+use tables::{Seed, Table};
 use tree::{Field, Item};
 
 /// The items of a text by name: what they declare, in order, and where each of their names is declared first. A name
@@ -24,6 +24,8 @@ use tree::{Field, Item};
 pub struct Scope<'a> {
     /// The text of the items.
     pub text: &'a [u8],
+    /// The seed of the text.
+    pub seed: Seed,
     pub(crate) items: &'a [Item],
     pub(crate) names: Table<'a>,
     pub(crate) members: Vec<Members<'a>>,
@@ -41,10 +43,12 @@ impl<'a> Scope<'a> {
         ensures { IfOk result (IsScope (record { text = text.now; items = map item_tree items.now })) }
     {
         let names = names_of_items(alloc, items)?;
-        let names = Table::of(alloc, text, &names)?;
-        let members = members_of_items(alloc, text, items)?;
+        let seed = Seed::of(text);
+        let names = Table::of(alloc, seed, text, &names)?;
+        let members = members_of_items(alloc, seed, text, items)?;
         let mut scope = Scope {
             text,
+            seed,
             items,
             names,
             members,
@@ -190,6 +194,7 @@ pub(crate) fn names_of_items(alloc: Global, items: &[Item]) -> Result<Vec<Span>,
 /// Returns what these items declare, in order.
 fn members_of_items<'a>(
     alloc: Global,
+    seed: Seed,
     text: &'a [u8],
     items: &'a [Item],
 ) -> Result<Vec<Members<'a>>, AllocError>
@@ -197,7 +202,7 @@ fn members_of_items<'a>(
 {
     let mut members = Vec::new(alloc);
     for item in items {
-        members.push(Members::of(alloc, text, &item.definition)?)?;
+        members.push(Members::of(alloc, seed, text, &item.definition)?)?;
     }
     Ok(members)
 }

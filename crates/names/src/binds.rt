@@ -19,7 +19,6 @@ use crate::operands::ask;
 use crate::variables::{ScopeVariable, ScopeVariables};
 use declarations::{Demand, Mismatch, Mistake, Scope, ValueType, is_heap, judge_type};
 use source::{Memory, Span};
-use std::alloc::Global;
 use tree::{Bind, MessageParameter, Type};
 
 /// Returns the type of what a message brings for this parameter; unknown if there is no parameter.
@@ -61,7 +60,6 @@ fn judge_bound_type(
 
 /// Declares a variable in the scope of a program unless one in scope has its name, and adds the mistakes in the declaration.
 fn declare_in<'a>(
-    alloc: Global,
     scope: &Scope<'a>,
     variables: &mut ScopeVariables<'a>,
     variable: ScopeVariable,
@@ -72,12 +70,11 @@ fn declare_in<'a>(
         → OnOk result (Turned p.text found.old.items found.new.items variables.new
         (declared_variable p.text variable.name variable.ty heap f)) }
 {
-    variables.declare(alloc, scope.text, variable, heap, found)
+    variables.declare(scope.text, variable, heap, found)
 }
 
 /// Adds the mistakes in a name that a case binds, and declares it.
 fn judge_bind<'a>(
-    alloc: Global,
     scope: &Scope<'a>,
     variables: &mut ScopeVariables<'a>,
     parameter: Option<&MessageParameter>,
@@ -96,7 +93,7 @@ fn judge_bind<'a>(
                 name: bind.name,
                 ty: scope.type_meant(written),
             };
-            declare_in(alloc, scope, variables, variable, is_heap(written), found)
+            declare_in(scope, variables, variable, is_heap(written), found)
         }
         None => {
             let variable = ScopeVariable {
@@ -104,7 +101,7 @@ fn judge_bind<'a>(
                 ty: brought,
             };
             let heap = brings_heap(parameter);
-            declare_in(alloc, scope, variables, variable, heap, found)
+            declare_in(scope, variables, variable, heap, found)
         }
     }
 }
@@ -117,7 +114,6 @@ fn parameter_at(parameters: &[MessageParameter], index: usize) -> Option<&Messag
 
 /// Adds the mistakes in the names that a case binds for these parameters, and declares them.
 pub(crate) fn judge_bound<'a>(
-    alloc: Global,
     scope: &Scope<'a>,
     variables: &mut ScopeVariables<'a>,
     parameters: &[MessageParameter],
@@ -129,7 +125,7 @@ pub(crate) fn judge_bound<'a>(
 {
     for (index, bind) in binds.iter().enumerate() {
         let parameter = parameter_at(parameters, index);
-        judge_bind(alloc, scope, variables, parameter, *bind, found)?;
+        judge_bind(scope, variables, parameter, *bind, found)?;
     }
     Ok(())
 }

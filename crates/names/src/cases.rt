@@ -26,7 +26,6 @@ use crate::variables::ScopeVariables;
 use declarations::{Mistake, NameSort, Scope, ValueType, add_unknown};
 use program::Side;
 use source::{Memory, Span};
-use std::alloc::Global;
 use tree::{Awaited, Case, Message, MessageParameter};
 
 /// An end of a contract.
@@ -139,7 +138,6 @@ fn judge_no_endpoint(ty: ValueType, case: &Case, found: &mut Vec<Mistake>) -> Re
 
 /// Adds the mistakes in what a case binds, and declares it.
 pub(crate) fn judge_binds<'a>(
-    alloc: Global,
     scope: &Scope<'a>,
     variables: &mut ScopeVariables<'a>,
     case: &Case,
@@ -154,9 +152,9 @@ pub(crate) fn judge_binds<'a>(
         ValueType::Endpoint(end, place) => {
             let message = awaited_message(scope, place, end, case.message);
             let parameters = parameters_of(message);
-            judge_bound(alloc, scope, variables, parameters, binds, found)
+            judge_bound(scope, variables, parameters, binds, found)
         }
-        _ => judge_bound(alloc, scope, variables, &[], binds, found),
+        _ => judge_bound(scope, variables, &[], binds, found),
     }
 }
 

@@ -10,7 +10,7 @@ use lemmas::first_positions;
 use source::{Memory, Span};
 use std::alloc::Global;
 use std::collections::BTreeMap;
-use tables::Table;
+use tables::{Seed, Table};
 use tree::{Awaited, Case, Switch};
 
 /// The words of the endpoint of a case and of the message that it awaits; no message if the case is for a close.
@@ -36,14 +36,19 @@ impl<'a> Heads<'a> {
     ghost use Rattle.names.specs.Heads.{IsHeads, lacks};
 
     /// Returns the heads of a switch.
-    pub(crate) fn of(alloc: Global, text: &'a [u8], switch: &Switch) -> Result<Heads<'a>, Memory>
+    pub(crate) fn of(
+        alloc: Global,
+        seed: Seed,
+        text: &'a [u8],
+        switch: &Switch,
+    ) -> Result<Heads<'a>, Memory>
         ensures { IfOk result (IsHeads text.now (switch_heads (switch_tree switch.now))) }
     {
         let list = awaiting_in(alloc, switch)?;
         let names = endpoints_of(alloc, &list)?;
         let keys = keys_of(alloc, text, &list)?;
         let cases = first_positions(alloc, &keys)?;
-        let endpoints = Table::of(alloc, text, &names)?;
+        let endpoints = Table::of(alloc, seed, text, &names)?;
         Ok(Heads { cases, endpoints })
     }
 

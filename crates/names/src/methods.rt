@@ -62,8 +62,8 @@ fn judge_method<'a>(
         → OnOk result (Adds found.old.items found.new.items (method_turn p c (method_tree method.now)).found) }
 {
     judge_result(scope, method.result, found)?;
-    let mut variables = ScopeVariables::new(alloc);
-    judge_parameters(alloc, scope, &mut variables, &method.params, found)?;
+    let mut variables = ScopeVariables::new(alloc, scope.seed);
+    judge_parameters(scope, &mut variables, &method.params, found)?;
     let around = Surroundings {
         alloc,
         scope,
@@ -92,7 +92,6 @@ fn judge_result(
 
 /// Declares the parameters of a method, and adds the mistakes in them.
 fn judge_parameters<'a>(
-    alloc: Global,
     scope: &Scope<'a>,
     variables: &mut ScopeVariables<'a>,
     params: &[Parameter],
@@ -102,14 +101,13 @@ fn judge_parameters<'a>(
         → OnOk result (Turned p.text found.old.items found.new.items variables.new (parameters_turn p params.now f)) }
 {
     for parameter in params {
-        judge_parameter(alloc, scope, variables, *parameter, found)?;
+        judge_parameter(scope, variables, *parameter, found)?;
     }
     Ok(())
 }
 
 /// Declares a parameter, and adds the mistakes in it.
 fn judge_parameter<'a>(
-    alloc: Global,
     scope: &Scope<'a>,
     variables: &mut ScopeVariables<'a>,
     parameter: Parameter,
@@ -125,5 +123,5 @@ fn judge_parameter<'a>(
         name: parameter.name,
         ty,
     };
-    variables.declare(alloc, scope.text, variable, heap, found)
+    variables.declare(scope.text, variable, heap, found)
 }

@@ -58,7 +58,7 @@ pub(crate) fn judge_declare<'a>(
     ensures { Turns around.now variables.old variables.new found.old.items found.new.items result
         (λ m. declaration_turn m (declare_tree declare.now)) }
 {
-    let (alloc, scope) = (around.alloc, around.scope);
+    let scope = around.scope;
     let ty = scope.type_meant(declare.ty);
     judge_type(scope, declare.ty, found)?;
     judge_given(around, variables, ty, &declare.value, found)?;
@@ -67,7 +67,7 @@ pub(crate) fn judge_declare<'a>(
         ty,
     };
     let heap = is_heap(declare.ty);
-    variables.declare(alloc, scope.text, variable, heap, found)
+    variables.declare(scope.text, variable, heap, found)
 }
 
 /// Adds the mistakes in an assignment.

@@ -180,7 +180,7 @@ fn judge_switch<'a>(
     ensures { Turns around.now variables.old variables.new found.old.items found.new.items result
         (λ m. switch_turn m (switch_tree switch.now)) }
 {
-    let heads = Heads::of(around.alloc, around.scope.text, switch)?;
+    let heads = Heads::of(around.alloc, around.scope.seed, around.scope.text, switch)?;
     judge_case(around, variables, &heads, 0, &switch.first, found)?;
     for (index, case) in switch.others.iter().enumerate() {
         judge_case(around, variables, &heads, index + 1, case, found)?;
@@ -204,7 +204,7 @@ fn judge_case<'a>(
     let scope = around.scope;
     judge_head(&around.context(variables), heads, index, case, found)?;
     let outer = variables.len();
-    judge_binds(around.alloc, scope, variables, case, found)?;
+    judge_binds(scope, variables, case, found)?;
     judge_statements(around, variables, &case.statements, found)?;
     variables.leave(scope.text, outer);
     Ok(())

@@ -9,7 +9,7 @@ use declarations::{Limit, Mistake, ValueType, add_twice};
 use program::MOST_VARIABLES;
 use source::{Memory, Span};
 use std::alloc::Global;
-use tables::Table;
+use tables::{Seed, Table};
 
 /// A variable: the name that declares it, and its type.
 #[derive(Clone, Copy, PartialEq, Eq)]
@@ -29,11 +29,11 @@ pub(crate) struct ScopeVariables<'a> {
 
 impl<'a> ScopeVariables<'a> {
     /// Returns an empty scope.
-    pub(crate) fn new(alloc: Global) -> ScopeVariables<'a>
+    pub(crate) fn new(alloc: Global, seed: Seed) -> ScopeVariables<'a>
         ensures { (text : List ℕ) → IsNameFrame text (record { variables = []; heap = 0 }) result }
     {
         ScopeVariables {
-            names: Table::new(alloc),
+            names: Table::new(alloc, seed),
             list: Vec::new(alloc),
             heap: 0,
         }
@@ -58,7 +58,6 @@ impl<'a> ScopeVariables<'a> {
     /// Declares a variable unless one in scope has its name, and adds the mistakes in the declaration.
     pub(crate) fn declare(
         &mut self,
-        alloc: Global,
         text: &'a [u8],
         variable: ScopeVariable,
         heap: bool,
@@ -68,11 +67,11 @@ impl<'a> ScopeVariables<'a> {
             found.new.items self.new (declared_variable text.now variable.name variable.ty heap f)) }
     {
         if !heap {
-            return self.enter(alloc, text, variable, found);
+            return self.enter(text, variable, found);
         }
         self.judge_heap(variable.name, found)?;
         self.count();
-        self.enter(alloc, text, variable, found)
+        self.enter(text, variable, found)
     }
 
     /// Adds the name of one more variable of the exchange heap if it is one past the limit.
@@ -100,7 +99,6 @@ impl<'a> ScopeVariables<'a> {
     /// Brings a variable into scope, or adds that another one has its name.
     fn enter(
         &mut self,
-        alloc: Global,
         text: &'a [u8],
         variable: ScopeVariable,
         found: &mut Vec<Mistake>,
@@ -111,7 +109,7 @@ impl<'a> ScopeVariables<'a> {
         match self.find(text, variable.name) {
             Some(known) => add_twice(variable.name, Some(known.name), found),
             None => {
-                self.names.add(alloc, variable.name.slice(text))?;
+                self.names.add(variable.name.slice(text))?;
                 self.list.push(variable)?;
                 Ok(())
             }
@@ -119,7 +117,7 @@ impl<'a> ScopeVariables<'a> {
     }
 
     /// Leaves a scope: the first `outer` variables stay.
-    pub(crate) fn leave(&mut self, text: &[u8], outer: usize)
+    pub(crate) fn leave(&mut self, text: &'a [u8], outer: usize)
         ensures { (f : NameFrame) → IsNameFrame text.now f self.old
             → IsNameFrame text.now (record { variables = take outer f.variables; heap = f.heap }) self.new }
     {
@@ -129,7 +127,7 @@ impl<'a> ScopeVariables<'a> {
     }
 
     /// Takes the last variable out of scope.
-    fn drop_last(&mut self, text: &[u8])
+    fn drop_last(&mut self, text: &'a [u8])
         ensures frame { (f : NameFrame) → IsNameFrame text.now f self.old
             → IsNameFrame text.now (record { variables = take (length f.variables - 1) f.variables; heap = f.heap }) self.new }
         ensures shorter { length self.new.list.items ≡ length self.old.list.items - 1 }

@@ -13,7 +13,7 @@ ghost use Rattle.resolving.specs.Locals.{with_local, with_variable, with_declara
 use program::{HeapType, Mention, Role, VarId, Variable};
 use source::Span;
 use std::alloc::{AllocError, Global};
-use tables::Table;
+use tables::{Seed, Table};
 
 /// A variable that is declared: its name, its type, what it holds if it is of the exchange heap, and its role in its method.
 #[derive(Clone, Copy)]
@@ -44,11 +44,11 @@ pub(crate) struct Locals<'a> {
 
 impl<'a> Locals<'a> {
     /// Returns an empty scope.
-    pub(crate) fn new(alloc: Global) -> Locals<'a>
+    pub(crate) fn new(alloc: Global, seed: Seed) -> Locals<'a>
         ensures { (text : List ℕ) → IsLocalFrame text no_variables result }
     {
         Locals {
-            names: Table::new(alloc),
+            names: Table::new(alloc, seed),
             list: Vec::new(alloc),
             last: None,
             variables: Vec::new(alloc),
@@ -144,7 +144,7 @@ impl<'a> Locals<'a> {
     {
         match declaration.held {
             Some(held) => self.declare_heap(alloc, text, declaration, held),
-            None => self.enter(alloc, text, declaration, None),
+            None => self.enter(text, declaration, None),
         }
     }
 
@@ -160,7 +160,7 @@ impl<'a> Locals<'a> {
             → OnOk result (IsLocalFrame text.now (declared_heap text.now declaration held f) self.new) }
     {
         let number = VarId(self.variables.len());
-        self.enter(alloc, text, declaration, Some(number))?;
+        self.enter(text, declaration, Some(number))?;
         self.count(alloc, text, declaration, held)?;
         self.last = Some(number);
         Ok(())
@@ -169,7 +169,6 @@ impl<'a> Locals<'a> {
     /// Brings a variable into scope, unless one there has its name.
     fn enter(
         &mut self,
-        alloc: Global,
         text: &'a [u8],
         declaration: Declaration,
         number: Option<VarId>,
@@ -188,7 +187,7 @@ impl<'a> Locals<'a> {
         if self.names.find(word).is_some() {
             return Ok(());
         }
-        self.names.add(alloc, word)?;
+        self.names.add(word)?;
         self.list.push(Local { name, ty, number })?;
         Ok(())
     }
@@ -220,7 +219,7 @@ impl<'a> Locals<'a> {
     }
 
     /// Leaves a scope: the first `outer` variables stay, and `last` is the last one of the exchange heap among them.
-    pub(crate) fn leave(&mut self, text: &[u8], outer: usize, last: Option<VarId>)
+    pub(crate) fn leave(&mut self, text: &'a [u8], outer: usize, last: Option<VarId>)
         ensures { (f : LocalFrame) → IsLocalFrame text.now f self.old → IsLocalFrame text.now
             (record { locals = take outer f.locals; last = number_model last; variables = f.variables }) self.new }
     {
@@ -231,7 +230,7 @@ impl<'a> Locals<'a> {
     }
 
     /// Takes the last variable out of scope.
-    fn drop_last(&mut self, text: &[u8])
+    fn drop_last(&mut self, text: &'a [u8])
         ensures frame { (f : LocalFrame) → IsLocalFrame text.now f self.old → IsLocalFrame text.now
             (record { locals = take (length f.locals - 1) f.locals; last = f.last; variables = f.variables }) self.new }
         ensures shorter { length self.new.list.items ≡ length self.old.list.items - 1 }

@@ -96,7 +96,7 @@ fn resolve_method(
     ensures { (items : List ItemTree) (own : ℕ) → IsAround (program_in text.now items) own around.now
         → IfOk result (λ m. method_model m ≡ method_told (program_in text.now items) own (method_tree method.now)) }
 {
-    let mut locals = Locals::new(around.alloc);
+    let mut locals = Locals::new(around.alloc, around.directory.scope.seed);
     declare_parameters(text, around, &mut locals, &method.params)?;
     let stays = Staying::here(locals.last());
     let body = &method.body.statements;

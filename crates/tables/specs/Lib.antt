@@ -1,4 +1,4 @@
 pub mod Words
 pub mod Firsts
-pub mod Seats
 pub mod Tables
+pub mod Seeds

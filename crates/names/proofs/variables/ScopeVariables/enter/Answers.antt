@@ -7,4 +7,4 @@ use Rattle.names.proofs.variables.ScopeVariables.enter.Goals as goal
 pub returns-in_ok-push-in-None : goal.returns-in_ok-push-in-None
 returns-in_ok-push-in-None c = λ f h.
     entered_new c.args.text.now f c.args.self.now _ c.args.variable.name c.args.variable.ty c.slice.result.now _ h c.slice.ensures
-    (sym (ap (option_map variable_model) c.in-None.is) ∙ c.find.ensures f h) c.in_ok-add-in-None.ensures.added c.in_ok-push-in-None.ensures.items refl
+    (sym (ap (option_map variable_model) c.in-None.is) ∙ c.find.ensures f h) (λ words is _. c.in_ok-add-in-None.ensures.added words is) c.in_ok-push-in-None.ensures.items refl

@@ -11,4 +11,4 @@ returns-then-is_some c = λ f h.
 pub returns : goal.returns
 returns c = λ f h.
     entered_new c.args.text.now f c.args.self.now _ c.args.declaration c.args.number c.slice-word.result.now c.find.result h c.slice-word.ensures c.find.ensures
-    (sym c.is_some.ensures ∙ c.if-is_some.false) c.in_ok-add.ensures.added c.in_ok-push.ensures.items refl refl
+    (sym c.is_some.ensures ∙ c.if-is_some.false) (λ words is _. c.in_ok-add.ensures.added words is) c.in_ok-push.ensures.items refl refl
