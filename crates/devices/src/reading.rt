@@ -26,7 +26,6 @@ pub fn read_text<R: Source>(alloc: Global, reader: &mut R) -> Result<Vec<u8>, Ru
     ensures end { IfOk result (λ text. length text.items < MAX_READ → IsAtEnd (R.remaining reader.new)) }
     ensures most { OnErr result (TakesAtMost MAX_READ (R.remaining reader.old) (R.remaining reader.new)) }
     ensures read { IsErrOf result (RunFault.Read Input.Text) → R.failed reader.new ≢ R.failed reader.old }
-    ensures no_write { IsErrOf result RunFault.Write → R.failed reader.old ≢ R.failed reader.old }
     ensures only { IfErr result (IsReadFault Input.Text) }
 {
     read_up_to(alloc, reader, MAX_READ, Input::Text)
@@ -47,7 +46,6 @@ pub fn read_up_to<R: Source>(
     ensures end { IfOk result (λ bytes. length bytes.items < most → IsAtEnd (R.remaining reader.new)) }
     ensures most { OnErr result (TakesAtMost most (R.remaining reader.old) (R.remaining reader.new)) }
     ensures read { IsErrOf result (RunFault.Read input) → R.failed reader.new ≢ R.failed reader.old }
-    ensures no_write { IsErrOf result RunFault.Write → R.failed reader.old ≢ R.failed reader.old }
     ensures only { IfErr result (IsReadFault input) }
 {
     let mut bytes = Vec::new(alloc);
