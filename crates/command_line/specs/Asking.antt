@@ -4,6 +4,7 @@ use Rattle.std.specs.Str.Parse.{digits_value, without_leading_plus}
 use Rattle.clap.specs.Words.{App, Row, Rule, Text, app_of, first_of, new_app, new_rule, subcommand_of, with_rule, with_subcommand}
 use Rattle.clap.specs.declared.builder.ArgAction.TheVariants.{Set}
 use Rattle.clap.specs.declared.builder.command.Command.{Command}
+use Rattle.clap.specs.declared.builder.value_parser.ValueParser.TheVariants.{Unsigned}
 use Rattle.clap.specs.declared.builder.command.Command.TheViews.{out-Command}
 use Rattle.source.specs.declared.place.Place.{Place}
 use Rattle.command_line.specs.declared.request.Ask.{Ask}
@@ -17,9 +18,14 @@ text_rule name = record (new_rule name) { required = true; action = Some Set }
 abbrev pub optional_rule : Text → Rule
 optional_rule name = record (new_rule name) { action = Some Set }
 
--- an optional number
+-- an optional number of 64 bits
 abbrev pub number_rule : Text → Rule
-number_rule name = record (new_rule name) { long = Some name; value_names = 1; action = Some Set }
+number_rule name = record (new_rule name) {
+  long = Some name;
+  value_names = 1;
+  action = Some Set;
+  parser = Some (Unsigned 0 18446744073709551615);
+}
 
 -- a subcommand with a file
 abbrev pub file_command : Text → App

@@ -33,18 +33,10 @@ pub fn ask<'a>(alloc: Global, words: &'a [&'a str]) -> Result<Ask<'a>, Error>
     }
     if let Some(("check", inner)) = matches.subcommand() {
         if let Some(file) = inner.get_str("FILE") {
-            let workers = number(inner.get_str("workers"), WORKERS);
-            let slots = number(inner.get_str("slots"), SLOTS);
-            let (Some(workers), Some(slots)) = (workers, slots) else {
-                return Err(command.error(
-                    ErrorKind::InvalidValue,
-                    "--workers and --slots take a number",
-                )?);
-            };
             return Ok(Ask::Check {
                 file,
-                workers,
-                slots,
+                workers: inner.get_one("workers").unwrap_or(WORKERS),
+                slots: inner.get_one("slots").unwrap_or(SLOTS),
             });
         }
     }
@@ -103,12 +95,4 @@ fn place_of(text: &str) -> Option<Place>
     let line = line.parse().ok()?;
     let col = col.parse().ok()?;
     Some(Place { line, col })
-}
-
-/// Returns the number of an option, or `other` if the option is not given. `None` if it is not a number that fits.
-fn number(given: Option<&str>, other: usize) -> Option<usize> {
-    match given {
-        Some(text) => text.parse().ok(),
-        None => Some(other),
-    }
 }

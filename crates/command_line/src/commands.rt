@@ -5,7 +5,7 @@ ghost use Rattle.clap.specs.Words.{rule_of};
 ghost use Rattle.command_line.specs.Asking.{IsCommand, number_rule, optional_rule, text_rule};
 ghost use Rattle.command_line.specs.Asking.{bounds_command, check_command, replay_command, whole_command, why_command};
 
-use clap::{Arg, ArgAction, Command};
+use clap::{Arg, ArgAction, Command, value_parser};
 use std::alloc::{AllocError, Global};
 
 /// The version that `--version` prints.
@@ -62,7 +62,7 @@ fn file_of<'a>(alloc: Global) -> Arg<'a>
     text_of(alloc, "FILE", "The file with the program text")
 }
 
-/// Returns an option with a number.
+/// Returns an option with a number. `clap` refuses a value that is no number of 64 bits.
 fn number_of<'a>(alloc: Global, name: &'a str, help: &'a str) -> Arg<'a>
     ensures rule { rule_of result ≡ number_rule name.now }
     ensures local { result.global ≡ false }
@@ -70,6 +70,7 @@ fn number_of<'a>(alloc: Global, name: &'a str, help: &'a str) -> Arg<'a>
     Arg::new(alloc, name)
         .long(name)
         .value_name("N")
+        .value_parser(value_parser!(usize))
         .help(help)
         .action(ArgAction::Set)
 }
