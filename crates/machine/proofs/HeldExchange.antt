@@ -5,13 +5,13 @@ use Rattle.std.proofs.lemmas.Bool.{cases_eq}
 use Rattle.std.specs.Prelude.{◌⊎◌, if◌then◌else◌, slice_get}
 use Rattle.machine.specs.Blocks.{exchanged_block}
 use Rattle.machine.specs.Heaps.{FieldsHold, occurs, one_if}
-use Rattle.machine.specs.World.{Block, block_at, change_each, is_inside, no_type, owns}
+use Rattle.machine.specs.World.{Block, block_at, change_each, is_freed, is_freed_at, is_inside, no_type, owns}
 use Rattle.machine.specs.declared.worlds.Owner.{Owner}
 use Rattle.machine.specs.declared.worlds.Owner.TheVariants.{Process, Inside, Channel}
 use Rattle.machine.proofs.ChangeLemmas.{eqb_apart, eqb_same, true≢false}
-use Rattle.machine.proofs.Chains.{inside_same, inside_there, is_inside_is}
+use Rattle.machine.proofs.Chains.{inside_same, inside_there, is_inside_is, is_inside_same}
 use Rattle.machine.proofs.HeapLemmas.{changed_all}
-use Rattle.machine.proofs.Holding.{inside_not_process, owned_there, process_not_inside, rooted_put}
+use Rattle.machine.proofs.Holding.{inside_not_process, owned_there, process_not_freed, process_not_inside, rooted_put}
 
 -- ---- what fields hold
 pub one_if_true : (b : Bool) → 0 < one_if b → b ≡ true
@@ -173,9 +173,25 @@ module _ (bs : List Block) (self at field given held : ℕ) (h : FieldsHold bs) 
       (λ g. ⊎_elim (λ s. absurd (let k : Process self ≡ Inside b = sym (owner_held j s) ∙ is in cc))
       (λ s. inr (sym (owner_other j g s) ∙ is)) (cases_eq j held)) (cases_eq j given)
 
+  -- nothing is freed
+  pub freed_now : (a : ℕ) → is_freed_at changes a ≡ is_freed_at bs a
+  freed_now a = ⊎_elim
+      (λ g. ap is_freed (owner_given a g) ∙ sym (ap (λ (n : ℕ). is_freed_at bs n) g
+      ∙ process_not_freed (block_at bs given).owner self owned_given))
+      (λ g. ⊎_elim
+      (λ s. ap is_freed (owner_held a s) ∙ sym (ap (λ (n : ℕ). is_freed_at bs n) s ∙ ap is_freed held_is))
+      (λ s. ap is_freed (owner_other a g s)) (cases_eq a held)) (cases_eq a given)
+
+  alive_now : (j a : ℕ) → is_inside (block_at changes j).owner a ≡ true → is_freed_at changes a ≡ false
+  alive_now j a e = freed_now a ∙ ⊎_elim
+      (λ s. ap (λ (n : ℕ). is_freed_at bs n) s ∙ process_not_freed (block_at bs at).owner self owned_at)
+      (λ was. h.alive j a (ap (λ (o : Owner). is_inside o a) was ∙ is_inside_same a))
+      (put_now j a (is_inside_is (block_at changes j).owner a e))
+
   -- fields still hold what is inside their block
   pub exchange_held : FieldsHold changes
   exchange_held = record {
     holds_are = holds_now;
     rooted = λ x. rooted_put bs changes at at_root put_now x (h.rooted x);
+    alive = alive_now;
   }

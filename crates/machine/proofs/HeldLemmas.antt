@@ -10,7 +10,7 @@ use Rattle.machine.specs.Answers.{with_field}
 use Rattle.machine.specs.BlockViews.{block_model, blocks_model, held_model}
 use Rattle.machine.specs.Blocks.{exchanged_block, with_new_owner, new_block, received_block, sent_block}
 use Rattle.machine.specs.Heaps.{AreOwned, QueuesBring, FieldsHold, brings, occurs, of_process, one_if}
-use Rattle.machine.specs.World.{Block, MessageHeld, block_at, change_each, is_inside, is_queue, owns}
+use Rattle.machine.specs.World.{Block, MessageHeld, block_at, change_each, is_freed, is_freed_at, is_inside, is_queue, owns}
 use Rattle.machine.specs.declared.worlds.Block as made_block
 use Rattle.machine.specs.declared.worlds.Held as made_held
 use Rattle.machine.specs.declared.worlds.Owner.{Owner}
@@ -19,50 +19,63 @@ use Rattle.machine.proofs.ChangeLemmas.{changed_same, changed_twice, or_false}
 use Rattle.machine.proofs.HeapLemmas.{at_changed, at_past, eqb_swap, front_is, past, queue_of_some, some_occurs}
 use Rattle.machine.proofs.HeldExchange as exchange
 use Rattle.machine.proofs.HeldNew as new
-use Rattle.machine.proofs.Holding.{held_same, inside_not_queue, not_inside, owned_there, process_no_queue, queue_not_inside}
+use Rattle.machine.proofs.Holding.{held_same, inside_not_queue, not_freed, not_inside, owned_there, process_no_queue, queue_not_freed, queue_not_inside}
 use Rattle.machine.proofs.WayKept.{with_parts}
 
--- fields are unchanged, and so is what is inside which block
+-- fields are unchanged, and so is what is inside which block and what is freed
 held_by : (f : ℕ → Block → Block) (bs : List Block) → ((j : ℕ) (b : Block) → (f j b).fields ≡ b.fields)
-    → ((j a : ℕ) → is_inside (f j (block_at bs j)).owner a ≡ is_inside (block_at bs j).owner a) → FieldsHold bs → FieldsHold (change_each f bs)
-held_by f bs fields inside h = held_same bs (change_each f bs) (λ a. ⊎_elim
+    → ((j a : ℕ) → is_inside (f j (block_at bs j)).owner a ≡ is_inside (block_at bs j).owner a)
+    → ((j : ℕ) → is_freed (f j (block_at bs j)).owner ≡ is_freed (block_at bs j).owner) → FieldsHold bs → FieldsHold (change_each f bs)
+held_by f bs fields inside freed h = held_same bs (change_each f bs) (λ a. ⊎_elim
     (λ l. ap (λ (b : Block). b.fields) (at_changed f bs a l) ∙ fields a (block_at bs a))
     (λ p. ap (λ (b : Block). b.fields) (at_past f bs a p) ∙ sym (ap (λ (b : Block). b.fields) (past bs a p))) (cases_lt a (length bs)))
     (λ j a. ⊎_elim (λ l. ap (λ (b : Block). is_inside b.owner a) (at_changed f bs j l) ∙ inside j a)
     (λ p. ap (λ (b : Block). is_inside b.owner a) (at_past f bs j p) ∙ sym (ap (λ (b : Block). is_inside b.owner a) (past bs j p)))
+    (cases_lt j (length bs)))
+    (λ j. ⊎_elim (λ l. ap (λ (b : Block). is_freed b.owner) (at_changed f bs j l) ∙ freed j)
+    (λ p. ap (λ (b : Block). is_freed b.owner) (at_past f bs j p) ∙ sym (ap (λ (b : Block). is_freed b.owner) (past bs j p)))
     (cases_lt j (length bs))) h
 
 -- owners and fields are unchanged
 pub held_kept : (f : ℕ → Block → Block) (bs : List Block) → ((j : ℕ) (b : Block) → (f j b).owner ≡ b.owner)
     → ((j : ℕ) (b : Block) → (f j b).fields ≡ b.fields) → FieldsHold bs → FieldsHold (change_each f bs)
-held_kept f bs owners fields h = held_by f bs fields (λ j a. ap (λ (o : Owner). is_inside o a) (owners j (block_at bs j))) h
+held_kept f bs owners fields h = held_by f bs fields (λ j a. ap (λ (o : Owner). is_inside o a) (owners j (block_at bs j)))
+    (λ j. ap is_freed (owners j (block_at bs j))) h
 
-to_same : (t : Bool) (to o : Owner) (a : ℕ) → is_inside to a ≡ false → (t ≡ true → is_inside o a ≡ false)
-    → is_inside (if t then to else o) a ≡ is_inside o a
-to_same true to o a out was = out ∙ sym (was refl)
-to_same false to o a out was = refl
+to_same : (P : Owner → Bool) (t : Bool) (to o : Owner) → P to ≡ false → (t ≡ true → P o ≡ false) → P (if t then to else o) ≡ P o
+to_same P true to o out was = out ∙ sym (was refl)
+to_same P false to o out was = refl
 
--- blocks of processes get an owner that is no block
-pub held_handed : (to : Owner) (bs : List Block) (given : List ℕ) → ((a : ℕ) → is_inside to a ≡ false) → AreOwned bs given → FieldsHold bs
-    → FieldsHold (change_each (with_new_owner to given) bs)
-held_handed to bs given out owned h = held_by (with_new_owner to given) bs (λ j b. refl)
-    (λ j a. to_same (is_among given j) to (block_at bs j).owner a (out a) (λ t. not_inside (block_at bs j).owner a (owned.own j t))) h
+-- blocks of processes get an owner that is no block, and are not freed
+pub held_handed : (to : Owner) (bs : List Block) (given : List ℕ) → ((a : ℕ) → is_inside to a ≡ false) → is_freed to ≡ false
+    → AreOwned bs given → FieldsHold bs → FieldsHold (change_each (with_new_owner to given) bs)
+held_handed to bs given out lives owned h = held_by (with_new_owner to given) bs (λ j b. refl)
+    (λ j a. to_same (λ (o : Owner). is_inside o a) (is_among given j) to (block_at bs j).owner (out a)
+    (λ t. not_inside (block_at bs j).owner a (owned.own j t)))
+    (λ j. to_same is_freed (is_among given j) to (block_at bs j).owner lives (λ t. not_freed (block_at bs j).owner (owned.own j t))) h
 
 -- a message is sent
 pub held_sent : (bs : List Block) (at state to : ℕ) (m : MessageHeld) → AreOwned bs m.payload → FieldsHold bs
     → FieldsHold (change_each (sent_block at state to false m) bs)
 held_sent bs at state to m owned h = held_by (sent_block at state to false m) bs (λ j b. refl)
-    (λ j a. to_same (is_among m.payload j) (Queue to) (block_at bs j).owner a refl
-    (λ t. not_inside (block_at bs j).owner a (owned.own j t))) h
+    (λ j a. to_same (λ (o : Owner). is_inside o a) (is_among m.payload j) (Queue to) (block_at bs j).owner refl
+    (λ t. not_inside (block_at bs j).owner a (owned.own j t)))
+    (λ j. to_same is_freed (is_among m.payload j) (Queue to) (block_at bs j).owner refl (λ t. not_freed (block_at bs j).owner (owned.own j t))) h
 
 -- a message is received
 pub held_received : (bs : List Block) (self at state : ℕ) (m : MessageHeld) (ms : List MessageHeld) → (block_at bs at).queue ≡ m ∷ ms
     → QueuesBring bs → FieldsHold bs → FieldsHold (change_each (received_block self at state m ms) bs)
 held_received bs self at state m ms here is h = held_by (received_block self at state m ms) bs (λ j b. refl)
-    (λ j a. to_same (is_among m.payload j) (Process self) (block_at bs j).owner a refl (λ t.
-    let some : 0 < occurs m.payload j = some_occurs m.payload j t in
-    queue_not_inside (block_at bs j).owner at a (queue_of_some (is_queue (block_at bs j).owner at)
-    (occurs m.payload j + occurs (brings ms) j) (omega arith) (front_is bs at j m ms here is)))) h
+    (λ j a. to_same (λ (o : Owner). is_inside o a) (is_among m.payload j) (Process self) (block_at bs j).owner refl
+    (λ t. queue_not_inside (block_at bs j).owner at a (of_queue j t)))
+    (λ j. to_same is_freed (is_among m.payload j) (Process self) (block_at bs j).owner refl
+    (λ t. queue_not_freed (block_at bs j).owner at (of_queue j t))) h
+  where
+    of_queue : (j : ℕ) → is_among m.payload j ≡ true → is_queue (block_at bs j).owner at ≡ true
+    of_queue j t =
+        let some : 0 < occurs m.payload j = some_occurs m.payload j t in
+        queue_of_some (is_queue (block_at bs j).owner at) (occurs m.payload j + occurs (brings ms) j) (omega arith)
+        (front_is bs at j m ms here is)
 
 -- a process has a new block
 fields_added : (bs : List Block) (b : Block) (a : ℕ) → b.fields ≡ [] → (block_at (bs ++ b ∷ []) a).fields ≡ (block_at bs a).fields
@@ -78,8 +91,15 @@ inside_added [] b (suc j) a own = refl
 inside_added (x ∷ bs) b zero a own = refl
 inside_added (x ∷ bs) b (suc j) a own = inside_added bs b j a own
 
+freed_added : (bs : List Block) (b : Block) (a : ℕ) → of_process b.owner ≡ true → is_freed_at (bs ++ b ∷ []) a ≡ is_freed_at bs a
+freed_added [] b zero own = not_freed b.owner own
+freed_added [] b (suc a) own = refl
+freed_added (x ∷ bs) b zero own = refl
+freed_added (x ∷ bs) b (suc a) own = freed_added bs b a own
+
 pub held_added : (bs : List Block) (b : Block) → of_process b.owner ≡ true → b.fields ≡ [] → FieldsHold bs → FieldsHold (bs ++ b ∷ [])
-held_added bs b own empty h = held_same bs (bs ++ b ∷ []) (λ a. fields_added bs b a empty) (λ j a. inside_added bs b j a own) h
+held_added bs b own empty h = held_same bs (bs ++ b ∷ []) (λ a. fields_added bs b a empty) (λ j a. inside_added bs b j a own)
+    (λ a. freed_added bs b a own) h
 
 -- what queues bring is unchanged, and so is what they own
 brought_same : (bs bs' : List Block) → ((a : ℕ) → (block_at bs' a).queue ≡ (block_at bs a).queue)

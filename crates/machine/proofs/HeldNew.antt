@@ -8,13 +8,13 @@ use Rattle.program.specs.Lists.{is_among}
 use Rattle.program.specs.declared.types.HeapType.{HeapType}
 use Rattle.machine.specs.Blocks.{with_new_owner, new_block}
 use Rattle.machine.specs.Heaps.{FieldsHold, occurs, one_if}
-use Rattle.machine.specs.World.{Block, block_at, change_each, is_inside, no_block, no_type, owns}
+use Rattle.machine.specs.World.{Block, block_at, change_each, is_freed, is_freed_at, is_inside, no_block, no_type, owns}
 use Rattle.machine.specs.declared.worlds.Owner.{Owner}
 use Rattle.machine.specs.declared.worlds.Owner.TheVariants.{Inside, Channel}
 use Rattle.machine.proofs.ChangeLemmas.{changed_length, eqb_apart, eqb_same}
 use Rattle.machine.proofs.Chains.{inside_same, is_inside_is, is_inside_same}
 use Rattle.machine.proofs.HeapLemmas.{changed_all, none_occurs, past}
-use Rattle.machine.proofs.Holding.{owned_there, process_not_inside, rooted_put}
+use Rattle.machine.proofs.Holding.{owned_there, process_not_freed, process_not_inside, rooted_put}
 
 -- ---- a new block, with what is given for its fields
 added_old : (bs : List Block) (b : Block) (a : ℕ) → a < length bs → block_at (bs ++ b ∷ []) a ≡ block_at bs a
@@ -139,9 +139,32 @@ module _ (bs : List Block) (self : ℕ) (given : List ℕ) (ty : HeapType) (h : 
       (λ t. inr (is_inside_is (block_at bs j).owner b
       (sym (inside_stays j b t) ∙ (ap (λ (o : Owner). is_inside o b) is ∙ is_inside_same b)))) (cases_Bool (is_among given j))
 
+  freed_stays : (a : ℕ) → is_freed_at grown a ≡ is_freed_at bs a
+  freed_stays a = by (where_is a)
+    where
+      put : (t : Bool) → is_among given a ≡ t → is_freed (if t then Inside new_at else (block_at bs a).owner) ≡ is_freed_at bs a
+      put true e = sym (process_not_freed (block_at bs a).owner self (mine a e))
+      put false e = refl
+
+      none_past : length bs ≤ a → is_freed_at bs a ≡ false
+      none_past le = ap (λ (b : Block). is_freed b.owner) (past bs a le)
+
+      by : Where a → is_freed_at grown a ≡ is_freed_at bs a
+      by (inl less) = ap (λ (b : Block). is_freed b.owner) (grown_old a less) ∙ put (is_among given a) refl
+      by (inr (inl s)) = ap (λ (n : ℕ). is_freed_at grown n) s
+          ∙ (ap (λ (b : Block). is_freed b.owner) grown_new ∙ sym (none_past (omega arith)))
+      by (inr (inr more)) = ap (λ (b : Block). is_freed b.owner) (grown_past a more) ∙ sym (none_past (omega arith))
+
+  alive_grown : (j a : ℕ) → is_inside (block_at grown j).owner a ≡ true → is_freed_at grown a ≡ false
+  alive_grown j a e = ⊎_elim
+      (λ s. ap (λ (n : ℕ). is_freed_at grown n) s ∙ ap (λ (b : Block). is_freed b.owner) grown_new)
+      (λ was. freed_stays a ∙ h.alive j a (ap (λ (o : Owner). is_inside o a) was ∙ is_inside_same a))
+      (put_grown j a (is_inside_is (block_at grown j).owner a e))
+
   -- fields still hold what is inside their block
   pub new_held : FieldsHold grown
   new_held = record {
     holds_are = holds_grown;
     rooted = λ x. rooted_put bs grown new_at (λ b. ap (λ (y : Block). is_inside y.owner b) grown_new) put_grown x (h.rooted x);
+    alive = alive_grown;
   }

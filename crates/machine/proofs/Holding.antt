@@ -5,7 +5,7 @@ use Rattle.std.proofs.lemmas.Bool.{cases_Bool}
 use Rattle.std.specs.Prelude.{◌⊎◌, if◌then◌else◌}
 use Rattle.machine.specs.Blocks.{freed_block, goes_with, in_queue_of}
 use Rattle.machine.specs.Heaps.{FieldsHold, Rooted, below, occurs, of_process, one_if, top}
-use Rattle.machine.specs.World.{Block, block_at, change_each, is_inside, is_process, is_queue, no_type, owns}
+use Rattle.machine.specs.World.{Block, block_at, change_each, is_freed, is_freed_at, is_inside, is_process, is_queue, no_type, owns}
 use Rattle.machine.specs.declared.worlds.Owner.{Owner}
 use Rattle.machine.specs.declared.worlds.Owner.TheVariants.{Process, Queue, Inside, Channel, Freed}
 use Rattle.machine.proofs.ChangeLemmas.{eqb_apart, true≢false}
@@ -21,8 +21,19 @@ not_inside (Inside n) b own = absurd (cc)
 not_inside Channel b own = refl
 not_inside Freed b own = refl
 
+-- a block of a process is not freed
+pub not_freed : (o : Owner) → of_process o ≡ true → is_freed o ≡ false
+not_freed (Process n) own = refl
+not_freed (Queue n) own = refl
+not_freed (Inside n) own = refl
+not_freed Channel own = refl
+not_freed Freed own = absurd (cc)
+
 pub process_not_inside : (o : Owner) (q b : ℕ) → is_process o q ≡ true → is_inside o b ≡ false
 process_not_inside o q b e = not_inside o b (of_some o q e)
+
+pub process_not_freed : (o : Owner) (q : ℕ) → is_process o q ≡ true → is_freed o ≡ false
+process_not_freed o q e = not_freed o (of_some o q e)
 
 pub process_no_queue : (o : Owner) (q a : ℕ) → is_process o q ≡ true → is_queue o a ≡ false
 process_no_queue o q a e = no_queue o a (of_some o q e)
@@ -33,6 +44,13 @@ queue_not_inside (Queue n) a b e = refl
 queue_not_inside (Inside n) a b e = absurd (cc)
 queue_not_inside Channel a b e = absurd (cc)
 queue_not_inside Freed a b e = absurd (cc)
+
+pub queue_not_freed : (o : Owner) (a : ℕ) → is_queue o a ≡ true → is_freed o ≡ false
+queue_not_freed (Process n) a e = refl
+queue_not_freed (Queue n) a e = refl
+queue_not_freed (Inside n) a e = refl
+queue_not_freed Channel a e = refl
+queue_not_freed Freed a e = absurd (cc)
 
 pub inside_not_process : (o : Owner) (b q : ℕ) → o ≡ Inside b → is_process o q ≡ false
 inside_not_process o b q e = ap (λ (x : Owner). is_process x q) e
@@ -87,13 +105,15 @@ rooted_put bs bs' at root put x (below a c is s) = ⊎_elim
     (rooted_put bs bs' at root put c s))) (put x k.0 k.1))
     (λ out. top x out) (inside_or (block_at bs' x).owner)
 
--- ---- nothing goes into a block or comes out
+-- ---- nothing goes into a block or comes out, and nothing is freed
 pub held_same : (bs bs' : List Block) → ((a : ℕ) → (block_at bs' a).fields ≡ (block_at bs a).fields)
-    → ((j a : ℕ) → is_inside (block_at bs' j).owner a ≡ is_inside (block_at bs j).owner a) → FieldsHold bs → FieldsHold bs'
-held_same bs bs' fields inside h = record {
+    → ((j a : ℕ) → is_inside (block_at bs' j).owner a ≡ is_inside (block_at bs j).owner a)
+    → ((a : ℕ) → is_freed_at bs' a ≡ is_freed_at bs a) → FieldsHold bs → FieldsHold bs'
+held_same bs bs' fields inside freed h = record {
   holds_are = λ a j. ap (λ (xs : List ℕ). occurs xs j) (fields a) ∙ (h.holds_are a j ∙ ap one_if (sym (inside j a)));
   rooted = λ x. rooted_less bs bs' (λ j b is. is_inside_is (block_at bs j).owner b
       (sym (inside j b) ∙ (ap (λ (o : Owner). is_inside o b) is ∙ is_inside_same b))) x (h.rooted x);
+  alive = λ j a e. freed a ∙ h.alive j a (sym (inside j a) ∙ e);
 }
 
 -- ---- a block is freed with all that is inside it
@@ -164,6 +184,20 @@ module _ (bs : List Block) (a : ℕ) (h : FieldsHold bs) (own : of_process (bloc
               (λ k. ap (λ (o : Owner). is_inside o b) k.1 ∙ eqb_apart k.0 b (λ e. true≢false k.2 (ap goes e ∙ s))) (up j t)
       by false false s t = ap (λ (xs : List ℕ). occurs xs j) (fields_stay b s) ∙ (h.holds_are b j ∙ sym (ap one_if (inside_left j b t)))
 
+  -- what remains is inside blocks that remain
+  alive_left : (j b : ℕ) → is_inside (block_at left j).owner b ≡ true → is_freed_at left b ≡ false
+  alive_left j b e = by (goes j) (goes b) refl refl
+    where
+      was : goes j ≡ false → is_inside (block_at bs j).owner b ≡ true
+      was f = sym (inside_left j b f) ∙ e
+
+      by : (s t : Bool) → goes j ≡ s → goes b ≡ t → is_freed_at left b ≡ false
+      by true t s r = absurd (true≢false e (inside_gone j b s))
+      by false true s r = absurd (true≢false (goes_down bs h.rooted a j b (is_inside_is (block_at bs j).owner b (was s)) r) s)
+      by false false s r = ap is_freed (owner_then b)
+          ∙ (ap (λ (t : Bool). is_freed (owner_left t (block_at bs b).owner)) r
+          ∙ (unqueued_same is_freed goes (block_at bs b).owner (λ q. refl) ∙ h.alive j b (was s)))
+
   -- fields still hold what is inside their block
   pub held_freed : FieldsHold left
   held_freed = record {
@@ -172,6 +206,7 @@ module _ (bs : List Block) (a : ℕ) (h : FieldsHold bs) (own : of_process (bloc
         (λ g. absurd (true≢false (ap (λ (o : Owner). is_inside o b) is ∙ is_inside_same b) (inside_gone j b g)))
         (λ f. is_inside_is (block_at bs j).owner b
         (sym (inside_left j b f) ∙ (ap (λ (o : Owner). is_inside o b) is ∙ is_inside_same b))) (cases_Bool (goes j))) x (h.rooted x);
+    alive = alive_left;
   }
 
   -- no queue owned a block that goes

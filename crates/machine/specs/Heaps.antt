@@ -1,7 +1,7 @@
 -- Blocks inside other blocks.
 use Rattle.std.specs.Prelude.{◌≡◌, ◌⊎◌, ℕ, ◌+◌, ◌<◌, ◌==◌, Bool, true, false, List, [], ◌∷◌, ◌++◌, get_or, length}
 use Rattle.program.specs.Lists.{is_among}
-use Rattle.machine.specs.World.{Block, MessageHeld, block_at, is_inside, is_process, is_queue, owns}
+use Rattle.machine.specs.World.{Block, MessageHeld, block_at, is_freed_at, is_inside, is_process, is_queue, owns}
 use Rattle.machine.specs.declared.worlds.Owner.{Owner}
 use Rattle.machine.specs.declared.worlds.Owner.TheVariants.{Process, Inside}
 
@@ -38,11 +38,13 @@ pub data Rooted (blocks : List Block) : ℕ → Type 0 where
   top : (a : ℕ) → ((b : ℕ) → is_inside (block_at blocks a).owner b ≡ false) → Rooted blocks a
   below : (a b : ℕ) → (block_at blocks a).owner ≡ Inside b → Rooted blocks b → Rooted blocks a
 
--- The fields of a block hold each block that is directly inside it once, and no other, and the owners lead up from each address in
--- finitely many steps.
+-- The fields of a block hold each block that is directly inside it once, and no other; the owners lead up from each address in
+-- finitely many steps; and what a block is inside of is not freed. So from each address the owners lead to a process, a queue or
+-- the channel, or the block at the address is freed.
 pub record FieldsHold (blocks : List Block) : Type 0 where
   pub holds_are : (a j : ℕ) → occurs (block_at blocks a).fields j ≡ one_if (is_inside (block_at blocks j).owner a)
   pub rooted : (j : ℕ) → Rooted blocks j
+  pub alive : (j a : ℕ) → is_inside (block_at blocks j).owner a ≡ true → is_freed_at blocks a ≡ false
 
 -- These blocks are the one at a and all that is inside it, through any number of blocks.
 pub record AreAllInside (blocks : List Block) (a : ℕ) (these : ℕ → Bool) : Type 0 where

@@ -6,7 +6,7 @@ use Rattle.std.proofs.lemmas.Bool.Decides.{eqb_tells}
 use Rattle.std.proofs.Props.{props}
 use Rattle.machine.specs.Bindings.{AreSorted, variable_at}
 use Rattle.machine.specs.Heaps.{QueuesBring, IsCounted, IsHeap, FieldsHold, Rooted, top, below, occurs, one_if}
-use Rattle.machine.specs.World.{Block, block_at, is_inside}
+use Rattle.machine.specs.World.{Block, block_at, is_freed_at, is_inside}
 use Rattle.machine.specs.declared.variables.Binding.{Binding}
 use Rattle.machine.specs.declared.worlds.Owner.{Owner}
 use Rattle.machine.specs.declared.worlds.Owner.TheVariants.{Inside}
@@ -45,10 +45,14 @@ brought_once bs = Prim.hlevel props
 fields_once : (bs : List Block) → IsProp ((a j : ℕ) → occurs (block_at bs a).fields j ≡ one_if (is_inside (block_at bs j).owner a))
 fields_once bs = Prim.hlevel props
 
+alive_once : (bs : List Block) → IsProp ((j a : ℕ) → is_inside (block_at bs j).owner a ≡ true → is_freed_at bs a ≡ false)
+alive_once bs = Prim.hlevel props
+
 held_once : (bs : List Block) → IsProp (FieldsHold bs)
 held_once bs h k = λ i. record {
   holds_are = fields_once bs h.holds_are k.holds_are i;
   rooted = λ x. rooted_once bs x (h.rooted x) (k.rooted x) i;
+  alive = alive_once bs h.alive k.alive i;
 }
 
 pub heap_once : (bs : List Block) (counts : List ℕ) → IsProp (IsHeap bs counts)

@@ -206,7 +206,7 @@ module _ (always : HeldAlways) (longer : NeverLonger) (p : ProgramModel) (bound 
       channels =
           record { imp = λ a c within is. absurd (omega arith); exp = λ a c within is. absurd (omega arith) };
       queues = λ a x. refl;
-      held = record { holds_are = λ a j. refl; rooted = λ x. top x (λ b. refl) };
+      held = record { holds_are = λ a j. refl; rooted = λ x. top x (λ b. refl); alive = λ j a e. refl };
     };
     plain = λ a no_end. refl;
   }

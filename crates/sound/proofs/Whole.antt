@@ -131,6 +131,7 @@ fields_own p bs held were = record {
   full = λ a within lives. declared_long bs (field_types p.structs (block_at bs a).ty) (block_at bs a).fields (were a within lives);
   once = held.holds_are;
   rooted = held.rooted;
+  alive = held.alive;
 }
 
 -- in a world with the invariant every event is good

@@ -27,8 +27,9 @@ abbrev pub stands_in_frames : ProgramModel → List Frame → ℕ → ℕ
 stands_in_frames p [] a = 0
 stands_in_frames p (f ∷ frames) a = stands_in (variables_of p f.method) f.variables a + stands_in_frames p frames a
 
--- Each owning field holds one block, which is inside the block with that field; each block inside
--- another is in exactly one field; and no block is inside itself.
+-- Each owning field of a block that is not freed holds one block, which is inside the block with that
+-- field; each block inside another is in exactly one field; and from each address the owners lead to a
+-- process, a queue or the channel, or the block at the address is freed.
 pub record FieldsOwn (p : ProgramModel) (blocks : List Block) : Type 0 where
   -- a block that is not freed has an address for each owning field of its struct
   pub full : (a : ℕ) → a < length blocks → is_freed_at blocks a ≡ false
@@ -37,6 +38,8 @@ pub record FieldsOwn (p : ProgramModel) (blocks : List Block) : Type 0 where
   pub once : (a x : ℕ) → occurs (block_at blocks a).fields x ≡ one_if (is_inside (block_at blocks x).owner a)
   -- the chain of owners from each address ends, after finitely many steps, at a block that is inside no other
   pub rooted : (x : ℕ) → Rooted blocks x
+  -- a block inside another is inside one that is not freed
+  pub alive : (x a : ℕ) → is_inside (block_at blocks x).owner a ≡ true → is_freed_at blocks a ≡ false
 
 -- Safety of a world: no event is a fault; queued messages are those of walks; variables hold only
 -- what their process owns, and each block that a process owns is in exactly one of them; what is

@@ -107,10 +107,11 @@ pub record AreFresh (self : ℕ) (more : List Block) : Type 0 where
   pub no_queue : (k a : ℕ) → is_queue (block_at more k).owner a ≡ false
   pub theirs : (k q : ℕ) → q ≢ self → is_process (block_at more k).owner q ≡ false
 
--- blocks with empty fields that are inside no other
+-- blocks that are not freed, with empty fields, inside no other
 pub record AreBare (more : List Block) : Type 0 where
   pub fields : (k : ℕ) → (block_at more k).fields ≡ []
   pub outside : (k a : ℕ) → is_inside (block_at more k).owner a ≡ false
+  pub alive : (k : ℕ) → is_freed_at more k ≡ false
 
 pub fields_append : (bs more : List Block) (a : ℕ) → AreBare more → (block_at (bs ++ more) a).fields ≡ (block_at bs a).fields
 fields_append [] more a bare = bare.fields a
@@ -123,9 +124,15 @@ inside_append [] more x a bare = bare.outside x a
 inside_append (b ∷ bs) more zero a bare = refl
 inside_append (b ∷ bs) more (suc x) a bare = inside_append bs more x a bare
 
+pub freed_append : (bs more : List Block) (a : ℕ) → AreBare more → is_freed_at (bs ++ more) a ≡ is_freed_at bs a
+freed_append [] more a bare = bare.alive a
+freed_append (b ∷ bs) more zero bare = refl
+freed_append (b ∷ bs) more (suc a) bare = freed_append bs more a bare
+
 pub held_append : (bs more : List Block) → AreBare more → FieldsHold bs → FieldsHold (bs ++ more)
 held_append bs more bare h =
-    held_same bs (bs ++ more) (λ a. fields_append bs more a bare) (λ j a. inside_append bs more j a bare) h
+    held_same bs (bs ++ more) (λ a. fields_append bs more a bare) (λ j a. inside_append bs more j a bare)
+    (λ a. freed_append bs more a bare) h
 
 pub queue_append : (self : ℕ) (bs more : List Block) (a : ℕ) → AreFresh self more → (block_at (bs ++ more) a).queue ≡ (block_at bs a).queue
 queue_append self [] more a fresh = fresh.queue a

@@ -19,7 +19,6 @@ use Rattle.sound.proofs.Invariant.{one_if, one_at, standing, AreBrought, AreDecl
 use Rattle.sound.proofs.Invariant.{in_queue}
 use Rattle.sound.proofs.Kept.{AreKept, brought_kept, declared_kept}
 use Rattle.sound.proofs.Lists.{and_true, both_true}
-use Rattle.sound.proofs.blocks.SentBlocks.{process_not_freed}
 use Rattle.rules.specs.Endpoints.{declared_leaf}
 use Rattle.machine.proofs.ChangeLemmas.{changed_length, eqb_same, eqb_apart}
 
@@ -75,12 +74,7 @@ module _ (p : ProgramModel) (w : World) (self : ℕ) (h : BlocksFit p w.blocks) 
 
   -- nothing is freed, and no queue gains or loses a block
   freed_now : (j : ℕ) → is_freed_at bs' j ≡ is_freed_at w.blocks j
-  freed_now j = ⊎_elim
-      (λ g. ap is_freed (owner_given j g) ∙ sym (ap (λ (n : ℕ). is_freed_at w.blocks n) g
-      ∙ process_not_freed (block_at w.blocks given).owner self owned_given))
-      (λ g. ⊎_elim
-      (λ s. ap is_freed (owner_held j s) ∙ sym (ap (λ (n : ℕ). is_freed_at w.blocks n) s ∙ ap is_freed held_is))
-      (λ s. ap is_freed (owner_other j g s)) (cases_eq j held)) (cases_eq j given)
+  freed_now = held_exchange.freed_now w.blocks self at field given held h.held owned_at owned_given apart found
 
   queue_now : (j a : ℕ) → is_queue (block_at bs' j).owner a ≡ is_queue (block_at w.blocks j).owner a
   queue_now j a = ⊎_elim

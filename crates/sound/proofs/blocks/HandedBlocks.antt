@@ -7,14 +7,13 @@ use Rattle.program.specs.WellFormed.{is_end}
 use Rattle.machine.specs.Blocks.{with_new_owner}
 use Rattle.machine.specs.Heaps.{FieldsHold}
 use Rattle.machine.specs.World.{Block, MessageHeld, block_at, owns, is_freed_at, is_empty, is_inside, is_queue, is_freed}
-use Rattle.machine.proofs.Holding.{held_same, process_no_queue, process_not_inside}
+use Rattle.machine.proofs.Holding.{held_same, process_no_queue, process_not_freed, process_not_inside}
 use Rattle.sound.proofs.Kept.{AreKept, LiesInside, SameFields, brought_kept}
 use Rattle.sound.proofs.Lists.{and_true, both_true}
 use Rattle.machine.specs.declared.worlds.Owner.{Owner}
 use Rattle.sound.proofs.Basics.{block_past}
 use Rattle.sound.proofs.blocks.Blocks.{channels_same}
 use Rattle.sound.proofs.Invariant.{one_if, in_queue, AreBrought, BlocksFit, ChannelsFit, StaysCutOff}
-use Rattle.sound.proofs.blocks.SentBlocks.{process_not_freed}
 
 module _ (p : ProgramModel) (bs bs' : List Block) (self : ℕ) (given : List ℕ) (to : Owner) (h : BlocksFit p bs)
     (mine : (x : ℕ) → is_among given x ≡ true → owns bs self x ≡ true) (lives : is_freed to ≡ false)
@@ -92,7 +91,7 @@ module _ (p : ProgramModel) (bs bs' : List Block) (self : ℕ) (given : List ℕ
         by false e = refl
 
     pub handed_held : FieldsHold bs'
-    handed_held = held_same bs bs' (λ j. ap (λ (b : Block). b.fields) (at j)) handed_inside h.held
+    handed_held = held_same bs bs' (λ j. ap (λ (b : Block). b.fields) (at j)) handed_inside freed_handed h.held
 
     pub handed_fits : BlocksFit p bs'
     handed_fits = record { channels = handed_channels; queues = handed_queues; held = handed_held }

@@ -16,7 +16,7 @@ use Rattle.machine.specs.Blocks.{new_block, end_type}
 use Rattle.program.specs.WellFormed.{field_types}
 use Rattle.program.specs.declared.types.HeapType.{HeapType}
 use Rattle.machine.specs.Heaps.{FieldsHold}
-use Rattle.machine.specs.World.{Block, block_at, is_inside, is_process, is_queue, is_freed}
+use Rattle.machine.specs.World.{Block, block_at, is_freed_at, is_inside, is_process, is_queue, is_freed}
 use Rattle.sound.specs.Operands.{stateless}
 use Rattle.sound.proofs.Basics.{block_append, block_appended}
 use Rattle.sound.proofs.blocks.Blocks.{AreBare, AreFresh, held_append, same_append}
@@ -99,7 +99,7 @@ module _ (p : ProgramModel) (bs : List Block) (self : ℕ) (c : made.Channel) (h
       theirs (suc (suc k)) q n = refl
 
   bare : AreBare (b1 ∷ b2 ∷ [])
-  bare = record { fields = fields; outside = outside }
+  bare = record { fields = fields; outside = outside; alive = alive }
     where
       fields : (k : ℕ) → (block_at (b1 ∷ b2 ∷ []) k).fields ≡ []
       fields zero = refl
@@ -110,6 +110,11 @@ module _ (p : ProgramModel) (bs : List Block) (self : ℕ) (c : made.Channel) (h
       outside zero a = refl
       outside (suc zero) a = refl
       outside (suc (suc k)) a = refl
+
+      alive : (k : ℕ) → is_freed_at (b1 ∷ b2 ∷ []) k ≡ false
+      alive zero = refl
+      alive (suc zero) = refl
+      alive (suc (suc k)) = refl
 
   pub held_now : FieldsHold bs → FieldsHold bs'
   held_now h = held_append bs (b1 ∷ b2 ∷ []) bare h

@@ -15,7 +15,7 @@ use Rattle.machine.specs.Blocks.{received_block}
 use Rattle.machine.specs.Heaps.{FieldsHold}
 use Rattle.machine.specs.World.{no_type, MessageHeld, Block, World, block_at, owns, is_freed_at, is_inside, is_process, is_queue, is_freed}
 use Rattle.machine.specs.World.{is_empty}
-use Rattle.machine.proofs.Holding.{held_same, process_no_queue, process_not_inside, queue_not_inside}
+use Rattle.machine.proofs.Holding.{held_same, process_no_queue, process_not_freed, process_not_inside, queue_not_freed, queue_not_inside}
 use Rattle.machine.specs.World.{change_each}
 use Rattle.machine.specs.declared.worlds.Owner.TheVariants.{Process, Queue, Inside, Channel, Freed}
 use Rattle.machine.specs.declared.worlds.Owner.{Owner}
@@ -27,17 +27,10 @@ use Rattle.sound.proofs.Invariant.{FieldsDeclared}
 use Rattle.sound.proofs.Kept.{AreKept, LiesInside, SameFields, all_fields_kept, brought_kept}
 use Rattle.sound.proofs.Lists.{and_true, both_true}
 use Rattle.sound.proofs.events.Moving.{is_alive, ends_take, channels_move}
-use Rattle.sound.proofs.blocks.SentBlocks.{PeerIs, peer_is, process_not_freed}
+use Rattle.sound.proofs.blocks.SentBlocks.{PeerIs, peer_is}
 use Rattle.machine.proofs.CountLemmas.{one_or_none}
 use Rattle.machine.proofs.HeldExchange.{one_if_true}
 use Rattle.machine.proofs.ChangeLemmas.{changed_length, eqb_same, eqb_apart, true≢false}
-
-queue_not_freed : (o : Owner) (a : ℕ) → is_queue o a ≡ true → is_freed o ≡ false
-queue_not_freed (Process n) a e = absurd (cc)
-queue_not_freed (Queue n) a e = refl
-queue_not_freed (Inside n) a e = refl
-queue_not_freed Channel a e = refl
-queue_not_freed Freed a e = absurd (cc)
 
 queue_apart : (o : Owner) (a j : ℕ) → is_queue o a ≡ true → j ≢ a → is_queue o j ≡ false
 queue_apart (Process n) a j e n2 = absurd (cc)
@@ -207,7 +200,7 @@ module _ (p : ProgramModel) (w : World) (self : ℕ) (h : BlocksFit p w.blocks) 
         by false e = refl
 
     pub held_now : FieldsHold got
-    held_now = held_same w.blocks got (λ j. ap (λ (b : Block). b.fields) (at j)) inside_now h.held
+    held_now = held_same w.blocks got (λ j. ap (λ (b : Block). b.fields) (at j)) inside_now freed_now h.held
 
     pub fields_now : SameFields p w.blocks got
     fields_now = record {

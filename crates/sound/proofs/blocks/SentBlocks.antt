@@ -16,7 +16,7 @@ use Rattle.machine.specs.Blocks.{sent_block}
 use Rattle.machine.specs.Heaps.{FieldsHold}
 use Rattle.machine.specs.World.{no_type, MessageHeld, Block, World, block_at, owns, is_freed_at, cut_off, is_inside, is_process, is_queue}
 use Rattle.machine.specs.World.{is_freed}
-use Rattle.machine.proofs.Holding.{held_same, process_no_queue, process_not_inside, owned_there}
+use Rattle.machine.proofs.Holding.{held_same, process_no_queue, process_not_freed, process_not_inside, owned_there}
 use Rattle.machine.specs.World.{is_empty, change_each}
 use Rattle.machine.specs.declared.worlds.Owner.TheVariants.{Process, Queue, Inside, Channel, Freed}
 use Rattle.machine.specs.declared.worlds.Owner.{Owner}
@@ -59,13 +59,6 @@ peer_is p bs a c Exp h within ty =
       back = ap (λ (n : ℕ). (block_at bs n).peer) k.peer_is ∙ k.back;
       apart = λ e. type_apart (block_at bs a).ty c c (ap (λ (n : ℕ). stateless (block_at bs n).ty) (sym e) ∙ to_type) ty;
     }
-
-pub process_not_freed : (o : Owner) (q : ℕ) → is_process o q ≡ true → is_freed o ≡ false
-process_not_freed (Process n) q e = refl
-process_not_freed (Queue n) q e = refl
-process_not_freed (Inside n) q e = refl
-process_not_freed Channel q e = refl
-process_not_freed Freed q e = absurd (cc)
 
 pub in_queue_more : (x : ℕ) (q : List MessageHeld) (m : MessageHeld) → in_queue x (q ++ m ∷ []) ≡ in_queue x q + standing_in x m.payload
 in_queue_more x [] m = omega arith
@@ -293,7 +286,7 @@ module _ (p : ProgramModel) (w : World) (self : ℕ) (h : BlocksFit p w.blocks) 
         by false e = refl
 
     pub held_now : FieldsHold sent
-    held_now = held_same w.blocks sent (λ j. ap (λ (b : Block). b.fields) (at j)) inside_now h.held
+    held_now = held_same w.blocks sent (λ j. ap (λ (b : Block). b.fields) (at j)) inside_now freed_now h.held
 
     pub fields_now : SameFields p w.blocks sent
     fields_now = record {

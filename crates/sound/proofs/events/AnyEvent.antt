@@ -27,14 +27,13 @@ use Rattle.sound.proofs.Invariant.{one_if, standing_in, IsSoundProgram}
 use Rattle.sound.proofs.Lists.{and_true}
 use Rattle.sound.proofs.blocks.ReceivedBlocks as receiving
 use Rattle.sound.proofs.blocks.SentBlocks as sending
-use Rattle.sound.proofs.blocks.SentBlocks.{process_not_freed}
 use Rattle.sound.proofs.events.Sending.{end_is, sends_along, room_is}
 use Rattle.sound.proofs.blocks.AnyBlocks.{RunFits, IsFine, one_test, or_rest, some_is, no_edges, end_of_type, own_at, lost_fits}
 use Rattle.sound.specs.Queues.{other}
 use Rattle.machine.specs.Instructions.{send_from, receives, receives_at, closes_at}
 use Rattle.machine.specs.Instructions.{receives_from, outcome_from}
 use Rattle.machine.specs.World.{is_own}
-use Rattle.machine.proofs.Holding.{owned_there}
+use Rattle.machine.proofs.Holding.{owned_there, process_not_freed}
 use Rattle.rules.proofs.EndLemmas.{each_at}
 use Rattle.machine.proofs.ChangeLemmas.{true≢false}
 

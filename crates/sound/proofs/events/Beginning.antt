@@ -60,7 +60,7 @@ start_holds p m graphs entry =
       own = own;
       queues = λ a y. refl;
       brought = λ a. tt;
-      held = record { holds_are = λ a j. refl; rooted = λ x. heaps.top x (λ b. refl) };
+      held = record { holds_are = λ a j. refl; rooted = λ x. heaps.top x (λ b. refl); alive = λ j a e. refl };
       declared = λ a within. absurd (omega arith);
     })
   where

@@ -32,7 +32,7 @@ use Rattle.sound.proofs.Kept.{goes_on, leaf_kept, lent_stays_set, on_world, row_
 use Rattle.sound.proofs.Lists.{not_false}
 use Rattle.sound.proofs.Parameters.{field_known}
 use Rattle.sound.proofs.Quiet.{contains_first, fits_type, own_holds}
-use Rattle.sound.proofs.blocks.SentBlocks.{process_not_freed}
+use Rattle.machine.proofs.Holding.{process_not_freed}
 use Rattle.machine.specs.Instructions.{outcome_from, exchanges}
 use Rattle.machine.proofs.ChangeLemmas.{eqb_same, eqb_apart, true≢false}
 

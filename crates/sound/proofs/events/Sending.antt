@@ -50,7 +50,8 @@ use Rattle.sound.proofs.Lists.{not_false, each_append}
 use Rattle.sound.proofs.Edges.{end_leads}
 use Rattle.sound.proofs.events.Moving.{EndsAre, is_alive, ends_send}
 use Rattle.sound.proofs.Quiet.{contains_first, own_holds}
-use Rattle.sound.proofs.blocks.SentBlocks.{peer_is, process_not_freed, sent, at, cut_now, kept_now, state_mine, counted_now, others_now, channels_now, queues_now, brought_now, held_now, declared_now}
+use Rattle.machine.proofs.Holding.{process_not_freed}
+use Rattle.sound.proofs.blocks.SentBlocks.{peer_is, sent, at, cut_now, kept_now, state_mine, counted_now, others_now, channels_now, queues_now, brought_now, held_now, declared_now}
 use Rattle.sound.proofs.Here.{IsGood, tested_good, test_holds, Here, owned_is}
 use Rattle.sound.specs.Queues.{other}
 use Rattle.machine.specs.Instructions.{outcome_from, send_from}

@@ -49,7 +49,7 @@ use Rattle.sound.proofs.Quiet.{contains_first, stays_same, same_blocks}
 use Rattle.sound.proofs.blocks.ReceivedBlocks.{got, at, cut_now, kept_now, state_mine, channels_now, queues_now, brought_now, held_now}
 use Rattle.sound.proofs.blocks.ReceivedBlocks.{declared_now, others_now}
 use Rattle.sound.proofs.blocks.ReceivedBlocks.{counted_now, typed}
-use Rattle.sound.proofs.blocks.SentBlocks.{process_not_freed}
+use Rattle.machine.proofs.Holding.{process_not_freed}
 use Rattle.sound.proofs.events.Sending.{EndIs, end_is, sent_fits}
 use Rattle.sound.proofs.Reaching.{case_is, passed_owned}
 use Rattle.sound.proofs.Here.{IsGood, tested_good, nothing_none, Here, Owned, owned_is}

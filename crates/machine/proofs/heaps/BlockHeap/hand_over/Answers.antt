@@ -13,6 +13,6 @@ invariant_of-self c = record {
     brought = subst QueuesBring (sym c.hand.ensures.handed)
         (brought_handed (Process c.args.process) (blocks_model c.args.self.now.blocks.items) c.args.given.now (λ a. refl) c.requires.owned c.args.self.now.kept.brought);
     held = subst FieldsHold (sym c.hand.ensures.handed)
-        (held_handed (Process c.args.process) (blocks_model c.args.self.now.blocks.items) c.args.given.now (λ a. refl) c.requires.owned c.args.self.now.kept.held);
+        (held_handed (Process c.args.process) (blocks_model c.args.self.now.blocks.items) c.args.given.now (λ a. refl) refl c.requires.owned c.args.self.now.kept.held);
   };
 }

@@ -10,6 +10,6 @@ invariant_of-result c = record {
       (subst (λ (counts : List ℕ). IsHeap [] counts) (sym c.new-2.ensures.items) (record {
         counted = record { counts_are = λ q. refl };
         brought = record { brings_are = λ a j. refl };
-        held = record { holds_are = λ a j. refl; rooted = λ j. top j (λ b. refl) };
+        held = record { holds_are = λ a j. refl; rooted = λ j. top j (λ b. refl); alive = λ j a e. refl };
       }));
 }

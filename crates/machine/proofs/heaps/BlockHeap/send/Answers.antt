@@ -23,7 +23,7 @@ invariant_of-self c =
             (counted_kept state (blocks_model c.hand.new.blocks.items) c.hand.new.counts.items (λ j b. refl) c.hand.ensures.counted);
         brought = subst QueuesBring (sym c.set_state.ensures) (brought_kept state (blocks_model c.hand.new.blocks.items) (λ j b. refl) (λ j b. refl) handed_all);
         held = subst FieldsHold (sym c.set_state.ensures) (held_kept state (blocks_model c.hand.new.blocks.items) (λ j b. refl) (λ j b. refl)
-            (subst FieldsHold (sym c.hand.ensures.handed) (held_handed Channel old c.args.given.now (λ a. refl) c.requires.owned c.args.self.now.kept.held)));
+            (subst FieldsHold (sym c.hand.ensures.handed) (held_handed Channel old c.args.given.now (λ a. refl) refl c.requires.owned c.args.self.now.kept.held)));
       };
     }
 
