@@ -25,12 +25,16 @@ after_steal Empty v w E F h = (ap (λ (u : Hand). u.parts) h.0, ap (λ (u : Hand
 after_steal (Success x) v w E F h = (ap (λ (u : Hand). u.parts) h.0, ap (λ (u : Hand). u.put) h.0)
 after_steal Retry v w E F h = (ap (λ (u : Hand). u.parts) h.0, ap (λ (u : Hand). u.put) h.0)
 
+one_success : (x y : HeldTask) → Path (Steal HeldTask) (Success x) (Success y) → x ≡ y
+one_success x y e = cc
+
 -- a stolen task may be run
-pub stolen : (P : HeldTask → Type 0) (s : Steal HeldTask) (v w : Hand) (E F G H : Type 0) → All P v.put → G → H
-    → MatchSteal s ((w ≡ v) × E) ((w ≡ v) × F) (λ x. (w ≡ hand v.parts v.put (v.taken ++ x ∷ [])) × IsPart v.put (x ∷ [])) → MatchSteal s G H P
-stolen P Empty v w E F G H all g k h = g
-stolen P (Success x) v w E F G H all g k h = taken_one P v.put x h.1 all
-stolen P Retry v w E F G H all g k h = k
+pub stolen : (P : HeldTask → Type 0) (s : Steal HeldTask) (v w : Hand) (E F : Type 0) → All P v.put
+    → MatchSteal s ((w ≡ v) × E) ((w ≡ v) × F) (λ x. (w ≡ hand v.parts v.put (v.taken ++ x ∷ [])) × IsPart v.put (x ∷ []))
+    → (held : HeldTask) → s ≡ Success held → P held
+stolen P Empty v w E F all h held is = cc
+stolen P (Success x) v w E F all h held is = subst P (one_success x held is) (taken_one P v.put x h.1 all)
+stolen P Retry v w E F all h held is = cc
 
 -- the passes after a steal are still a round
 pub round_set : (takes : Task → Type 0) (thieves : List Thief) (ps : List Ticket) (d : ℕ) (q : Ticket) → AreRound takes thieves ps → d < length thieves

@@ -2,9 +2,11 @@
 
 ghost use Rattle.std.specs.Prelude.{◌≡◌, ◌<◌, ◌+◌, ℕ, [], ◌∷◌, OnOk, length};
 ghost use Rattle.crossbeam_deque.specs.Steals.{MatchSteal};
+ghost use Rattle.crossbeam_deque.specs.declared.steal.Steal.TheVariants.{Success};
 ghost use Rattle.pool.specs.Counts.{Does, taken_by};
 ghost use Rattle.pool.specs.Rounds.{AreRound};
 ghost use Rattle.pool.specs.Rule.{copies};
+ghost use Rattle.pool.specs.declared.held.HeldTask.{HeldTask as HeldModel};
 
 use crate::bench::Bench;
 use crate::deque::{TakesTask, Ticket};
@@ -26,8 +28,7 @@ fn steal_at<J: Job, G: Gate>(
     requires index { index < length common.now.thieves.now }
     requires round { AreRound (J.takes common.now.job.now) common.now.thieves.now passes.old.items }
     ensures round { AreRound (J.takes common.now.job.now) common.now.thieves.now passes.new.items }
-    ensures task { MatchSteal result (passes.new.items ≡ passes.new.items) (passes.new.items ≡ passes.new.items)
-        (λ x. J.takes common.now.job.now x.task) }
+    ensures task { (held : HeldModel) → result ≡ Success held → J.takes common.now.job.now held.task }
     ensures taken { MatchSteal result ((n : ℕ) → taken_by n passes.new.items ≡ taken_by n passes.old.items)
         ((n : ℕ) → taken_by n passes.new.items ≡ taken_by n passes.old.items)
         (λ x. (n : ℕ) → taken_by n passes.new.items ≡ taken_by n passes.old.items + copies n (x ∷ [])) }

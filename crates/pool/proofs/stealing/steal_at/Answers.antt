@@ -1,4 +1,4 @@
-use Rattle.std.proofs.Common.{arith, ap, subst, sym, ◌∙◌, ◌≡◌, All, refl}
+use Rattle.std.proofs.Common.{arith, ap, subst, sym, ◌∙◌, ◌≡◌, All}
 use Rattle.std.specs.Prelude.{slice_index_or}
 use Rattle.crossbeam_deque.specs.Handles.{view, IsPassOf, stealer_deque}
 use Rattle.pool.specs.declared.held.HeldTask.{HeldTask}
@@ -37,4 +37,4 @@ returns-clause-task g c =
     let is = c.index_mut-pass.ensures.value in
     let P = λ (x : HeldTask). g.J.Job.takes c.args.common.now.job.now x.task in
     let tasks : All P (view old).put = subst (λ (x : Ticket). All P (view x).put) (sym is) (c.requires.round.tasks c.args.index old (omega (arith, c.requires.round.lengths))) in
-    stolen P c.steal_as.result (view old) (view c.steal_as.new.pass) _ _ _ _ tasks refl refl c.steal_as.ensures.rule
+    stolen P c.steal_as.result (view old) (view c.steal_as.new.pass) _ _ tasks c.steal_as.ensures.rule
