@@ -6,18 +6,15 @@ use Rattle.std.specs.List.{list_any}
 use Rattle.std.specs.Ordering.{nat_cmp}
 use Rattle.std.proofs.lemmas.Bool.{cases_lt}
 use Rattle.std.proofs.lemmas.List.{at_drop_all, at_drop_more, drop_all}
-use Rattle.source.specs.Findings.{FindingModel}
 use Rattle.program.specs.Lists.{is_among}
-use Rattle.program.specs.Methods.{MethodModel}
 use Rattle.program.specs.declared.call.Argument.{Argument}
 use Rattle.program.specs.declared.statement.Mention.{Mention}
 use Rattle.rules.specs.Checks.{AreIn, StandsFor, check_model}
 use Rattle.rules.specs.Arguments.{after_claims, given_before}
-use Rattle.rules.specs.Mentions.{name_of}
-use Rattle.rules.specs.Outcomes.{Check, Pair, after_checks, refuse_if}
+use Rattle.rules.specs.Outcomes.{Check, Pair, after_checks, breach_at, refuse_if}
 use Rattle.rules.specs.Repeats.{first_again, require_none_again}
-use Rattle.rules.specs.Texts.{twice}
 use Rattle.rules.specs.declared.breach.Breach.{Breach}
+use Rattle.rules.specs.declared.breach.Reason.TheVariants.{Twice}
 use Rattle.rows.specs.declared.row.Leaf.{Leaf}
 use Rattle.std.specs.Prelude.{Result, IsErrAnd}
 use Rattle.rules.proofs.CallLemmas.{passed_on}
@@ -66,22 +63,22 @@ none_in set empty = λ q. ap (list_any (is_at (nat_cmp q))) empty
 pub looked_first : (set : BTreeSet ℕ) (arguments : List Argument) → IsEmpty set → Looked set arguments 0
 looked_first set arguments empty = record { same = ([], none_in set empty, refl) }
 
-one : (m : MethodModel) (b : Bool) (x : Mention) (checks more : List Check) (again : Option Mention) (after : List Pair) → after_checks (checks ++ more) after ≡ after_checks (require_none_again m again ∷ more) after
-    → after_checks (refuse_if b (twice (name_of m x.variable.0) x.place) ∷ (checks ++ more)) after ≡ after_checks (require_none_again m (if b then Some x else again) ∷ more) after
-one m true x checks more again after h = refl
-one m false x checks more again after h = h
+one : (b : Bool) (x : Mention) (checks more : List Check) (again : Option Mention) (after : List Pair) → after_checks (checks ++ more) after ≡ after_checks (require_none_again again ∷ more) after
+    → after_checks (refuse_if b (breach_at x.place (Twice x.variable)) ∷ (checks ++ more)) after ≡ after_checks (require_none_again (if b then Some x else again) ∷ more) after
+one true x checks more again after h = refl
+one false x checks more again after h = h
 
 -- the finding is for the first argument that was given before
-pub again_is : (m : MethodModel) (earlier : List ℕ) (arguments : List Argument) (more : List Check) (after : List Pair) → after_checks (given_before m earlier arguments ++ more) after ≡ after_checks (require_none_again m (first_again earlier arguments) ∷ more) after
-again_is m earlier [] more after = refl
-again_is m earlier (a ∷ arguments) more after =
+pub again_is : (earlier : List ℕ) (arguments : List Argument) (more : List Check) (after : List Pair) → after_checks (given_before earlier arguments ++ more) after ≡ after_checks (require_none_again (first_again earlier arguments) ∷ more) after
+again_is earlier [] more after = refl
+again_is earlier (a ∷ arguments) more after =
     let x = a.mention in
-    one m (is_among earlier x.variable.0) x (given_before m (x.variable.0 ∷ earlier) arguments) more (first_again (x.variable.0 ∷ earlier) arguments) after (again_is m (x.variable.0 ∷ earlier) arguments more after)
+    one (is_among earlier x.variable.0) x (given_before (x.variable.0 ∷ earlier) arguments) more (first_again (x.variable.0 ∷ earlier) arguments) after (again_is (x.variable.0 ∷ earlier) arguments more after)
 
 -- the result stands for the checks that no argument was given before
-pub again_stands : (m : MethodModel) (earlier : List ℕ) (arguments : List Argument) (again : Option Mention) (says : Breach → FindingModel) (found : Result (Unit {0}) Breach) → again ≡ first_again earlier arguments → check_model says found ≡ require_none_again m again → StandsFor says found (given_before m earlier arguments)
-again_stands m earlier arguments again says found is told =
-    record { all = λ more after. again_is m earlier arguments more after ∙ ap (λ a. after_checks (require_none_again m a ∷ more) after) (sym is) ∙ ap (λ f. after_checks (f ∷ more) after) (sym told) }
+pub again_stands : (earlier : List ℕ) (arguments : List Argument) (again : Option Mention) (found : Result (Unit {0}) Breach) → again ≡ first_again earlier arguments → check_model found ≡ require_none_again again → StandsFor found (given_before earlier arguments)
+again_stands earlier arguments again found is told =
+    record { all = λ more after. again_is earlier arguments more after ∙ ap (λ a. after_checks (require_none_again a ∷ more) after) (sym is) ∙ ap (λ f. after_checks (f ∷ more) after) (sym told) }
 
 -- of these checks, only those in `left` are still to be made
 pub record Left (checks left : List Check) : Type 0 where
@@ -91,28 +88,27 @@ pub record Left (checks left : List Check) : Type 0 where
 pub left_all : (checks : List Check) → Left checks checks
 left_all checks = record { all = λ more after. refl }
 
-module _ (says : Breach → FindingModel) where
-  left_behind : (checks before left rest : List Check) (found : Result (Unit {0}) Breach) → left ≡ before ++ rest → StandsFor says found before → Left checks left
-      → (more : List Check) (after : List Pair) → after_checks (checks ++ more) after ≡ after_checks (check_model says found ∷ (rest ++ more)) after
-  left_behind checks before left rest found is stands h more after =
-      h.all more after ∙ ap (λ l. after_checks (l ++ more) after) is ∙ ap (λ l. after_checks l after) (append_assoc before rest more) ∙ stands.all (rest ++ more) after
+left_behind : (checks before left rest : List Check) (found : Result (Unit {0}) Breach) → left ≡ before ++ rest → StandsFor found before → Left checks left
+    → (more : List Check) (after : List Pair) → after_checks (checks ++ more) after ≡ after_checks (check_model found ∷ (rest ++ more)) after
+left_behind checks before left rest found is stands h more after =
+    h.all more after ∙ ap (λ l. after_checks (l ++ more) after) is ∙ ap (λ l. after_checks l after) (append_assoc before rest more) ∙ stands.all (rest ++ more) after
 
-  -- the first of the checks left passed
-  pub left_less : (checks before left rest : List Check) → left ≡ before ++ rest → StandsFor says (Ok tt) before → Left checks left → Left checks rest
-  left_less checks before left rest is stands h = record { all = left_behind checks before left rest (Ok tt) is stands h }
+-- the first of the checks left passed
+pub left_less : (checks before left rest : List Check) → left ≡ before ++ rest → StandsFor (Ok tt) before → Left checks left → Left checks rest
+left_less checks before left rest is stands h = record { all = left_behind checks before left rest (Ok tt) is stands h }
 
-  -- the first of the checks left failed
-  pub left_found : (checks before left rest : List Check) (answer : Result (Unit {0}) Breach) (breach : Breach) → left ≡ before ++ rest → IsErrAnd answer (λ b. b ≡ breach) → StandsFor says (Err breach) before → Left checks left
-      → StandsFor says answer checks
-  left_found checks before left rest answer breach is passed stands h = record {
-    all = λ more after.
-        left_behind checks before left rest (Err breach) is stands h more after
-        ∙ sym (ap (λ f. after_checks (check_model says f ∷ more) after) (passed_on answer breach passed));
-  }
+-- the first of the checks left failed
+pub left_found : (checks before left rest : List Check) (answer : Result (Unit {0}) Breach) (breach : Breach) → left ≡ before ++ rest → IsErrAnd answer (λ b. b ≡ breach) → StandsFor (Err breach) before → Left checks left
+    → StandsFor answer checks
+left_found checks before left rest answer breach is passed stands h = record {
+  all = λ more after.
+      left_behind checks before left rest (Err breach) is stands h more after
+      ∙ sym (ap (λ f. after_checks (check_model f ∷ more) after) (passed_on answer breach passed));
+}
 
-  -- no check is left
-  pub left_none : (checks left : List Check) → left ≡ [] → Left checks left → StandsFor says (Ok tt) checks
-  left_none checks left is h = record { all = λ more after. h.all more after ∙ ap (λ l. after_checks (l ++ more) after) is }
+-- no check is left
+pub left_none : (checks left : List Check) → left ≡ [] → Left checks left → StandsFor (Ok tt) checks
+left_none checks left is h = record { all = λ more after. h.all more after ∙ ap (λ l. after_checks (l ++ more) after) is }
 
 -- one more argument: what it claims is gone
 pub claimed_more : (row less : List Leaf) (arguments : List Argument) (done : ℕ) (d : Argument) → done < length arguments → less ≡ after_claims row (slice_index_or arguments done d ∷ []) → after_claims less (drop (done + 1) arguments) ≡ after_claims row (drop done arguments)

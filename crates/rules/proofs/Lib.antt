@@ -1,4 +1,5 @@
 pub mod ProgramLemmas
+pub mod StepLemmas
 pub mod RowLemmas
 pub mod ScopeLemmas
 pub mod GivenLemmas

@@ -1,6 +1,6 @@
 -- Methods and their graphs, by number.
 use Rattle.std.proofs.Common.{◌≡◌, ℕ, zero, suc, ◌<◌, List, [], ◌∷◌, length, map, get_or, refl, sym, ap, ◌∙◌, arith, Option, Some, None, IfSome, IsSomeAnd, slice_get}
-use Rattle.std.specs.Option.{option_map, option_map_or}
+use Rattle.std.specs.Option.{option_map}
 use Rattle.std.proofs.lemmas.Option.{slice_get-map}
 use Rattle.std.proofs.lemmas.Simd.{map-map}
 use Rattle.flow.specs.declared.graph.Graph.{Graph}
@@ -13,12 +13,10 @@ use Rattle.program.specs.declared.method.Method.{Method}
 use Rattle.program.specs.Methods.{MethodModel, method_model, variable_model}
 use Rattle.program.specs.Programs.{ProgramModel}
 use Rattle.rows.specs.declared.row.Leaf.{Leaf}
-use Rattle.rules.specs.Breaches.{breach_in, breach_model}
 use Rattle.rules.specs.Onwards.{condition_at}
 use Rattle.rules.specs.Outcomes.{Goes, Pair}
 use Rattle.rules.specs.RuleTable.{ways}
-use Rattle.rules.specs.Texts.{no_result}
-use Rattle.rules.specs.Steps.{entry_leaf, method_entry, method_outcome, outcome, point_outcome}
+use Rattle.rules.specs.Steps.{entry_leaf, method_entry, method_outcome, point_outcome, step_at}
 
 -- two lists with equal models have equal models at each index
 pub same_at : {A B C : Type 0} (f : A → C) (g : B → C) (xs : List A) (ys : List B) (n : ℕ) (x : A) → map f xs ≡ map g ys → n < length ys → x ≡ get_or xs n x → IsSomeAnd (slice_get ys n) (λ y. f x ≡ g y)
@@ -30,10 +28,6 @@ same_at f g (a ∷ xs) (y ∷ ys) (suc n) x e h is = same_at f g xs ys n x (cc) 
 
 pub one_method : (a b : MethodModel) → Path (Option MethodModel) (Some a) (Some b) → a ≡ b
 one_method a b e = cc
-
--- the findings of breaches in the method with this number
-pub said_in : (p : ProgramModel) (n : ℕ) (m : MethodModel) → slice_get p.methods n ≡ Some m → breach_in p n ≡ breach_model p m
-said_in p n m is = ap (λ o breach. option_map_or (λ m. breach_model p m breach) o (no_result breach.place)) is
 
 -- the pair with which a method begins
 pub entry_is : (o : Option MethodModel) (m : Method) (g : Graph) (leaves : List Leaf) → o ≡ Some (method_model m) → IsSomeAnd o (λ s. graph_model g ≡ graph_of s) → leaves ≡ map (λ v. entry_leaf v.role v.ty) m.variables.items → (g.first, leaves) ≡ method_entry o
@@ -58,8 +52,8 @@ outcome_past p None g point row graph is = absurd graph
 outcome_past p (Some s) g point row graph is = λ j. point_outcome p s row (at_point s g point None graph is j)
 
 -- the step of a method
-pub outcome_is : (p : ProgramModel) (n : ℕ) (pair : Pair) → outcome p n pair ≡ method_outcome p (slice_get p.methods n) pair
-unfolding outcome
+pub outcome_is : (p : ProgramModel) (n : ℕ) (pair : Pair) → step_at p n pair ≡ method_outcome p (slice_get p.methods n) pair
+unfolding step_at
 outcome_is p n pair = refl
 
 -- a condition goes on with any row
@@ -77,7 +71,7 @@ condition_goes p m row branches (Some (Return place value scope)) e = cc
 condition_goes p m row branches (Some (Stop place)) e = cc
 
 pub condition_on : (p : ProgramModel) (n point : ℕ) (found : Option Branches) → IsSomeAnd (slice_get p.methods n) (λ m. found ≡ condition_at (slice_get (graph_of m).instructions point))
-    → IfSome found (λ branches. (row : List Leaf) → outcome p n (point, row) ≡ Goes (ways branches row))
+    → IfSome found (λ branches. (row : List Leaf) → step_at p n (point, row) ≡ Goes (ways branches row))
 condition_on p n point None h = tt
 condition_on p n point (Some branches) h = λ row. outcome_is p n (point, row) ∙ go (slice_get p.methods n) row h
   where

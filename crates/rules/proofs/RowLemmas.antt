@@ -4,7 +4,6 @@ use Rattle.std.specs.List.{All}
 use Rattle.std.specs.Option.{option_map_or}
 use Rattle.std.proofs.lemmas.List.{length-map, length-set}
 use Rattle.std.proofs.lemmas.List.Elements.{All-append, All-nil, All-cons}
-use Rattle.source.specs.Findings.{FindingModel}
 use Rattle.program.specs.declared.statement.Action.TheVariants.{Use, Move, Delete, Exchange, NewChannel}
 use Rattle.flow.specs.Graphs.{Instruction, Act, New, Send, Switch, Branch, Forget, Call, Start, Return, Stop}
 use Rattle.flow.specs.Lowering.{graph_of}
@@ -16,21 +15,24 @@ use Rattle.program.specs.Programs.{ProgramModel}
 use Rattle.program.specs.declared.contract.Edge.{Edge}
 use Rattle.program.specs.declared.types.HeapType.{HeapType}
 use Rattle.program.specs.declared.number.VarId.{VarId}
-use Rattle.rules.specs.Endpoints.{payload_types, declared_leaf, field_of, fields_of, first_state, type_of, message_name, parameter_types, result_of}
+use Rattle.rules.specs.Endpoints.{payload_types, declared_leaf, field_of, fields_of, first_state, type_of, parameter_types, result_of}
 use Rattle.rules.specs.Switches.{awaited_edges, bound_leaves, close_pairs, comes_at, pair_at, receive_pairs, switch_checks, switch_pairs}
 use Rattle.program.specs.declared.call.Argument.{Argument}
 use Rattle.program.specs.declared.statement.Mention.{Mention}
 use Rattle.rows.specs.Rows.{IsRowOf, leaf_at}
+use Rattle.rules.specs.Breaches.{breach_in}
 use Rattle.rules.specs.Arguments.{all_arguments, all_fields, all_payloads, after_claims, field_checks, given_leaf, lacks_edge, payload, sent_leaf, target_checks}
 use Rattle.rules.specs.Mentions.{given_back, require_empty, require_owned, require_another, require_not_lent}
-use Rattle.rules.specs.Outcomes.{Check, Fails, Goes, Pair, Step, after_checks, refuse_if}
+use Rattle.rules.specs.Outcomes.{Check, Fails, Goes, Pair, Step, after_checks, breach_at, refuse_if}
 use Rattle.rules.specs.RuleTable.{back_checks, instruction_outcome, value_checks, ways}
 use Rattle.rules.specs.Scopes.{declared_between}
-use Rattle.rules.specs.Texts.{not_sent}
-use Rattle.rules.specs.Steps.{entry_leaf, method_entry, method_outcome, outcome, point_outcome}
+use Rattle.rules.specs.declared.breach.Breach.{Breach}
+use Rattle.rules.specs.declared.breach.Reason.TheVariants.{NotSent}
+use Rattle.rules.specs.Steps.{entry_leaf, method_entry, method_outcome, outcome, point_outcome, step_at}
 use Rattle.rows.specs.declared.row.Leaf.{Leaf}
 use Rattle.rows.specs.declared.row.Leaf.TheVariants.{Nothing, Block, CutOff, State}
 use Rattle.rules.proofs.ProgramLemmas.{outcome_is}
+use Rattle.rules.proofs.StepLemmas.{said_goes}
 
 pub claimed_size : (row : List Leaf) (arguments : List Argument) → length (after_claims row arguments) ≡ length row
 claimed_size row [] = refl
@@ -52,7 +54,7 @@ bound_size row [] types = refl
 bound_size row (v ∷ bound) [] = refl
 bound_size row (v ∷ bound) (ty ∷ types) = bound_size (set row v.0 (declared_leaf ty)) bound types ∙ length-set row v.0 (declared_leaf ty)
 
-same_goes : (a b : List Pair) → Path (Step Pair FindingModel) (Goes a) (Goes b) → a ≡ b
+same_goes : (a b : List Pair) → Path (Step Pair Breach) (Goes a) (Goes b) → a ≡ b
 same_goes a b e = cc
 
 -- if the checks pass, the step leads to the pairs after them
@@ -61,7 +63,7 @@ goes_on [] after to e = same_goes after to e
 goes_on (None ∷ checks) after to e = goes_on checks after to e
 goes_on (Some finding ∷ checks) after to e = absurd (no_step finding e)
   where
-    no_step : (f : FindingModel) → Path (Step Pair FindingModel) (Fails f) (Goes to) → ⊥
+    no_step : (f : Breach) → Path (Step Pair Breach) (Fails f) (Goes to) → ⊥
     no_step f k = cc
 
 module _ (p : ProgramModel) (m : MethodModel) where
@@ -110,25 +112,25 @@ module _ (p : ProgramModel) (m : MethodModel) where
 
   instruction_on : (i : Instruction) (row : List Leaf) (to : List Pair)
       → IsRowOf m row → instruction_outcome p m i row ≡ Goes to → AreRows to
-  instruction_on (Act (Use v) next) row to is e = leads_on (require_owned m row v ∷ []) next row to is e
+  instruction_on (Act (Use v) next) row to is e = leads_on (require_owned row v ∷ []) next row to is e
   instruction_on (Act (Exchange x) next) row to is e =
       let ty = field_of p m x.holder.variable.0 x.field in
       let leaf = option_map_or declared_leaf ty Nothing in
-      leads_on (require_another m x.holder x.given ∷ require_owned m row x.holder ∷ option_map_or (λ ty. field_checks m row ty (payload x.given)) ty [])
+      leads_on (require_another x.holder x.given ∷ require_owned row x.holder ∷ option_map_or (λ ty. field_checks m row ty (payload x.given)) ty [])
       next (set row x.given.variable.0 leaf) to (length-set row x.given.variable.0 leaf ∙ is) e
   instruction_on (Act (NewChannel c) next) row to is e =
       let first = State (first_state p c.contract.0) in
       let one = set row c.first.variable.0 first in
-      let checks = require_not_lent m c.first ∷ require_empty m row c.first ∷ require_not_lent m c.second ∷ require_empty m row c.second ∷ [] in
+      let checks = require_not_lent m c.first ∷ require_empty row c.first ∷ require_not_lent m c.second ∷ require_empty row c.second ∷ [] in
       leads_on checks next (set one c.second.variable.0 first) to (length-set one c.second.variable.0 first ∙ length-set row c.first.variable.0 first ∙ is) e
   instruction_on (Act (Move v w) next) row to is e =
       let moved = set row v.variable.0 (leaf_at row w.variable.0) in
-      let checks = require_another m v w ∷ require_not_lent m w ∷ require_owned m row w ∷ require_not_lent m v ∷ require_empty m row v ∷ [] in
+      let checks = require_another v w ∷ require_not_lent m w ∷ require_owned row w ∷ require_not_lent m v ∷ require_empty row v ∷ [] in
       let size = length-set moved w.variable.0 Nothing ∙ length-set row v.variable.0 (leaf_at row w.variable.0) ∙ is in
       leads_on checks next (set moved w.variable.0 Nothing) to size e
   instruction_on (Act (Delete v) next) row to is e =
       let freed = set row v.variable.0 Nothing in
-      leads_on (require_not_lent m v ∷ require_owned m row v ∷ []) next freed to (length-set row v.variable.0 Nothing ∙ is) e
+      leads_on (require_not_lent m v ∷ require_owned row v ∷ []) next freed to (length-set row v.variable.0 Nothing ∙ is) e
   instruction_on (New v arguments next) row to is e =
       let given = map payload arguments in
       let left = after_claims row given in
@@ -139,9 +141,8 @@ module _ (p : ProgramModel) (m : MethodModel) where
       let leaf = sent_leaf p (type_of m x.variable.0) message.0 (leaf_at row x.variable.0) in
       let leaf_now = leaf_at row x.variable.0 in
       let ty = type_of m x.variable.0 in
-      let name = message_name p ty message.0 in
       leads_on
-      (require_owned m row x ∷ (all_payloads m row x name (payload_types p message.0) (map payload payloads) ++ refuse_if (lacks_edge p ty message.0 leaf_now) (not_sent name place) ∷ []))
+      (require_owned row x ∷ (all_payloads m row x.variable message (payload_types p message.0) (map payload payloads) ++ refuse_if (lacks_edge p ty message.0 leaf_now) (breach_at place (NotSent x.variable message)) ∷ []))
       next (set gone x.variable.0 leaf) to (length-set gone x.variable.0 leaf ∙ claimed_size row (map payload payloads) ∙ is) e
   instruction_on (Switch place cases) row to is e =
       subst AreRows (goes_on (switch_checks p m row place cases) (switch_pairs p m row cases) to e) (switch_on row cases is)
@@ -158,7 +159,7 @@ module _ (p : ProgramModel) (m : MethodModel) where
       subst AreRows (goes_on (value_checks p m row value ++ (given_back m row place value (declared_between m None scope) ++ back_checks p m row place)) [] to e) no_rows
   instruction_on (Stop place) row to is e = absurd (no_step e)
     where
-      no_step : {f : FindingModel} → Path (Step Pair FindingModel) (Fails f) (Goes to) → ⊥
+      no_step : {f : Breach} → Path (Step Pair Breach) (Fails f) (Goes to) → ⊥
       no_step k = cc
 
   point_on : (o : Option Instruction) (row : List Leaf) (to : List Pair)
@@ -170,7 +171,7 @@ module _ (p : ProgramModel) (m : MethodModel) where
 pub step_on : (p : ProgramModel) (n : ℕ) (m : MethodModel) (pair : Pair) (to : List Pair)
     → slice_get p.methods n ≡ Some m → IsRowOf m pair.1 → outcome p n pair ≡ Goes to → All (λ x. IsRowOf m x.1) to
 step_on p n m pair to there is e =
-    let here = ap (λ o. method_outcome p o pair) (sym there) ∙ sym (outcome_is p n pair) ∙ e in
+    let here = ap (λ o. method_outcome p o pair) (sym there) ∙ sym (outcome_is p n pair) ∙ said_goes (breach_in p n) (step_at p n pair) to e in
     point_on p m (slice_get (graph_of m).instructions pair.0) pair.1 to is here
 
 -- a method begins with such a row

@@ -13,9 +13,9 @@ use Rattle.program.specs.declared.method.Role.TheVariants.{Claimed, Lent, Local}
 use Rattle.program.specs.declared.statement.Mention.{Mention}
 use Rattle.program.specs.declared.statement.Action.TheVariants.{Exchange}
 use Rattle.flow.specs.Graphs.{Instruction, Act, New}
-use Rattle.rules.specs.Outcomes.{Fails, Goes}
+use Rattle.rules.specs.Outcomes.{Fails, Goes, breach_at}
 use Rattle.rules.specs.RuleTable.{instruction_outcome}
-use Rattle.rules.specs.Texts.{lent, not_owned, overwritten, twice, wrong_for_field}
+use Rattle.rules.specs.declared.breach.Reason.TheVariants as reasons
 use Rattle.rows.specs.declared.row.Leaf.TheVariants.{Nothing, Block, State, CutOff}
 
 abbrev at : ℕ → Place
@@ -62,32 +62,32 @@ given_for_a_field = refl
 
 -- a lent block is refused
 pub lent_for_a_field : instruction_outcome program method (New (mention 2 1) (mention 1 2 ∷ []) 9)
-    (Block ∷ Block ∷ Nothing ∷ State 1 ∷ Nothing ∷ []) ≡ Fails (lent (codes "y") (at 2))
+    (Block ∷ Block ∷ Nothing ∷ State 1 ∷ Nothing ∷ []) ≡ Fails (breach_at (at 2) (reasons.Lent record { 0 = 1 }))
 lent_for_a_field = refl
 
 -- an endpoint in another state than the field asks for is refused before the target is looked at
 pub wrong_for_a_field : instruction_outcome program method (New (mention 4 1) (mention 3 2 ∷ []) 9)
-    (Block ∷ Block ∷ Nothing ∷ State 1 ∷ Block ∷ []) ≡ Fails (wrong_for_field (codes "i") (at 2))
+    (Block ∷ Block ∷ Nothing ∷ State 1 ∷ Block ∷ []) ≡ Fails (breach_at (at 2) (reasons.WrongForField record { 0 = 3 }))
 wrong_for_a_field = refl
 
 -- an endpoint that is cut off is never in another state, so here the target is refused
 pub cut_off_for_a_field : instruction_outcome program method (New (mention 4 1) (mention 3 2 ∷ []) 9)
-    (Block ∷ Block ∷ Nothing ∷ CutOff ∷ Block ∷ []) ≡ Fails (overwritten (codes "e") (at 1))
+    (Block ∷ Block ∷ Nothing ∷ CutOff ∷ Block ∷ []) ≡ Fails (breach_at (at 1) (reasons.Overwritten record { 0 = 4 }))
 cut_off_for_a_field = refl
 
 -- a variable that has nothing is refused
 pub nothing_for_a_field : instruction_outcome program method (exchange 2 0)
-    (Nothing ∷ Block ∷ Block ∷ State 1 ∷ Nothing ∷ []) ≡ Fails (not_owned (codes "x") (at 3))
+    (Nothing ∷ Block ∷ Block ∷ State 1 ∷ Nothing ∷ []) ≡ Fails (breach_at (at 3) (reasons.NotOwned record { 0 = 0 }))
 nothing_for_a_field = refl
 
 -- the holder itself is refused, before all else
 pub holder_for_its_field : instruction_outcome program method (exchange 2 2)
-    (Block ∷ Block ∷ Nothing ∷ State 1 ∷ Nothing ∷ []) ≡ Fails (twice (codes "h") (at 3))
+    (Block ∷ Block ∷ Nothing ∷ State 1 ∷ Nothing ∷ []) ≡ Fails (breach_at (at 3) (reasons.Twice record { 0 = 2 }))
 holder_for_its_field = refl
 
 -- an endpoint in another state than the field asks for is refused
 pub wrong_in_an_exchange : instruction_outcome program method (exchange 4 3)
-    (Block ∷ Block ∷ Nothing ∷ State 1 ∷ Block ∷ []) ≡ Fails (wrong_for_field (codes "i") (at 3))
+    (Block ∷ Block ∷ Nothing ∷ State 1 ∷ Block ∷ []) ≡ Fails (breach_at (at 3) (reasons.WrongForField record { 0 = 3 }))
 wrong_in_an_exchange = refl
 
 -- what comes out of the field has the field's state, not that of the variable before

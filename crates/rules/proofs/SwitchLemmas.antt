@@ -3,27 +3,20 @@ use Rattle.std.proofs.Common.{◌≡◌, ℕ, ◌+◌, ◌<◌, ◌≤◌, List,
 use Rattle.std.specs.Prelude.{is_none}
 use Rattle.std.proofs.lemmas.List.{at_drop_all, at_drop_more}
 use Rattle.flow.specs.Cases.{EntranceModel, case_for}
-use Rattle.program.specs.Methods.{MethodModel}
-use Rattle.program.specs.Programs.{ProgramModel}
 use Rattle.program.specs.declared.contract.Edge.{Edge}
 use Rattle.program.specs.declared.statement.Mention.{Mention}
-use Rattle.rules.specs.Endpoints.{type_of, message_name}
-use Rattle.rules.specs.Mentions.{name_of}
-use Rattle.rules.specs.Outcomes.{Check, refuse_if}
+use Rattle.rules.specs.Outcomes.{Check, breach_at, refuse_if}
 use Rattle.rules.specs.Switches.{bound_leaves}
-use Rattle.rules.specs.Texts.{not_covered}
+use Rattle.rules.specs.declared.breach.Reason.TheVariants.{NotCovered}
 use Rattle.rows.specs.declared.row.Leaf.{Leaf}
 use Rattle.rules.specs.Endpoints.{declared_leaf}
 use Rattle.program.specs.declared.types.HeapType.{HeapType}
 use Rattle.program.specs.declared.number.VarId.{VarId}
 
 -- the checks that the message of each of these edges has a case at the endpoint
-abbrev pub edge_checks : ProgramModel → MethodModel → List EntranceModel → Mention → List Edge → List Check
-edge_checks p m cases e edges =
-    map
-    (λ d. refuse_if (is_none (case_for cases e.variable.0 (Some d.message.0)))
-    (not_covered (name_of m e.variable.0) (message_name p (type_of m e.variable.0) d.message.0) e.place))
-    edges
+abbrev pub edge_checks : List EntranceModel → Mention → List Edge → List Check
+edge_checks cases e edges =
+    map (λ d. refuse_if (is_none (case_for cases e.variable.0 (Some d.message.0))) (breach_at e.place (NotCovered e.variable d.message))) edges
 
 -- the list so far and what the rest will add are the whole list
 pub record Adds {X Y : Type 0} (one : X → List Y) (old : List Y) (xs : List X) (now : List Y) (done : ℕ) : Type 0 where

@@ -1,7 +1,6 @@
 -- The outcome of an instruction with a transfer.
 use Rattle.std.proofs.Common.{◌≡◌, ℕ, Bool, true, false, not, ◌&&◌, ◌==◌, List, [], ◌∷◌, ◌++◌, flat_map, Option, Some, None, set, IfSome, IsSomeAnd, slice_get, if◌then◌else◌, refl, sym, ap, subst, ◌∙◌, true≢false}
 use Rattle.std.specs.Option.{option_map}
-use Rattle.source.specs.Findings.{FindingModel}
 use Rattle.flow.specs.declared.graph.Graph.{Graph}
 use Rattle.flow.specs.declared.graph.Instr.{Instr}
 use Rattle.flow.specs.Graphs.{Instruction, graph_model, instruction_model}
@@ -15,12 +14,13 @@ use Rattle.program.specs.Methods.{MethodModel, method_model}
 use Rattle.program.specs.Programs.{ProgramModel}
 use Rattle.rules.specs.Arguments.{all_fields, field_checks}
 use Rattle.rules.specs.Endpoints.{fields_of}
-use Rattle.rules.specs.Mentions.{is_lent, name_of}
-use Rattle.rules.specs.Outcomes.{Goes, Pair, Check, after_checks, refuse_if}
+use Rattle.rules.specs.Mentions.{is_lent}
+use Rattle.rules.specs.Outcomes.{Goes, Pair, Check, after_checks, breach_at, refuse_if}
 use Rattle.rows.specs.Rows.{is_owned, leaf_at}
 use Rattle.rules.specs.RuleTable.{instruction_outcome}
-use Rattle.rules.specs.Steps.{method_outcome, outcome, point_outcome}
-use Rattle.rules.specs.Texts.{lent, not_owned, overwritten, twice}
+use Rattle.rules.specs.Steps.{method_outcome, point_outcome, step_at}
+use Rattle.rules.specs.declared.breach.Breach.{Breach}
+use Rattle.rules.specs.declared.breach.Reason.TheVariants.{Lent, NotOwned, Overwritten, Twice}
 use Rattle.rules.specs.Transfers.{allows, fits, fitting_transfer, transfer_at, transfer_in, row_after_transfer}
 use Rattle.rows.specs.declared.row.Leaf.{Leaf}
 use Rattle.rows.specs.declared.row.Leaf.TheVariants.{Nothing, Block}
@@ -49,7 +49,7 @@ one_of true x y e = (refl, one_some x y e)
 one_of false x y e = absurd (none_some x (sym e))
 
 -- a check that passes
-pass : (b : Bool) (f : FindingModel) (checks : List Check) (after : List Pair) → b ≡ false
+pass : (b : Bool) (f : Breach) (checks : List Check) (after : List Pair) → b ≡ false
     → after_checks (refuse_if b f ∷ checks) after ≡ after_checks checks after
 pass b f checks after e = ap (λ c. after_checks (refuse_if c f ∷ checks) after) e
 
@@ -59,14 +59,14 @@ module _ (p : ProgramModel) (m : MethodModel) (row : List Leaf) where
   Comes i u = fits m u.0 ≡ true → allows u.0 row ≡ true → instruction_outcome p m i row ≡ Goes ((u.1, row_after_transfer u.0 row) ∷ [])
 
   -- the checks of a variable
-  abbrev lent_one : Mention → FindingModel
-  lent_one v = lent (name_of m v.variable.0) v.place
+  abbrev lent_one : Mention → Breach
+  lent_one v = breach_at v.place (Lent v.variable)
 
-  abbrev lacking : Mention → FindingModel
-  lacking v = not_owned (name_of m v.variable.0) v.place
+  abbrev lacking : Mention → Breach
+  lacking v = breach_at v.place (NotOwned v.variable)
 
-  abbrev having : Mention → FindingModel
-  having v = overwritten (name_of m v.variable.0) v.place
+  abbrev having : Mention → Breach
+  having v = breach_at v.place (Overwritten v.variable)
 
   use_comes : (v : Mention) (next : ℕ) → Comes (graphs.Act (does.Use v) next) (Use v.variable, next)
   use_comes v next fit allowed = pass (not (is_owned row v.variable.0)) (lacking v) [] ((next, row) ∷ []) (ap not allowed)
@@ -101,7 +101,7 @@ module _ (p : ProgramModel) (m : MethodModel) (row : List Leaf) where
       let fourth = refuse_if (is_lent m v.variable.0) (lent_one v) ∷ last in
       let third = refuse_if (not (is_owned row w.variable.0)) (lacking w) ∷ fourth in
       let second = refuse_if (is_lent m w.variable.0) (lent_one w) ∷ third in
-      pass same (twice (name_of m w.variable.0) w.place) second after (of_not same lends.0)
+      pass same (breach_at w.place (Twice w.variable)) second after (of_not same lends.0)
       ∙ pass (is_lent m w.variable.0) (lent_one w) third after (of_not (is_lent m w.variable.0) lent_either.0)
       ∙ pass (not (is_owned row w.variable.0)) (lacking w) fourth after (ap not owns.0)
       ∙ pass (is_lent m v.variable.0) (lent_one v) last after (of_not (is_lent m v.variable.0) lent_either.1)
@@ -140,7 +140,7 @@ module _ (p : ProgramModel) (m : MethodModel) (row : List Leaf) where
 
 pub transfer_on : (p : ProgramModel) (n point : ℕ) (found : Option (Transfer × ℕ))
     → IsSomeAnd (slice_get p.methods n) (λ m. found ≡ transfer_at m (slice_get (graph_of m).instructions point))
-    → IfSome found (λ t. (row : List Leaf) → allows t.0 row ≡ true → outcome p n (point, row) ≡ Goes ((t.1, row_after_transfer t.0 row) ∷ []))
+    → IfSome found (λ t. (row : List Leaf) → allows t.0 row ≡ true → step_at p n (point, row) ≡ Goes ((t.1, row_after_transfer t.0 row) ∷ []))
 transfer_on p n point None h = tt
 transfer_on p n point (Some t) h = λ row allowed. outcome_is p n (point, row) ∙ go (slice_get p.methods n) row h allowed
   where

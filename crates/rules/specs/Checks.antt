@@ -3,7 +3,6 @@ use Rattle.std.specs.Prelude.{◌≡◌, ◌<◌, ◌≤◌, ℕ, true, false, l
 use Rattle.std.specs.Prelude.{Option, None, Some, Result, Ok, Err}
 use Rattle.std.specs.BTreeSet.{BTreeSet, contains}
 use Rattle.std.specs.Ordering.{nat_cmp}
-use Rattle.source.specs.Findings.{FindingModel}
 use Rattle.program.specs.Lists.{is_among}
 use Rattle.program.specs.Methods.{MethodModel, VariableModel}
 use Rattle.program.specs.Scopes.{outer_of}
@@ -14,10 +13,10 @@ use Rattle.rules.specs.Outcomes.{Check, Pair, after_checks}
 use Rattle.rules.specs.declared.breach.Breach.{Breach}
 use Rattle.rows.specs.declared.row.Leaf.{Leaf}
 
--- the check that has this result; `says` gives the finding of a breach
-abbrev pub check_model : (Breach → FindingModel) → Result (Unit {0}) Breach → Check
-check_model says (Ok x) = None
-check_model says (Err breach) = Some (says breach)
+-- the check that has this result
+abbrev pub check_model : Result (Unit {0}) Breach → Check
+check_model (Ok x) = None
+check_model (Err breach) = Some breach
 
 -- the first of these variables that still has something, except the one that is given
 abbrev pub first_kept : MethodModel → List Leaf → Option Mention → List ℕ → Option ℕ
@@ -60,6 +59,10 @@ abbrev pub AreIn : List ℕ → BTreeSet ℕ → Type 0
 AreIn listed set = (q : ℕ) → contains nat_cmp set q ≡ is_among listed q
 
 -- The result replaces these checks, whatever checks follow.
-pub record StandsFor (says : Breach → FindingModel) (answer : Result (Unit {0}) Breach) (checks : List Check) : Type 0 where
+pub record StandsFor (answer : Result (Unit {0}) Breach) (checks : List Check) : Type 0 where
   pub all : (more : List Check) (after : List Pair)
-      → after_checks (checks ++ more) after ≡ after_checks (check_model says answer ∷ more) after
+      → after_checks (checks ++ more) after ≡ after_checks (check_model answer ∷ more) after
+
+-- the result is that of the check
+abbrev pub AnswersCheck : Result (Unit {0}) Breach → Check → Type 0
+AnswersCheck answer check = check_model answer ≡ check

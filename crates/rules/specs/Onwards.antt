@@ -2,7 +2,6 @@
 use Rattle.std.specs.Prelude.{◌≡◌, List, [], ◌∷◌, Option, None, Some, map, Result, Ok, Err}
 use Rattle.flow.specs.Graphs.{Instruction, Branch}
 use Rattle.flow.specs.declared.graph.Branches.{Branches}
-use Rattle.source.specs.Findings.{FindingModel}
 use Rattle.rules.specs.Outcomes.{Step, Goes, Fails, Pair}
 use Rattle.rules.specs.Steps.{pair_model}
 use Rattle.rules.specs.declared.breach.Breach.{Breach}
@@ -10,14 +9,14 @@ use Rattle.rules.specs.declared.onward.Onward.{Onward}
 use Rattle.rules.specs.declared.onward.Onward.TheVariants.{Ends, Same, Both, Changed, Ways, Found}
 use Rattle.rows.specs.declared.row.Leaf.{Leaf}
 
--- the step that this outcome means if that row is in place; `says` gives the finding of a breach
-abbrev pub onward_model : (Breach → FindingModel) → Onward → List Leaf → Step Pair FindingModel
-onward_model says Ends row = Goes []
-onward_model says (Same point) row = Goes ((point, row) ∷ [])
-onward_model says (Both first second) row = Goes ((first, row) ∷ (second, row) ∷ [])
-onward_model says (Changed point) row = Goes ((point, row) ∷ [])
-onward_model says (Ways pairs) row = Goes (map pair_model pairs.items)
-onward_model says (Found breach) row = Fails (says breach)
+-- the step that this outcome means if that row is in place
+abbrev pub onward_model : Onward → List Leaf → Step Pair Breach
+onward_model Ends row = Goes []
+onward_model (Same point) row = Goes ((point, row) ∷ [])
+onward_model (Both first second) row = Goes ((first, row) ∷ (second, row) ∷ [])
+onward_model (Changed point) row = Goes ((point, row) ∷ [])
+onward_model (Ways pairs) row = Goes (map pair_model pairs.items)
+onward_model (Found breach) row = Fails breach
 
 -- the row is unchanged, except for `Changed` and `Found`
 abbrev pub KeepsRow : Onward → (before after : List Leaf) → Type 0

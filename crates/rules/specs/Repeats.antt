@@ -5,12 +5,10 @@ use Rattle.std.specs.Option.{option_and_then, option_map}
 use Rattle.std.specs.Ordering.{nat_cmp}
 use Rattle.flow.specs.Graphs.{GraphModel, Instruction, Call, Start}
 use Rattle.program.specs.Lists.{is_among}
-use Rattle.program.specs.Methods.{MethodModel}
 use Rattle.program.specs.declared.call.Argument.{Argument}
 use Rattle.program.specs.declared.statement.Mention.{Mention}
-use Rattle.rules.specs.Mentions.{name_of}
-use Rattle.rules.specs.Outcomes.{Check}
-use Rattle.rules.specs.Texts.{twice}
+use Rattle.rules.specs.Outcomes.{Check, breach_at}
+use Rattle.rules.specs.declared.breach.Reason.TheVariants.{Twice}
 use Rattle.rules.specs.declared.repeats.Repeats.{Repeats}
 
 -- the first argument whose variable is one of these, or is given by an earlier argument too
@@ -34,5 +32,5 @@ abbrev pub repeated_in : Repeats → ℕ → Option Mention
 repeated_in repeats point = get nat_cmp repeats.firsts point
 
 -- the check that no argument is repeated
-abbrev pub require_none_again : MethodModel → Option Mention → Check
-require_none_again m again = option_map (λ x. twice (name_of m x.variable.0) x.place) again
+abbrev pub require_none_again : Option Mention → Check
+require_none_again again = option_map (λ x. breach_at x.place (Twice x.variable)) again

@@ -1,13 +1,9 @@
 -- For proofs within the crate: where a step is taken, and the results of checks and rules there, in terms of the rule table.
 use Rattle.std.specs.Prelude.{◌≡◌, List, Result}
-use Rattle.source.specs.Findings.{FindingModel}
 use Rattle.program.specs.Methods.{MethodModel, method_model}
 use Rattle.program.specs.Programs.{ProgramModel}
 use Rattle.flow.specs.Graphs.{Instruction}
-use Rattle.rules.specs.Breaches.{breach_model}
-use Rattle.rules.specs.Checks.{StandsFor, check_model}
 use Rattle.rules.specs.Onwards.{onward_model, onward_of}
-use Rattle.rules.specs.Outcomes.{Check}
 use Rattle.rules.specs.Programs.{model_of}
 use Rattle.rules.specs.RuleTable.{instruction_outcome}
 use Rattle.rules.specs.declared.breach.Breach.{Breach}
@@ -28,22 +24,10 @@ method_of here = method_model here.site.method.now
 abbrev pub row_of : Here → List Leaf
 row_of here = row_model here.row.now
 
--- the finding of a breach there
-abbrev pub says : Site → Breach → FindingModel
-says site = breach_model (model_of site.program.now) (method_model site.method.now)
-
--- the result is that of the check
-abbrev pub AnswersCheck : Here → Result (Unit {0}) Breach → Check → Type 0
-AnswersCheck here answer check = check_model (says here.site) answer ≡ check
-
--- the result is that of these checks in order, whatever checks follow
-abbrev pub AnswersChecks : Here → Result (Unit {0}) Breach → List Check → Type 0
-AnswersChecks here answer checks = StandsFor (says here.site) answer checks
-
 -- where a rule continues, and the row that it leaves, are those that the rule table has for the instruction and the row before
 abbrev pub Follows : Site → Instruction → (old new : Row) → Result Onward Breach → Type 0
 Follows site instruction old new answer =
-    onward_model (says site) (onward_of answer) (row_model new)
+    onward_model (onward_of answer) (row_model new)
     ≡ instruction_outcome (model_of site.program.now) (method_model site.method.now) instruction (row_model old)
 
 -- the same for a rule that leaves the row as it was

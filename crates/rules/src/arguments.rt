@@ -3,13 +3,14 @@
 ghost use Rattle.std.specs.Prelude.{◌≡◌, ◌&&◌, [], ◌∷◌, IfSome};
 ghost use Rattle.rules.specs.Arguments.{all_arguments, argument_checks, after_claims, given_leaf, target_checks};
 ghost use Rattle.rules.specs.Endpoints.{declared_leaf, is_wrong};
-ghost use Rattle.rules.specs.Mentions.{is_lent, name_of};
-ghost use Rattle.rules.specs.Outcomes.{refuse_if};
+ghost use Rattle.rules.specs.Mentions.{is_lent};
+ghost use Rattle.rules.specs.Outcomes.{breach_at, refuse_if};
 ghost use Rattle.rules.specs.Repeats.{first_again};
-ghost use Rattle.rules.specs.Texts.{lent, wrong_for_call};
+ghost use Rattle.rules.specs.declared.breach.Reason.TheVariants as reasons;
 ghost use Rattle.rows.specs.Leaves.{IsNumbered};
 ghost use Rattle.rows.specs.Rows.{leaf_at, row_model};
-ghost use Rattle.rules.specs.Sites.{AnswersCheck, AnswersChecks, method_of, row_of};
+ghost use Rattle.rules.specs.Checks.{AnswersCheck, StandsFor};
+ghost use Rattle.rules.specs.Sites.{method_of, row_of};
 
 use crate::breach::{Breach, Reason};
 use crate::checks::{require_empty, require_none_again, require_not_lent, require_owned};
@@ -20,9 +21,9 @@ use rows::{Leaf, Row};
 
 /// Checks that an argument is not lent if it is claimed.
 fn require_claimable(here: &Here<'_>, argument: Argument) -> Result<(), Breach>
-    ensures { AnswersCheck here.now result (refuse_if
+    ensures { AnswersCheck result (refuse_if
         (argument.claimed && is_lent (method_of here.now) argument.mention.variable.0)
-        (lent (name_of (method_of here.now) argument.mention.variable.0) argument.mention.place)) }
+        (breach_at argument.mention.place (reasons.Lent argument.mention.variable))) }
 {
     if !argument.claimed {
         return Ok(());
@@ -32,9 +33,9 @@ fn require_claimable(here: &Here<'_>, argument: Argument) -> Result<(), Breach>
 
 /// Checks that what is given for a parameter of this type is in its state.
 fn require_state(here: &Here<'_>, ty: HeapType, mention: Mention) -> Result<(), Breach>
-    ensures { AnswersCheck here.now result (refuse_if
+    ensures { AnswersCheck result (refuse_if
         (is_wrong ty (leaf_at (row_of here.now) mention.variable.0))
-        (wrong_for_call (name_of (method_of here.now) mention.variable.0) mention.place)) }
+        (breach_at mention.place (reasons.WrongForCall mention.variable))) }
 {
     if !is_wrong(ty, here.row.leaf(mention.variable)) {
         return Ok(());
@@ -44,7 +45,7 @@ fn require_state(here: &Here<'_>, ty: HeapType, mention: Mention) -> Result<(), 
 
 /// Checks that an argument has something, is not lent if it is claimed, and is in the state that the parameter asks for.
 fn require_argument(here: &Here<'_>, ty: HeapType, argument: Argument) -> Result<(), Breach>
-    ensures { AnswersChecks here.now result
+    ensures { StandsFor result
         (argument_checks (method_of here.now) (row_of here.now) ty argument) }
 {
     require_owned(here, argument.mention)?;
@@ -60,7 +61,7 @@ pub(crate) fn require_arguments(
     arguments: &[Argument],
 ) -> Result<(), Breach>
     requires { again ≡ first_again [] arguments.now }
-    ensures { AnswersChecks here.now result
+    ensures { StandsFor result
         (all_arguments (method_of here.now) (row_of here.now) types.now arguments.now) }
 {
     require_none_again(here, again)?;
@@ -72,7 +73,7 @@ pub(crate) fn require_arguments(
 
 /// Checks that the variable that takes a block, if there is one, is not lent and has nothing.
 pub(crate) fn require_target(here: &Here<'_>, target: Option<Mention>) -> Result<(), Breach>
-    ensures { AnswersChecks here.now result
+    ensures { StandsFor result
         (target_checks (method_of here.now) (row_of here.now) target) }
 {
     let Some(target) = target else {

@@ -4,7 +4,8 @@ ghost use Rattle.std.specs.Prelude.{◌≡◌};
 ghost use Rattle.program.specs.Methods.{method_model};
 ghost use Rattle.rules.specs.Mentions as table;
 ghost use Rattle.rules.specs.Repeats.{require_none_again};
-ghost use Rattle.rules.specs.Sites.{AnswersCheck, method_of, row_of};
+ghost use Rattle.rules.specs.Checks.{AnswersCheck};
+ghost use Rattle.rules.specs.Sites.{method_of, row_of};
 
 use crate::breach::{Breach, Reason};
 use crate::here::Here;
@@ -42,8 +43,8 @@ pub(crate) fn lends(method: &Method, variable: VarId) -> bool
 
 /// Checks that the variable has something.
 pub(crate) fn require_owned(here: &Here<'_>, mention: Mention) -> Result<(), Breach>
-    ensures { AnswersCheck here.now result
-        (table.require_owned (method_of here.now) (row_of here.now) mention) }
+    ensures { AnswersCheck result
+        (table.require_owned (row_of here.now) mention) }
 {
     if here.row.owns(mention.variable) {
         return Ok(());
@@ -53,8 +54,8 @@ pub(crate) fn require_owned(here: &Here<'_>, mention: Mention) -> Result<(), Bre
 
 /// Checks that the variable has nothing.
 pub(crate) fn require_empty(here: &Here<'_>, mention: Mention) -> Result<(), Breach>
-    ensures { AnswersCheck here.now result
-        (table.require_empty (method_of here.now) (row_of here.now) mention) }
+    ensures { AnswersCheck result
+        (table.require_empty (row_of here.now) mention) }
 {
     if !here.row.owns(mention.variable) {
         return Ok(());
@@ -64,7 +65,7 @@ pub(crate) fn require_empty(here: &Here<'_>, mention: Mention) -> Result<(), Bre
 
 /// Checks that the variable is not lent.
 pub(crate) fn require_not_lent(here: &Here<'_>, mention: Mention) -> Result<(), Breach>
-    ensures { AnswersCheck here.now result (table.require_not_lent (method_of here.now) mention) }
+    ensures { AnswersCheck result (table.require_not_lent (method_of here.now) mention) }
 {
     if !lends(here.site.method, mention.variable) {
         return Ok(());
@@ -74,7 +75,7 @@ pub(crate) fn require_not_lent(here: &Here<'_>, mention: Mention) -> Result<(), 
 
 /// Checks that nothing is given twice. `again` is the first mention that gives something again, if one does.
 pub(crate) fn require_none_again(here: &Here<'_>, again: Option<Mention>) -> Result<(), Breach>
-    ensures { AnswersCheck here.now result (require_none_again (method_of here.now) again) }
+    ensures { AnswersCheck result (require_none_again again) }
 {
     match again {
         Some(again) => Err(Breach::at(again.place, Reason::Twice(again.variable))),
@@ -88,7 +89,7 @@ pub(crate) fn require_another(
     target: Mention,
     source: Mention,
 ) -> Result<(), Breach>
-    ensures { AnswersCheck here.now result (table.require_another (method_of here.now) target source) }
+    ensures { AnswersCheck result (table.require_another target source) }
 {
     if target.variable.0 != source.variable.0 {
         return Ok(());

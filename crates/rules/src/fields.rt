@@ -10,7 +10,8 @@ ghost use Rattle.rows.specs.Leaves.{IsNumbered};
 ghost use Rattle.rules.specs.Onwards.{KeepsRow, onward_of};
 ghost use Rattle.rows.specs.Rows.{row_model};
 ghost use Rattle.rows.specs.declared.row.Leaf.TheVariants.{Nothing};
-ghost use Rattle.rules.specs.Sites.{AnswersChecks, Follows, method_of, row_of};
+ghost use Rattle.rules.specs.Checks.{StandsFor};
+ghost use Rattle.rules.specs.Sites.{Follows, method_of, row_of};
 
 use crate::arguments::require_target;
 use crate::breach::Breach;
@@ -46,7 +47,7 @@ pub(crate) fn new(
 /// Checks that what is given for a field is not lent, has something, and is in the state that the field asks for. Passes if there is
 /// no such field.
 fn require_field(here: &Here<'_>, field: Option<HeapType>, given: Mention) -> Result<(), Breach>
-    ensures { AnswersChecks here.now result
+    ensures { StandsFor result
         (option_map_or
         (λ ty. field_checks (method_of here.now) (row_of here.now) ty (payload given)) field []) }
 {

@@ -4,18 +4,14 @@
 ghost use Rattle.std.specs.Prelude.{◌≡◌, ◌==◌, ◌||◌, map};
 ghost use Rattle.std.specs.List.{list_any};
 ghost use Rattle.program.specs.Lists.{is_among};
-ghost use Rattle.program.specs.Methods.{MethodModel};
-ghost use Rattle.program.specs.Programs.{ProgramModel};
-ghost use Rattle.source.specs.declared.place.Place.{Place};
 ghost use Rattle.rules.specs.Arguments.{all_taken, after_claims, payload, taken_checks};
-ghost use Rattle.rules.specs.Breaches.{breach_model};
 ghost use Rattle.rules.specs.Endpoints.{is_wrong};
-ghost use Rattle.rules.specs.Mentions.{name_of};
-ghost use Rattle.rules.specs.Outcomes.{refuse_if};
+ghost use Rattle.rules.specs.Outcomes.{breach_at, refuse_if};
 ghost use Rattle.rules.specs.Repeats.{first_again};
 ghost use Rattle.rows.specs.Rows.{leaf_at, row_model};
 ghost use Rattle.rules.specs.Takers.{besides, wrong_in};
-ghost use Rattle.rules.specs.Sites.{AnswersCheck, AnswersChecks, method_of, program_of, row_of};
+ghost use Rattle.rules.specs.Checks.{AnswersCheck, StandsFor};
+ghost use Rattle.rules.specs.Sites.{method_of, row_of};
 
 use crate::breach::{Breach, Reason};
 use crate::checks::{require_none_again, require_not_lent, require_owned};
@@ -49,9 +45,7 @@ impl Taker {
 
     /// Returns the reason of the breach if the variable is in a wrong state for this taker.
     fn wrong_state(self, variable: VarId) -> Reason
-        ensures { (p : ProgramModel) (m : MethodModel) (place : Place)
-            → breach_model p m (record { place = place; reason = result })
-            ≡ wrong_in p m self (name_of m variable.0) place }
+        ensures { result ≡ wrong_in self variable }
     {
         match self {
             Taker::Message { endpoint, message } => {
@@ -101,10 +95,9 @@ fn require_state(
     ty: HeapType,
     mention: Mention,
 ) -> Result<(), Breach>
-    ensures { AnswersCheck here.now result (refuse_if
+    ensures { AnswersCheck result (refuse_if
         (is_wrong ty (leaf_at (row_of here.now) mention.variable.0))
-        (wrong_in (program_of here.now) (method_of here.now) taker
-        (name_of (method_of here.now) mention.variable.0) mention.place)) }
+        (breach_at mention.place (wrong_in taker mention.variable))) }
 {
     if !is_wrong(ty, here.row.leaf(mention.variable)) {
         return Ok(());
@@ -120,9 +113,9 @@ pub(crate) fn require_payload(
     ty: HeapType,
     mention: Mention,
 ) -> Result<(), Breach>
-    ensures { AnswersChecks here.now result
+    ensures { StandsFor result
         (taken_checks (method_of here.now) (row_of here.now)
-        (wrong_in (program_of here.now) (method_of here.now) taker) ty (payload mention)) }
+        (wrong_in taker) ty (payload mention)) }
 {
     require_not_lent(here, mention)?;
     require_owned(here, mention)?;
@@ -136,9 +129,9 @@ pub(crate) fn require_payloads(
     types: &[HeapType],
     payloads: &[Mention],
 ) -> Result<(), Breach>
-    ensures { AnswersChecks here.now result
+    ensures { StandsFor result
         (all_taken (method_of here.now) (besides taker) (row_of here.now)
-        (wrong_in (program_of here.now) (method_of here.now) taker) types.now
+        (wrong_in taker) types.now
         (map payload payloads.now)) }
 {
     let again = first_again(taker, payloads);

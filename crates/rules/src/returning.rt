@@ -6,12 +6,13 @@ ghost use Rattle.flow.specs.Graphs as graphs;
 ghost use Rattle.program.specs.Methods.{method_model};
 ghost use Rattle.rules.specs.Endpoints as endpoints;
 ghost use Rattle.rules.specs.Mentions as mentions;
-ghost use Rattle.rules.specs.Outcomes.{refuse_if};
-ghost use Rattle.rules.specs.Texts.{wrong_for_result};
+ghost use Rattle.rules.specs.Outcomes.{breach_at, refuse_if};
+ghost use Rattle.rules.specs.declared.breach.Reason.TheVariants as reasons;
 ghost use Rattle.rows.specs.Rows.{leaf_at};
 ghost use Rattle.rules.specs.RuleTable as table;
 ghost use Rattle.rules.specs.RuleTable.{back_checks, value_checks};
-ghost use Rattle.rules.specs.Sites.{AnswersCheck, AnswersChecks, FollowsHere, method_of, program_of, row_of};
+ghost use Rattle.rules.specs.Checks.{AnswersCheck, StandsFor};
+ghost use Rattle.rules.specs.Sites.{FollowsHere, method_of, program_of, row_of};
 
 use crate::breach::{Breach, Reason};
 use crate::checks::{is_lent_role, require_not_lent, require_owned};
@@ -43,10 +44,10 @@ pub(crate) fn return_(here: &Here<'_>, returning: Returning) -> Result<Onward, B
 
 /// Checks that the returned value is in the state of the result.
 fn require_state(here: &Here<'_>, value: Mention) -> Result<(), Breach>
-    ensures { AnswersCheck here.now result (refuse_if
+    ensures { AnswersCheck result (refuse_if
         (option_map_or (λ ty. endpoints.is_wrong ty (leaf_at (row_of here.now) value.variable.0))
         (method_of here.now).result false)
-        (wrong_for_result (mentions.name_of (method_of here.now) value.variable.0) value.place)) }
+        (breach_at value.place (reasons.WrongForResult value.variable))) }
 {
     let Some(ty) = here.site.method.result else {
         return Ok(());
@@ -59,7 +60,7 @@ fn require_state(here: &Here<'_>, value: Mention) -> Result<(), Breach>
 
 /// Checks that the returned value, if it is of the exchange heap, is not lent, has something, and is in the state of the result.
 fn require_value(here: &Here<'_>, value: Option<Mention>) -> Result<(), Breach>
-    ensures { AnswersChecks here.now result
+    ensures { StandsFor result
         (value_checks (program_of here.now) (method_of here.now) (row_of here.now) value) }
 {
     let Some(value) = value else {
@@ -96,7 +97,7 @@ fn is_lent_elsewhere(method: &Method, variable: VarId, state: u32) -> bool
 
 /// Checks that each lent endpoint is cut off, or back in its state.
 fn require_back(here: &Here<'_>, place: Place) -> Result<(), Breach>
-    ensures { AnswersChecks here.now result
+    ensures { StandsFor result
         (back_checks (program_of here.now) (method_of here.now) (row_of here.now) place) }
 {
     for variable in 0..here.site.method.variables.len() {

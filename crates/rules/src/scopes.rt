@@ -4,11 +4,11 @@ ghost use Rattle.std.specs.Prelude.{◌≡◌, ◌<◌, ℕ, IfSome, None, false
 ghost use Rattle.program.specs.Methods.{method_model};
 ghost use Rattle.program.specs.Scopes.{outer_of};
 ghost use Rattle.rules.specs.Checks as checks;
-ghost use Rattle.rules.specs.Checks.{AllLeadTo, IsFirstKept, IsPlain, LeadsTo};
+ghost use Rattle.rules.specs.Checks.{AllLeadTo, IsFirstKept, IsPlain, LeadsTo, StandsFor};
 ghost use Rattle.rules.specs.Mentions as table;
 ghost use Rattle.rules.specs.Mentions.{given_back};
 ghost use Rattle.rules.specs.Scopes.{declared_between, is_this};
-ghost use Rattle.rules.specs.Sites.{AnswersChecks, method_of, row_of};
+ghost use Rattle.rules.specs.Sites.{method_of, row_of};
 
 use crate::breach::{Breach, Reason};
 use crate::checks::lends;
@@ -188,7 +188,7 @@ pub(crate) fn require_given_back(
     outer: Option<VarId>,
     last: Option<VarId>,
 ) -> Result<(), Breach>
-    ensures { AnswersChecks here.now result
+    ensures { StandsFor result
         (given_back (method_of here.now) (row_of here.now) place given
         (declared_between (method_of here.now) outer last)) }
 {

@@ -1,11 +1,9 @@
 //! Steps: from a point and a row to the outcome.
 
 ghost use Rattle.std.specs.Prelude.{◌≡◌, ◌<◌, ◌≤◌, ◌∷◌, [], All, IfOk, IfSome, IsSomeAnd, List, length, map, slice_get};
-ghost use Rattle.source.specs.Findings.{FindingModel};
 ghost use Rattle.flow.specs.Graphs.{instruction_model};
 ghost use Rattle.flow.specs.Lowering.{graph_of};
 ghost use Rattle.program.specs.declared.limits.TheConstants.{MOST_VARIABLES};
-ghost use Rattle.rules.specs.Breaches.{breach_in};
 ghost use Rattle.rules.specs.Endpoints.{declared_leaf};
 ghost use Rattle.rows.specs.Leaves.{IsNumbered};
 ghost use Rattle.rules.specs.Onwards.{KeepsRow, condition_at, onward_model};
@@ -13,8 +11,7 @@ ghost use Rattle.rules.specs.Outcomes.{Goes};
 ghost use Rattle.rules.specs.Programs.{model_of};
 ghost use Rattle.rows.specs.Rows.{row_model};
 ghost use Rattle.rules.specs.RuleTable.{ways};
-ghost use Rattle.rules.specs.Steps.{entry_leaf, entry_of, outcome, outcome_model, pair_model};
-ghost use Rattle.rules.specs.declared.breach.Breach.{Breach as BreachModel};
+ghost use Rattle.rules.specs.Steps.{entry_leaf, entry_of, outcome_model, pair_model, step_at};
 ghost use Rattle.rows.specs.declared.row.Leaf.{Leaf as LeafModel};
 
 use crate::endpoints::declared_leaf;
@@ -90,8 +87,7 @@ pub fn step(
     row: &Row,
 ) -> Result<Outcome, Memory>
     requires there { method.0 < length (model_of program.now).methods }
-    ensures { IfOk result (λ o. outcome_model (breach_in (model_of program.now) method.0) o
-        ≡ outcome (model_of program.now) method.0 (point, row_model row.now)) }
+    ensures { IfOk result (λ o. outcome_model o ≡ step_at (model_of program.now) method.0 (point, row_model row.now)) }
 {
     let mut after = row.copy(alloc)?;
     let mut spare = Spare::new(alloc);
@@ -112,8 +108,8 @@ pub fn step_in_place(
     spare: &mut Spare,
 ) -> Result<Onward, Memory>
     requires there { method.0 < length (model_of program.now).methods }
-    ensures outcome { IfOk result (λ o. onward_model (breach_in (model_of program.now) method.0) o (row_model row.new)
-        ≡ outcome (model_of program.now) method.0 (point, row_model row.old)) }
+    ensures outcome { IfOk result (λ o. onward_model o (row_model row.new)
+        ≡ step_at (model_of program.now) method.0 (point, row_model row.old)) }
     ensures kept { IfOk result (λ o. KeepsRow o (row_model row.old) (row_model row.new)) }
 {
     let site = Site {
@@ -132,7 +128,7 @@ pub fn step_in_place(
 pub fn condition(program: &Program, method: MethodId, point: usize) -> Option<Branches>
     requires there { method.0 < length (model_of program.now).methods }
     ensures goes { IfSome result (λ branches. (row : List LeafModel)
-        → outcome (model_of program.now) method.0 (point, row) ≡ Goes (ways branches row)) }
+        → step_at (model_of program.now) method.0 (point, row) ≡ Goes (ways branches row)) }
     ensures which { IsSomeAnd (slice_get (model_of program.now).methods method.0)
         (λ m. result ≡ condition_at (slice_get (graph_of m).instructions point)) }
 {
@@ -156,7 +152,7 @@ fn branches_of(instruction: &Instr) -> Option<Branches>
 
 /// Turns the outcome of a step in place into one with rows of its own.
 fn apart(alloc: Global, onward: Onward, row: Row) -> Result<Outcome, Memory>
-    ensures { IfOk result (λ o. (says : BreachModel → FindingModel) → outcome_model says o ≡ onward_model says onward (row_model row)) }
+    ensures { IfOk result (λ o. outcome_model o ≡ onward_model onward (row_model row)) }
 {
     match onward {
         Onward::Ends => Ok(Outcome::Next(Vec::new(alloc))),
@@ -169,7 +165,7 @@ fn apart(alloc: Global, onward: Onward, row: Row) -> Result<Outcome, Memory>
 
 /// Returns the outcome that the method continues at one point, with this row.
 fn goes(alloc: Global, point: usize, row: Row) -> Result<Outcome, Memory>
-    ensures { IfOk result (λ o. (says : BreachModel → FindingModel) → outcome_model says o ≡ Goes ((point, row_model row) ∷ [])) }
+    ensures { IfOk result (λ o. outcome_model o ≡ Goes ((point, row_model row) ∷ [])) }
 {
     let mut pairs = Vec::new(alloc);
     pairs.push((point, row))?;
@@ -178,8 +174,7 @@ fn goes(alloc: Global, point: usize, row: Row) -> Result<Outcome, Memory>
 
 /// Returns the outcome that the method continues at one of two points, with this row.
 fn goes_both(alloc: Global, first: usize, second: usize, row: Row) -> Result<Outcome, Memory>
-    ensures { IfOk result (λ o. (says : BreachModel → FindingModel)
-        → outcome_model says o ≡ Goes ((first, row_model row) ∷ (second, row_model row) ∷ [])) }
+    ensures { IfOk result (λ o. outcome_model o ≡ Goes ((first, row_model row) ∷ (second, row_model row) ∷ [])) }
 {
     let mut pairs = Vec::new(alloc);
     pairs.push((first, row.copy(alloc)?))?;

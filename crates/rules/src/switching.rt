@@ -13,7 +13,8 @@ ghost use Rattle.rows.specs.Rows.{row_model};
 ghost use Rattle.rules.specs.Steps.{pair_model};
 ghost use Rattle.rules.specs.Switches as table;
 ghost use Rattle.rules.specs.Switches.{bound_leaves};
-ghost use Rattle.rules.specs.Sites.{AnswersChecks, FollowsHere, method_of, program_of, row_of};
+ghost use Rattle.rules.specs.Checks.{StandsFor};
+ghost use Rattle.rules.specs.Sites.{FollowsHere, method_of, program_of, row_of};
 
 use crate::breach::{Breach, Reason};
 use crate::checks::require_owned;
@@ -47,7 +48,7 @@ pub(crate) fn switch(
 
 /// Checks that each endpoint has something, that they are not all to send, and that each message that may arrive has a case.
 fn require_cases(here: &Here<'_>, place: Place, cases: &Cases) -> Result<(), Breach>
-    ensures { AnswersChecks here.now result
+    ensures { StandsFor result
         (table.switch_checks (program_of here.now) (method_of here.now) (row_of here.now) place
         (cases_model cases.now)) }
 {
@@ -60,8 +61,8 @@ fn require_cases(here: &Here<'_>, place: Place, cases: &Cases) -> Result<(), Bre
 
 /// Checks that each endpoint has something.
 fn require_all_owned(here: &Here<'_>, endpoints: &[Mention]) -> Result<(), Breach>
-    ensures { AnswersChecks here.now result
-        (map (require_owned (method_of here.now) (row_of here.now)) endpoints.now) }
+    ensures { StandsFor result
+        (map (require_owned (row_of here.now)) endpoints.now) }
 {
     for endpoint in endpoints {
         require_owned(here, *endpoint)?;
@@ -108,7 +109,7 @@ fn awaited_edges<'a>(here: &Here<'a>, endpoint: Mention) -> &'a [Edge]
 
 /// Checks that each message that may arrive at an endpoint has a case.
 fn require_covered(here: &Here<'_>, cases: &Cases, endpoint: Mention) -> Result<(), Breach>
-    ensures { AnswersChecks here.now result
+    ensures { StandsFor result
         (table.cover_checks (program_of here.now) (method_of here.now) (row_of here.now)
         (cases_model cases.now)
         endpoint) }
@@ -126,7 +127,7 @@ fn require_covered(here: &Here<'_>, cases: &Cases, endpoint: Mention) -> Result<
 
 /// Checks that each message that may arrive at one of the endpoints has a case.
 fn require_all_covered(here: &Here<'_>, cases: &Cases) -> Result<(), Breach>
-    ensures { AnswersChecks here.now result
+    ensures { StandsFor result
         (flat_map (table.cover_checks (program_of here.now) (method_of here.now) (row_of here.now)
         (cases_model cases.now)) (first_mentions [] (cases_model cases.now))) }
 {

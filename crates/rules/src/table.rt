@@ -6,13 +6,11 @@ ghost use Rattle.program.specs.declared.statement.Action.TheVariants as does;
 ghost use Rattle.flow.specs.Graphs as graphs;
 ghost use Rattle.flow.specs.Graphs.{Act, instruction_model};
 ghost use Rattle.flow.specs.declared.graph.Instr.{Instr};
-ghost use Rattle.source.specs.Findings.{FindingModel};
 ghost use Rattle.rules.specs.Onwards.{KeepsRow, onward_model, onward_of};
-ghost use Rattle.rules.specs.Outcomes.{Goes, Fails};
+ghost use Rattle.rules.specs.Outcomes.{Goes, Fails, breach_at};
 ghost use Rattle.rules.specs.Repeats.{first_again, given_again, repeated_in};
 ghost use Rattle.rows.specs.Rows.{row_model};
 ghost use Rattle.rules.specs.RuleTable.{ways};
-ghost use Rattle.rules.specs.declared.breach.Breach.{Breach as BreachModel};
 ghost use Rattle.rules.specs.declared.breach.Reason.TheVariants as reasons;
 ghost use Rattle.rows.specs.declared.row.Leaf.{Leaf as LeafModel};
 ghost use Rattle.rules.specs.Sites.{Follows, FollowsHere};
@@ -192,8 +190,7 @@ fn start(site: &Site<'_>, row: &mut Row, starting: &Starting) -> Result<Onward, 
 
 /// Applies a condition. The row stays as it is on each way that the condition can go.
 fn branch(branches: Branches) -> Onward
-    ensures outcome { (says : BreachModel → FindingModel) (row : List LeafModel)
-        → onward_model says result row ≡ Goes (ways branches row) }
+    ensures outcome { (row : List LeafModel) → onward_model result row ≡ Goes (ways branches row) }
     ensures kept { (row : List LeafModel) → KeepsRow result row row }
 {
     match branches {
@@ -213,9 +210,7 @@ fn forget_(here: &Here<'_>, forget: Forget, next: usize) -> Result<Onward, Breac
 
 /// Reports the end of a method that should have returned something.
 fn stop(place: Place) -> Onward
-    ensures { (says : BreachModel → FindingModel) (row : List LeafModel)
-        → onward_model says result row ≡ Fails
-        (says (record { place = place; reason = reasons.NoResult })) }
+    ensures { (row : List LeafModel) → onward_model result row ≡ Fails (breach_at place reasons.NoResult) }
 {
     Onward::Found(Breach::at(place, Reason::NoResult))
 }

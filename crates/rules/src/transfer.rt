@@ -7,7 +7,7 @@ ghost use Rattle.program.specs.Methods.{method_model};
 ghost use Rattle.rules.specs.Outcomes.{Goes};
 ghost use Rattle.rules.specs.Programs.{model_of};
 ghost use Rattle.rows.specs.Rows.{row_model};
-ghost use Rattle.rules.specs.Steps.{outcome};
+ghost use Rattle.rules.specs.Steps.{step_at};
 ghost use Rattle.rules.specs.Transfers as table;
 ghost use Rattle.rules.specs.Transfers.{allows, row_after_transfer};
 ghost use Rattle.rows.specs.declared.row.Leaf.{Leaf as LeafModel};
@@ -127,7 +127,7 @@ fn transfer_for(method: &Method, instruction: &Instr) -> Option<(Transfer, usize
 pub fn transfer_at(program: &Program, method: MethodId, point: usize) -> Option<(Transfer, usize)>
     requires there { method.0 < length (model_of program.now).methods }
     ensures goes { IfSome result (λ t. (row : List LeafModel) → allows t.0 row ≡ true
-        → outcome (model_of program.now) method.0 (point, row) ≡ Goes ((t.1, row_after_transfer t.0 row) ∷ [])) }
+        → step_at (model_of program.now) method.0 (point, row) ≡ Goes ((t.1, row_after_transfer t.0 row) ∷ [])) }
     ensures which { IsSomeAnd (slice_get (model_of program.now).methods method.0)
         (λ m. result ≡ table.transfer_at m (slice_get (graph_of m).instructions point)) }
 {

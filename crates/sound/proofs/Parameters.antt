@@ -3,17 +3,17 @@ use Rattle.std.proofs.Common.{◌≡◌, [], ap}
 use Rattle.std.specs.Prelude.{ℕ, List, None, Option, Some, flat_map, map, slice_get, zip}
 use Rattle.std.specs.Option.{option_map_or}
 use Rattle.std.specs.List.{filter}
-use Rattle.source.specs.Findings.{FindingModel}
-use Rattle.source.specs.declared.place.Place.{Place}
 use Rattle.program.specs.Methods.{MethodModel, VariableModel}
 use Rattle.program.specs.Programs.{ProgramModel}
 use Rattle.program.specs.WellFormed.{field_types, is_parameter}
 use Rattle.program.specs.declared.call.Argument.{Argument}
+use Rattle.program.specs.declared.number.VarId.{VarId}
 use Rattle.program.specs.declared.types.HeapType.{HeapType}
 use Rattle.program.specs.declared.statement.Mention.{Mention}
 use Rattle.rules.specs.Arguments.{argument_checks, payload, taken_checks}
 use Rattle.rules.specs.Endpoints.{field_of, fields_of, type_of}
 use Rattle.rules.specs.Outcomes.{Check}
+use Rattle.rules.specs.declared.breach.Reason.{Reason}
 use Rattle.rows.specs.declared.row.Leaf.{Leaf}
 
 -- the parameters among variables
@@ -30,7 +30,7 @@ module _ (m : MethodModel) where
   each_argument row types arguments = flat_map (λ x. argument_checks m row x.0 x.1) (zip types arguments)
 
   -- the same for what goes into a message or the fields of a new block
-  abbrev pub each_taken : List Leaf → (List ℕ → Place → FindingModel) → List HeapType → List Mention → List Check
+  abbrev pub each_taken : List Leaf → (VarId → Reason) → List HeapType → List Mention → List Check
   each_taken row wrong types given = flat_map (λ x. taken_checks m row wrong x.0 x.1) (zip types (map payload given))
 
   -- the type of a variable that exists

@@ -27,16 +27,18 @@ use Rattle.flow.specs.Lowering.{graph_of}
 use Rattle.flow.specs.declared.graph.Branches.TheVariants.{Either, Only}
 use Rattle.rules.specs.Arguments.{all_arguments, all_fields, all_payloads, after_claims, field_checks, given_leaf, lacks_edge, payload}
 use Rattle.rules.specs.Arguments.{sent_leaf, target_checks}
-use Rattle.rules.specs.Endpoints.{payload_types, declared_leaf, fields_of, result_of, first_state, message_name, parameter_types, type_of}
+use Rattle.rules.specs.Endpoints.{payload_types, declared_leaf, fields_of, result_of, first_state, parameter_types, type_of}
 use Rattle.rows.specs.Leaves.{is_something}
 use Rattle.rules.specs.Mentions.{is_lent, is_kept, require_owned, given_back, require_not_lent, require_empty, require_another}
-use Rattle.rules.specs.Outcomes.{Goes, Pair, refuse_if}
+use Rattle.rules.specs.Outcomes.{Goes, Pair, breach_at, refuse_if}
+use Rattle.rules.proofs.StepLemmas.{said_goes}
 use Rattle.rows.specs.Rows.{leaf_at, leaf_or_nothing, is_owned}
 use Rattle.rules.specs.RuleTable.{after_exchange, instruction_outcome, value_checks, back_checks}
 use Rattle.rules.specs.Scopes.{declared_between}
-use Rattle.rules.specs.Steps.{outcome, entry_of, method_entry, method_outcome, point_outcome, entry_leaf}
+use Rattle.rules.specs.Steps.{outcome, step_at, entry_of, method_entry, method_outcome, point_outcome, entry_leaf}
 use Rattle.rules.specs.Switches.{bound_leaves, pair_at, receive_pairs, close_pairs, awaited_edges, comes_at, switch_checks, switch_pairs}
-use Rattle.rules.specs.Texts.{not_sent}
+use Rattle.rules.specs.Breaches.{breach_in}
+use Rattle.rules.specs.declared.breach.Reason.TheVariants.{NotSent}
 use Rattle.rows.specs.declared.row.Leaf.TheVariants as leaf
 use Rattle.rows.specs.declared.row.Leaf.{Leaf}
 use Rattle.analyse.specs.Reach.{StepsTo, IsPath, Reached}
@@ -67,11 +69,11 @@ case_is P (x ∷ cases) v n c h e = by (x.endpoint.variable.0 == v) (awaits x.aw
     by true false i j k more = more k
     by false b i j k more = more k
 
-pub passed_owned : (m : MethodModel) (row : List Leaf) (es : List Mention) → Passed (map (require_owned m row) es)
+pub passed_owned : (row : List Leaf) (es : List Mention) → Passed (map (require_owned row) es)
     → Each (λ e. is_owned row e.variable.0 ≡ true) es
-passed_owned m row [] h = tt
-passed_owned m row (e ∷ es) h =
-    (not_false (is_owned row e.variable.0) (not_refused (not (is_owned row e.variable.0)) _ h.0), passed_owned m row es h.1)
+passed_owned row [] h = tt
+passed_owned row (e ∷ es) h =
+    (not_false (is_owned row e.variable.0) (not_refused (not (is_owned row e.variable.0)) _ h.0), passed_owned row es h.1)
 
 back_none : (m : MethodModel) (row : List Leaf) (place : Place) (gone : List ℕ) (v : ℕ) → Each (λ v. is_lent m v ≡ false) gone
     → Passed (given_back m row place None gone) → is_among gone v ≡ true → leaf_at row v ≡ leaf.Nothing
@@ -169,7 +171,7 @@ module _ (p : ProgramModel) (m : MethodModel) (scope : (point variable : ℕ) �
   step_in : (from : ℕ) (row : List Leaf) (i : Instruction) (all : List Pair) → IsFit p m scope from i → NoneOut (from, row)
       → instruction_outcome p m i row ≡ Goes all → Each NoneOut all
   step_in from row (Act (Use v) next) all fit h e = let k =
-      checked_passed (require_owned m row v ∷ []) ((next, row) ∷ []) all e in subst (λ ps. Each NoneOut ps) k.1
+      checked_passed (require_owned row v ∷ []) ((next, row) ∷ []) all e in subst (λ ps. Each NoneOut ps) k.1
       (keeps_all from next row fit h, tt)
   step_in from row (New v arguments next) all fit h e =
       let given = map payload arguments in
@@ -184,12 +186,12 @@ module _ (p : ProgramModel) (m : MethodModel) (scope : (point variable : ℕ) �
       let ty = field_known m p x.holder.variable.0 x.field fit.holder fit.holder_there ∙ fit.field_there in
       let l = declared_leaf fit.ty in
       let k = checked_passed
-      (require_another m x.holder x.given ∷ require_owned m row x.holder ∷ field_checks m row fit.ty (payload x.given))
+      (require_another x.holder x.given ∷ require_owned row x.holder ∷ field_checks m row fit.ty (payload x.given))
       ((next, set row x.given.variable.0 l) ∷ []) all (sym (ap (λ (o : Option HeapType). after_exchange p m row x next o) ty) ∙ e) in
       subst (λ ps. Each NoneOut ps) k.1
       (set_in next row x.given.variable.0 l fit.in_scope (keeps_all from next row fit.keeps h), tt)
   step_in from row (Act (Move v u) next) all fit h e =
-      let k = checked_passed (require_another m v u ∷ require_not_lent m u ∷ require_owned m row u ∷ require_not_lent m v ∷ require_empty m row v ∷ [])
+      let k = checked_passed (require_another v u ∷ require_not_lent m u ∷ require_owned row u ∷ require_not_lent m v ∷ require_empty row v ∷ [])
       ((next, set (set row v.variable.0 (leaf_at row u.variable.0)) u.variable.0 leaf.Nothing) ∷ []) all e in
       subst (λ ps. Each NoneOut ps) k.1 (
         set_nothing next (set row v.variable.0 (leaf_at row u.variable.0)) u.variable.0
@@ -197,11 +199,11 @@ module _ (p : ProgramModel) (m : MethodModel) (scope : (point variable : ℕ) �
         tt,
       )
   step_in from row (Act (Delete v) next) all fit h e = let k =
-      checked_passed (require_not_lent m v ∷ require_owned m row v ∷ [])
+      checked_passed (require_not_lent m v ∷ require_owned row v ∷ [])
       ((next, set row v.variable.0 leaf.Nothing) ∷ []) all e in subst (λ ps. Each NoneOut ps) k.1
       (set_nothing next row v.variable.0 (keeps_all from next row fit h), tt)
   step_in from row (Act (NewChannel c) next) all fit h e =
-      let k = checked_passed (require_not_lent m c.first ∷ require_empty m row c.first ∷ require_not_lent m c.second ∷ require_empty m row c.second
+      let k = checked_passed (require_not_lent m c.first ∷ require_empty row c.first ∷ require_not_lent m c.second ∷ require_empty row c.second
       ∷ []) ((
         next,
         set (set row c.first.variable.0 (leaf.State (first_state p c.contract.0))) c.second.variable.0
@@ -216,12 +218,11 @@ module _ (p : ProgramModel) (m : MethodModel) (scope : (point variable : ℕ) �
   step_in from row (Send place e message payloads next) all fit h eq =
       let ty = type_of m e.variable.0 in
       let l = leaf_at row e.variable.0 in
-      let name = message_name p ty message.0 in
       let k =
       checked_passed
-      (require_owned m row e
-      ∷ (all_payloads m row e name (payload_types p message.0) (map payload payloads)
-      ++ refuse_if (lacks_edge p ty message.0 l) (not_sent name place) ∷ []))
+      (require_owned row e
+      ∷ (all_payloads m row e.variable message (payload_types p message.0) (map payload payloads)
+      ++ refuse_if (lacks_edge p ty message.0 l) (breach_at place (NotSent e.variable message)) ∷ []))
       ((next, set (after_claims row (map payload payloads)) e.variable.0 (sent_leaf p ty message.0 l)) ∷ []) all eq
       in
       let owned = not_false (is_owned row e.variable.0) (not_refused (not (is_owned row e.variable.0)) _ k.0.0) in
@@ -233,7 +234,7 @@ module _ (p : ProgramModel) (m : MethodModel) (scope : (point variable : ℕ) �
       )
   step_in from row (Switch place cases) all fit h e =
       let k = checked_passed (switch_checks p m row place cases) (switch_pairs p m row cases) all e in
-      let owned = passed_owned m row (first_mentions [] cases) (passed_left (map (require_owned m row) (first_mentions [] cases)) _ k.0) in
+      let owned = passed_owned row (first_mentions [] cases) (passed_left (map (require_owned row) (first_mentions [] cases)) _ k.0) in
       subst (λ ps. Each NoneOut ps) k.1
       (each_flat NoneOut (comes_at p m row cases) (first_mentions [] cases)
       (each_map (λ x. is_owned row x.variable.0 ≡ true) (λ x. Each NoneOut (comes_at p m row cases x)) (first_mentions [] cases)
@@ -276,10 +277,10 @@ module _ (p : ProgramModel) (n : ℕ) (m : MethodModel) (g : IsGraphFit p m) (th
   point_in x (Some i) all at h e = step_in p m g.scope x.0 x.1 i all (g.fits x.0 i at) h e
 
   leads_in : (x y : Pair) → NoneOut p m g.scope x → StepsTo (outcome p n) x y → NoneOut p m g.scope y
-  unfolding outcome
+  unfolding step_at
   leads_in x y h l =
       let e : point_outcome p m x.1 (slice_get (graph_of m).instructions x.0) ≡ Goes l.all =
-      sym (ap (λ (o : Option MethodModel). method_outcome p o x) there) ∙ l.goes in
+      sym (ap (λ (o : Option MethodModel). method_outcome p o x) there) ∙ said_goes (breach_in p n) (step_at p n x) l.all l.goes in
       each_contains (NoneOut p m g.scope) l.all y (point_in x (slice_get (graph_of m).instructions x.0) l.all refl h e) l.has
 
   path_in : (steps : List Pair) (x y : Pair) → NoneOut p m g.scope x → IsPath (outcome p n) x steps y → NoneOut p m g.scope y

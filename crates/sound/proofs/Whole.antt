@@ -9,6 +9,8 @@ use Rattle.flow.specs.Graphs.{Instruction, Act, New, Send, Switch, Branch, Forge
 use Rattle.flow.specs.Graphs.{Return, Stop}
 use Rattle.flow.specs.Lowering.{graph_of}
 use Rattle.contracts.specs.TwoEnds.{HeldAlways, NeverLonger}
+use Rattle.rules.specs.Breaches.{breach_in}
+use Rattle.rules.specs.Outcomes.{said_by}
 use Rattle.rules.specs.Steps.{outcome, entry_of}
 use Rattle.analyse.specs.Verdicts.{IsMethodVerdict}
 use Rattle.machine.specs.Frames.{method_at, instruction_at, point_instruction, choices}
@@ -46,7 +48,7 @@ use Rattle.sound.proofs.events.Sending.{good_send}
 use Rattle.sound.proofs.events.Starting.{good_start}
 use Rattle.sound.proofs.events.Switching.{good_switch}
 use Rattle.sound.proofs.Reaching.{reached_none}
-use Rattle.sound.proofs.Here.{IsGood, Here, outcome_at}
+use Rattle.sound.proofs.Here.{IsGood, Here, step_is}
 use Rattle.machine.specs.Instructions.{outcome_from}
 use Rattle.machine.proofs.ChangeLemmas.{true≢false}
 
@@ -69,7 +71,8 @@ here : (p : ProgramModel) (w : World) (self : ℕ) (f : Frame) (rest : List Fram
     → RestFits p w.blocks f rest → instruction_at p f ≡ Some i → Here p w self f rest t.m i
 here p w self f rest i graphs none h is t below at =
     let point : slice_get (graph_of t.m).instructions f.point ≡ Some i = sym (ap (λ x. point_instruction x f.point) t.there) ∙ at in
-    let same = outcome_at p f t.m i t.row t.there point in
+    let says = breach_in p f.method in
+    let same = step_is p f t.m i t.row t.there point in
     let graph = graphs.each f.method t.m t.there in
     record {
       holds = h;
@@ -82,8 +85,9 @@ here p w self f rest i graphs none h is t below at =
       below = below;
       graph = graph;
       none = λ v out. reached_none p f.method t.m graph t.there (f.point, t.row) t.reached v out;
-      passes = λ finding e. none finding (record { at = (f.point, t.row); reached = t.reached; fails = same ∙ e });
-      onward = λ all y e has. reached_more (outcome p f.method) (entry_of p f.method) (f.point, t.row) y all t.reached (same ∙ e) has;
+      passes = λ breach e. none (says breach) (record { at = (f.point, t.row); reached = t.reached; fails = ap (said_by says) (same ∙ e) });
+      onward = λ all y e has. reached_more (outcome p f.method) (entry_of p f.method) (f.point, t.row) y all t.reached
+          (ap (said_by says) (same ∙ e)) has;
     }
 
 good_instruction : HeldAlways → NeverLonger → (p : ProgramModel) (bound : QueueBounds) → IsSoundProgram p bound → AreGraphsFit p

@@ -7,9 +7,8 @@ use Rattle.source.specs.declared.place.Place.{Place}
 use Rattle.program.specs.Methods.{MethodModel}
 use Rattle.program.specs.Programs.{ProgramModel}
 use Rattle.flow.specs.Lowering.{graph_of}
-use Rattle.rules.specs.Breaches.{breach_in}
-use Rattle.rules.specs.Outcomes.{Pair}
-use Rattle.rules.specs.Steps.{entry_of, outcome}
+use Rattle.rules.specs.Outcomes.{Fails, Pair}
+use Rattle.rules.specs.Steps.{entry_of, outcome, step_at}
 use Rattle.rules.specs.declared.breach.Breach.{Breach}
 use Rattle.analyse.specs.Traces.{IsTrace}
 use Rattle.analyse.specs.Verdicts.{HasTooMany, place_of_method, too_many_pairs}
@@ -36,12 +35,12 @@ trace_lines p m breach first steps at =
     let about = variables_of_reason breach.reason (slice_get (graph_of m).instructions at.0) in
     start_lines p m about first.1 ++ path_lines p m about (first ∷ steps)
 
--- a shortest path leads to a step that fails with the finding, and the lines are those of the path
+-- A shortest path leads to a step that fails with the finding, and the lines are those of the path. They are about the breach of that step.
 pub record HasTrace (p : ProgramModel) (method : ℕ) (e : ExplainedModel) : Type 0 where
-  pub breach : Breach
-  pub says : breach_in p method breach ≡ e.finding
   pub steps : List Pair
   pub trace : IsTrace (outcome p method) (entry_of p method) e.finding steps
+  pub breach : Breach
+  pub fails : step_at p method trace.at ≡ Fails breach
   pub told : IsSomeAnd (slice_get p.methods method) (λ m. e.lines ≡ trace_lines p m breach (entry_of p method) steps trace.at)
 
 -- Too many reached pairs have no path: the line at the method's name has the number that may be reached.

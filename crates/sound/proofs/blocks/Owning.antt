@@ -13,6 +13,8 @@ use Rattle.program.specs.declared.method.Role.{Role}
 use Rattle.flow.specs.Graphs.{Instruction, Call}
 use Rattle.flow.specs.Lowering.{graph_of}
 use Rattle.rules.specs.Arguments.{after_claims, given_before, all_arguments, target_checks, given_leaf}
+use Rattle.rules.specs.Breaches.{breach_in}
+use Rattle.rules.specs.Outcomes.{said_by}
 use Rattle.rules.specs.Endpoints.{parameter_types, result_of}
 use Rattle.rules.specs.Mentions.{is_lent_role}
 use Rattle.rows.specs.Rows.{leaf_at}
@@ -30,7 +32,7 @@ use Rattle.sound.proofs.Invariant.{with_first, WaitsFor, StackFits, kept_back, c
 use Rattle.sound.proofs.Kept.{some_same}
 use Rattle.sound.proofs.Lists.{each_map}
 use Rattle.sound.proofs.events.GivenBack.{away, each_number}
-use Rattle.sound.proofs.Here.{outcome_at}
+use Rattle.sound.proofs.Here.{step_is}
 use Rattle.machine.proofs.HeldExchange.{one_if_true}
 
 -- A process owns what its variables have, and what it owns is in one variable, lent copies not counted.
@@ -158,14 +160,15 @@ waits_apart p bs g above w clean =
     let i = Call w.place record { 0 = above.method } w.arguments w.target w.next in
     let at : slice_get (graph_of w.m).instructions g.point ≡ Some i =
     sym (ap (λ (x : Option MethodModel). point_instruction x g.point) w.there) ∙ w.call in
-    let same = outcome_at p g w.m i w.before w.there at in
+    let same = step_is p g w.m i w.before w.there at in
     let types = parameter_types p above.method in
     let left = after_claims w.before w.arguments in
     let all = all_arguments w.m w.before types w.arguments in
     let after = (w.next, given_leaf left (result_of p above.method) w.target) ∷ [] in
     let passed = all_pass (all ++ target_checks w.m left w.target) after
-    (λ finding e. clean finding (record { at = (g.point, w.before); reached = w.reached; fails = same ∙ e })) in
-    pair_apart p w.m [] w.arguments (passed_left (given_before w.m [] w.arguments) (each_argument w.m w.before types w.arguments)
+    (λ breach e. clean (breach_in p g.method breach)
+    (record { at = (g.point, w.before); reached = w.reached; fails = ap (said_by (breach_in p g.method)) (same ∙ e) })) in
+    pair_apart [] w.arguments (passed_left (given_before [] w.arguments) (each_argument w.m w.before types w.arguments)
     (passed_left all (target_checks w.m left w.target) passed))
 
 variables_are : (p : ProgramModel) (n : ℕ) (m : MethodModel) → method_at p n ≡ Some m → variables_of p n ≡ m.variables

@@ -197,12 +197,12 @@ good_call p bound w self choice f rest m place method arguments target next h fi
     let after = (next, given_leaf (after_claims h.row arguments) (result_of p method.0) target) ∷ [] in
     let passed = passed_left (all_arguments m h.row types arguments) (target_checks m (after_claims h.row arguments) target)
     (all_pass checks after h.passes) in
-    let before = passed_left (given_before m [] arguments) (each_argument m h.row types arguments) passed in
+    let before = passed_left (given_before [] arguments) (each_argument m h.row types arguments) passed in
     let each : Passed (each_argument m h.row (types_among x.variables) arguments) =
     subst (λ (ks : List HeapType). Passed (each_argument m h.row ks arguments))
     (ap (λ (o : Option MethodModel). option_map_or (λ y. types_among y.variables) o []) g.there)
-    (passed_right (given_before m [] arguments) (each_argument m h.row types arguments) passed) in
-    let apart = pair_apart p m [] arguments before in
+    (passed_right (given_before [] arguments) (each_argument m h.row types arguments) passed) in
+    let apart = pair_apart [] arguments before in
     let args = args_fit p m w.blocks vs h.row (parameters_of x.variables) arguments h.fits g.arguments_fit each in
     let none = go_none vs arguments in
     let same = each_map (λ a. a.claimed ≡ false → NotClaimed arguments (number a))

@@ -225,7 +225,7 @@ pub good_delete : (p : ProgramModel) (bound : QueueBounds) (w : World) (self cho
 good_delete p bound w self choice f rest m v next h =
     let row' = set h.row v.variable.0 leaf.Nothing in
     let vs' = set f.variables v.variable.0 None in
-    let checks = require_not_lent m v ∷ require_owned m h.row v ∷ [] in
+    let checks = require_not_lent m v ∷ require_owned h.row v ∷ [] in
     let passed = all_pass checks ((next, row') ∷ []) h.passes in
     let own = not_refused (is_lent m v.variable.0) _ passed.0 in
     let owned = not_false (is_owned h.row v.variable.0) (not_refused (not (is_owned h.row v.variable.0)) _ passed.1.0) in

@@ -73,7 +73,7 @@ good_exchange p bound w self choice f rest m e next h fit =
     let k = g.ty in
     let type_is : field_of p m hv e.field ≡ Some k = field_known m p hv e.field g.holder g.holder_there ∙ g.field_there in
     let row' = set h.row xv (declared_leaf k) in
-    let checks = require_another m e.holder e.given ∷ require_owned m h.row e.holder ∷ field_checks m h.row k (payload e.given) in
+    let checks = require_another e.holder e.given ∷ require_owned h.row e.holder ∷ field_checks m h.row k (payload e.given) in
     let passed = all_pass checks ((next, row') ∷ []) (λ finding q. h.passes finding
     (ap (λ (o : Option HeapType). after_exchange p m h.row e next o) type_is ∙ q)) in
     let other = not_refused (hv == xv) _ passed.0 in

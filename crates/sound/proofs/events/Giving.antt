@@ -3,7 +3,8 @@ use Rattle.std.proofs.Common.{◌≡◌, ◌≢◌, ◌==◌, ℕ, ◌+◌, ◌<
 use Rattle.std.proofs.Common.{◌∙◌, subst, arith, ⊎_elim}
 use Rattle.std.proofs.lemmas.Bool.{cases_Bool, eqb-true}
 use Rattle.std.specs.Prelude.{Option, ◌||◌, if◌then◌else◌}
-use Rattle.source.specs.Findings.{FindingModel}
+use Rattle.program.specs.declared.number.VarId.{VarId}
+use Rattle.rules.specs.declared.breach.Reason.{Reason}
 use Rattle.source.specs.declared.place.Place.{Place}
 use Rattle.program.specs.Lists.{Each, is_among}
 use Rattle.program.specs.Methods.{MethodModel, VariableModel}
@@ -87,7 +88,7 @@ given_leaves a bs vs row types arguments fit apart claims once =
     (omega arith, four)
 
 -- what goes into a message or the fields of a block fits, as arguments do
-pub taken_fit : (m : MethodModel) (bs : List Block) (vs : List (Option ℕ)) (row : List Leaf) (wrong : List ℕ → Place → FindingModel)
+pub taken_fit : (m : MethodModel) (bs : List Block) (vs : List (Option ℕ)) (row : List Leaf) (wrong : VarId → Reason)
     (types : List HeapType) (given : List Mention) → RowFits bs m.variables vs row
     → AreOfTypes m.variables types (map (λ x. x.variable.0) given) → Passed (each_taken m row wrong types given)
     → ArgsFit bs vs row types (payloads_claimed given)
@@ -102,7 +103,7 @@ taken_fit m bs vs row wrong (k ∷ types) (x ∷ given) fits are h = (
 )
 
 -- nothing of it is lent
-pub taken_own : (m : MethodModel) (row : List Leaf) (wrong : List ℕ → Place → FindingModel) (variables : List VariableModel)
+pub taken_own : (m : MethodModel) (row : List Leaf) (wrong : VarId → Reason) (variables : List VariableModel)
     (types : List HeapType) (given : List Mention) → AreOfTypes variables types (map (λ x. x.variable.0) given)
     → Passed (each_taken m row wrong types given)
     → Each (λ a. a.claimed ≡ true → is_lent m (number a) ≡ false) (payloads_claimed given)

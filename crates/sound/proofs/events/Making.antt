@@ -12,7 +12,7 @@ use Rattle.rules.specs.Arguments.{after_claims, given_before, target_checks}
 use Rattle.rules.specs.Endpoints.{fields_of}
 use Rattle.rules.specs.Mentions.{is_lent}
 use Rattle.rows.specs.Rows.{leaf_at, is_owned}
-use Rattle.rules.specs.Texts.{wrong_for_field}
+use Rattle.rules.specs.declared.breach.Reason.TheVariants.{WrongForField}
 use Rattle.rows.specs.declared.row.Leaf.TheVariants as leaf
 use Rattle.machine.specs.Frames.{addresses, type_at, payloads_claimed, variables_of}
 use Rattle.machine.specs.Outcomes.{QueueBounds}
@@ -48,18 +48,18 @@ good_new p bound w self choice f rest m target arguments next h fit =
     let row' = set row1 v leaf.Block in
     let g = fit h.graph in
     let types = field_types p.structs g.variable.ty in
-    let given_checks = given_before m [] args in
-    let field_checks = each_taken m h.row wrong_for_field (fields_of p m v) arguments in
+    let given_checks = given_before [] args in
+    let field_checks = each_taken m h.row WrongForField (fields_of p m v) arguments in
     let checks = (given_checks ++ field_checks) ++ target_checks m row1 (Some target) in
     let passed = all_pass checks ((next, row') ∷ []) h.passes in
     let before = passed_left (given_checks ++ field_checks) (target_checks m row1 (Some target)) passed in
     let behind = passed_right (given_checks ++ field_checks) (target_checks m row1 (Some target)) passed in
-    let each : Passed (each_taken m h.row wrong_for_field types arguments) =
-    subst (λ (ks : List HeapType). Passed (each_taken m h.row wrong_for_field ks arguments)) (fields_known m p v g.variable g.there)
+    let each : Passed (each_taken m h.row WrongForField types arguments) =
+    subst (λ (ks : List HeapType). Passed (each_taken m h.row WrongForField ks arguments)) (fields_known m p v g.variable g.there)
     (passed_right given_checks field_checks before) in
-    let apart = pair_apart p m [] args (passed_left given_checks field_checks before) in
+    let apart = pair_apart [] args (passed_left given_checks field_checks before) in
     let own_v = not_refused (is_lent m v) _ behind.0 in
-    let fits = taken_fit m w.blocks vs h.row wrong_for_field types arguments h.fits g.types each in
+    let fits = taken_fit m w.blocks vs h.row WrongForField types arguments h.fits g.types each in
     let base = go_fits w.blocks m.variables vs h.row args h.fits in
     let none = nothing_none w.blocks m.variables us row1 v base
     (something_is (leaf_at row1 v) (not_refused (is_owned row1 v) _ behind.1.0)) in
@@ -96,7 +96,7 @@ good_new p bound w self choice f rest m target arguments next h fit =
     (arguments_hold p bound w self f rest h.row types [] args all own apart (none_taken vs args) fits) (
       goes_on p w self f rest m next vs' row' bs' h.holds h.is h.there h.below reached fits' (record {
         lent = lent_stays_on m.variables vs us vs'
-            (go_stays p m vs args (taken_own m h.row wrong_for_field m.variables types arguments g.types each))
+            (go_stays p m vs args (taken_own m h.row WrongForField m.variables types arguments g.types each))
             (lent_stays_set m.variables us v (Some n) own_v);
         cut = cut';
         kept = made.kept_now p w self hb given k mine once plain (λ j. standing j vs ≡ 0);

@@ -138,7 +138,7 @@ module _ (p : ProgramModel) (bound : QueueBounds) (w : World) (self choice : ℕ
   row' = set (set h.row v1 (leaf.State start)) v2 (leaf.State start)
 
   abbrev checks : List Check
-  checks = require_not_lent m c.first ∷ require_empty m h.row c.first ∷ require_not_lent m c.second ∷ require_empty m h.row c.second ∷ []
+  checks = require_not_lent m c.first ∷ require_empty h.row c.first ∷ require_not_lent m c.second ∷ require_empty h.row c.second ∷ []
 
   passed : Passed checks
   passed = all_pass checks ((next, row') ∷ []) h.passes

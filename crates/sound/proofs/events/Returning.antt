@@ -19,13 +19,14 @@ use Rattle.flow.specs.Lowering.{graph_of}
 use Rattle.rules.specs.Arguments.{after_claims, given_before, all_arguments, target_checks, given_leaf}
 use Rattle.rules.specs.Endpoints.{declared_leaf, is_wrong, parameter_types, result_of, type_of}
 use Rattle.sound.proofs.Parameters.{type_known, parameters_of, each_argument}
-use Rattle.rules.specs.Mentions.{is_lent, is_lent_role, name_of, given_back, is_kept, is_named}
-use Rattle.rules.specs.Outcomes.{Pair, Check, refuse_if}
+use Rattle.rules.specs.Mentions.{is_lent, is_lent_role, given_back, is_kept, is_named}
+use Rattle.rules.specs.Outcomes.{Pair, Check, breach_at, refuse_if, said_by}
 use Rattle.rows.specs.Rows.{leaf_at, is_owned}
 use Rattle.rules.specs.RuleTable.{instruction_outcome, back_checks, is_not_back, value_checks}
 use Rattle.rules.specs.Scopes.{declared_between}
-use Rattle.rules.specs.Steps.{outcome, entry_of}
-use Rattle.rules.specs.Texts.{still_owned, not_back}
+use Rattle.rules.specs.Steps.{outcome, entry_of, step_at}
+use Rattle.rules.specs.Breaches.{breach_in}
+use Rattle.rules.specs.declared.breach.Reason.TheVariants.{NotBack, StillOwned}
 use Rattle.rows.specs.declared.row.Leaf.TheVariants as leaf
 use Rattle.rows.specs.declared.row.Leaf.{Leaf}
 use Rattle.analyse.specs.Reach.{Reached}
@@ -48,7 +49,7 @@ use Rattle.sound.proofs.Invariant.{kept_back, call_arguments, IsLast}
 use Rattle.sound.proofs.Kept.{LentStays, lent_stays_same, lent_stays_set, some_same, rest_above, lent_of, all_lent_stays}
 use Rattle.sound.proofs.Lists.{element_at, not_false}
 use Rattle.sound.proofs.Quiet.{contains_first, own_holds, fits_type, type_same, stays_same, type_there}
-use Rattle.sound.proofs.Here.{IsGood, tested_good, test_holds, row_set, nothing_none, Here, owned_is, outcome_at}
+use Rattle.sound.proofs.Here.{IsGood, tested_good, test_holds, row_set, nothing_none, Here, owned_is, step_is}
 use Rattle.sound.proofs.events.GivenBack.{passed_range, passed_has, put_back, LentEnds, GivenBack, all_back, fits_back, lent_counts}
 use Rattle.machine.specs.Instructions.{outcome_from, returns, value_tests}
 use Rattle.machine.proofs.ChangeLemmas.{eqb_apart}
@@ -83,7 +84,7 @@ module _ (p : ProgramModel) (bound : QueueBounds) (w : World) (self choice : ℕ
       by (inl inside) =
           let k : is_kept m h.row value u ≡ false =
           not_refused (is_kept m h.row value u) _ (passed_has
-          (λ v. refuse_if (is_kept m h.row value v) (still_owned (name_of m v) place)) (declared_between m None last) u scoped
+          (λ v. refuse_if (is_kept m h.row value v) (breach_at place (StillOwned record { 0 = v }))) (declared_between m None last) u scoped
           (fit.covers u inside)) in
           something_is (leaf_at h.row u)
           (sym (ap (λ (b : Bool). not b && (not (is_lent m u) && is_owned h.row u)) named
@@ -95,7 +96,7 @@ module _ (p : ProgramModel) (bound : QueueBounds) (w : World) (self choice : ℕ
       let l = leaf_at h.row u in
       let k : is_not_back p m h.row u ≡ false =
       not_refused (is_not_back p m h.row u) _
-      (passed_range (λ v. refuse_if (is_not_back p m h.row v) (not_back (name_of m v) place)) 0 (length m.variables) u lent_back (omega arith)
+      (passed_range (λ v. refuse_if (is_not_back p m h.row v) (breach_at place (NotBack record { 0 = v }))) 0 (length m.variables) u lent_back (omega arith)
       (let short = slice_get_within m.variables u x there in omega arith)) in
       let is_lent_here : is_lent m u ≡ true = lent_of m.variables u x there ∙ lent in
       let right : is_wrong x.ty l ≡ false =
@@ -167,8 +168,8 @@ module _ (p : ProgramModel) (bound : QueueBounds) (w : World) (self choice : ℕ
   callee_is : caller_fit.callee ≡ m
   callee_is = some_same caller_fit.callee m (sym caller_fit.there ∙ h.there)
 
-  same_outcome : outcome p g.method (g.point, caller.before) ≡ instruction_outcome p caller.m call_of caller.before
-  same_outcome = outcome_at p g caller.m call_of caller.before caller.there caller_at
+  same_step : step_at p g.method (g.point, caller.before) ≡ instruction_outcome p caller.m call_of caller.before
+  same_step = step_is p g caller.m call_of caller.before caller.there caller_at
 
   abbrev call_types : List HeapType
   call_types = parameter_types p f.method
@@ -180,18 +181,18 @@ module _ (p : ProgramModel) (bound : QueueBounds) (w : World) (self choice : ℕ
   call_after = (caller.next, given_leaf left (result_of p f.method) caller.target) ∷ []
 
   call_passed : Passed call_checks
-  call_passed = all_pass call_checks call_after (λ finding e. clean g.method caller.m caller.there finding
-      (record { at = (g.point, caller.before); reached = caller.reached; fails = same_outcome ∙ e }))
+  call_passed = all_pass call_checks call_after (λ breach e. clean g.method caller.m caller.there (breach_in p g.method breach)
+      (record { at = (g.point, caller.before); reached = caller.reached; fails = ap (said_by (breach_in p g.method)) (same_step ∙ e) }))
 
   call_reached : Reached (outcome p g.method) (entry_of p g.method) (caller.next, given_leaf left (result_of p f.method) caller.target)
   call_reached = reached_more (outcome p g.method) (entry_of p g.method) (g.point, caller.before)
       (caller.next, given_leaf left (result_of p f.method) caller.target) call_after caller.reached
-      (same_outcome ∙ passed_goes call_checks call_after call_passed)
+      (ap (said_by (breach_in p g.method)) (same_step ∙ passed_goes call_checks call_after call_passed))
       (contains_first (caller.next, given_leaf left (result_of p f.method) caller.target) [])
 
   apart : PairApart caller.arguments
-  apart = pair_apart p caller.m [] caller.arguments
-      (passed_left (given_before caller.m [] caller.arguments) (each_argument caller.m caller.before call_types caller.arguments)
+  apart = pair_apart [] caller.arguments
+      (passed_left (given_before [] caller.arguments) (each_argument caller.m caller.before call_types caller.arguments)
       (passed_left (all_arguments caller.m caller.before call_types caller.arguments)
       (target_checks caller.m left caller.target) call_passed))
 

@@ -24,12 +24,13 @@ use Rattle.contracts.specs.Bounds.{sign_to}
 use Rattle.contracts.specs.Leaving.{sign_from, edges_from, end_on}
 use Rattle.contracts.specs.TwoEnds.{Leads, NeverLonger}
 use Rattle.rules.specs.Arguments.{after_claims, given_before, lacks_edge, sent_leaf}
-use Rattle.rules.specs.Endpoints.{payload_types, edges_of, edges_out, message_name, type_of}
+use Rattle.rules.specs.Endpoints.{payload_types, edges_of, edges_out, type_of}
 use Rattle.rules.specs.Mentions.{require_owned}
-use Rattle.rules.specs.Outcomes.{refuse_if}
+use Rattle.rules.specs.Outcomes.{breach_at, refuse_if}
 use Rattle.rows.specs.Rows.{leaf_at, is_owned}
 use Rattle.sound.proofs.Parameters.{each_taken, type_known}
-use Rattle.rules.specs.Texts.{not_sent, wrong_for}
+use Rattle.program.specs.declared.number.VarId.{VarId}
+use Rattle.rules.specs.declared.breach.Reason.TheVariants.{NotSent, WrongFor}
 use Rattle.rows.specs.declared.row.Leaf.TheVariants as leaf
 use Rattle.rows.specs.declared.row.Leaf.{Leaf}
 use Rattle.machine.specs.Blocks.{bound_of, argument_tests, has_room, send_tests, sent_state}
@@ -282,18 +283,17 @@ good_send p bound w self choice f rest m longer sound place e message payloads n
     let v = e.variable.0 in
     let args = payloads_claimed payloads in
     let types = payload_types p message.0 in
-    let name = message_name p (type_of m v) message.0 in
     let l = leaf_at h.row v in
-    let wrong = λ (x : List ℕ) (at : Place). wrong_for x name at in
-    let lacks = refuse_if (lacks_edge p (type_of m v) message.0 l) (not_sent name place) ∷ [] in
-    let checks = require_owned m h.row e ∷ ((given_before m (v ∷ []) args ++ each_taken m h.row wrong types payloads) ++ lacks) in
+    let wrong = λ (x : VarId). WrongFor x e.variable message in
+    let lacks = refuse_if (lacks_edge p (type_of m v) message.0 l) (breach_at place (NotSent e.variable message)) ∷ [] in
+    let checks = require_owned h.row e ∷ ((given_before (v ∷ []) args ++ each_taken m h.row wrong types payloads) ++ lacks) in
     let row' = set (after_claims h.row args) v (sent_leaf p (type_of m v) message.0 l) in
     let passed = all_pass checks ((next, row') ∷ []) h.passes in
     let owned = not_false (is_owned h.row v) (not_refused (not (is_owned h.row v)) _ passed.0) in
     let o = owned_is p w self f rest m h.row v h.holds h.is h.fits owned in
     let x = o.variable in
     let a = o.at in
-    let given_checks = given_before m (v ∷ []) args in
+    let given_checks = given_before (v ∷ []) args in
     let payload_checks = each_taken m h.row wrong types payloads in
     let all_passed = passed_left (given_checks ++ payload_checks) lacks passed.1 in
     let given_passed = passed_left given_checks payload_checks all_passed in
@@ -305,8 +305,8 @@ good_send p bound w self choice f rest m longer sound place e message payloads n
     let edge_there : lacks_edge p (Some x.ty) message.0 l ≡ false =
     ap (λ (k : Option HeapType). lacks_edge p k message.0 l) (sym type_x)
     ∙ not_refused (lacks_edge p (type_of m v) message.0 l) _ (passed_right (given_checks ++ payload_checks) lacks passed.1).0 in
-    let apart = pair_apart p m (v ∷ []) args given_passed in
-    let free = not_earlier p m (v ∷ []) args given_passed v (ap (λ (b : Bool). b || false) (eqb_same v v refl)) in
+    let apart = pair_apart (v ∷ []) args given_passed in
+    let free = not_earlier (v ∷ []) args given_passed v (ap (λ (b : Bool). b || false) (eqb_same v v refl)) in
     let fits = taken_fit m w.blocks vs h.row wrong types payloads h.fits fit.types each in
     let claims = payloads_claim payloads in
     let all = λ (y : ℕ). top_once p w self f rest y h.holds h.is in

@@ -258,8 +258,8 @@ good_start p bound w self choice f rest m place method arguments next h g =
     let each : Passed (each_argument m h.row (types_among x.variables) arguments) =
     subst (λ (ks : List HeapType). Passed (each_argument m h.row ks arguments))
     (ap (λ (o : Option MethodModel). option_map_or (λ y. types_among y.variables) o []) g.there)
-    (passed_right (given_before m [] arguments) (each_argument m h.row types arguments) passed) in
-    let apart = pair_apart p m [] arguments (passed_left (given_before m [] arguments) (each_argument m h.row types arguments) passed) in
+    (passed_right (given_before [] arguments) (each_argument m h.row types arguments) passed) in
+    let apart = pair_apart [] arguments (passed_left (given_before [] arguments) (each_argument m h.row types arguments) passed) in
     let args = args_fit p m w.blocks vs h.row (parameters_of x.variables) arguments h.fits g.arguments_fit each in
     let all = λ (y : ℕ). top_once p w self f rest y h.holds h.is in
     let own = λ (y u : ℕ) (i : read vs u ≡ Some y). top_owned p w self f rest y u h.holds h.is i in

@@ -21,14 +21,14 @@ use Rattle.flow.specs.Graphs.{Switch}
 use Rattle.contracts.specs.Bounds.{sign_to}
 use Rattle.contracts.specs.Leaving.{edges_from, end_on}
 use Rattle.contracts.specs.TwoEnds.{Leads, HeldAlways}
-use Rattle.rules.specs.Endpoints.{payload_types, edges_of, message_name, type_of, edges_in, in_state}
-use Rattle.rules.specs.Mentions.{is_lent, require_owned, name_of}
-use Rattle.rules.specs.Outcomes.{Pair, Check, refuse_if}
+use Rattle.rules.specs.Endpoints.{payload_types, edges_of, type_of, edges_in, in_state}
+use Rattle.rules.specs.Mentions.{is_lent, require_owned}
+use Rattle.rules.specs.Outcomes.{Pair, Check, breach_at, refuse_if}
 use Rattle.rows.specs.Rows.{leaf_at, is_owned}
 use Rattle.rules.specs.Steps.{outcome, entry_of}
 use Rattle.rules.specs.Switches.{comes_at, pair_at, bound_leaves, receive_pairs, close_pairs, awaited_edges, cover_checks, is_to_send, switch_checks}
 use Rattle.rules.specs.Switches.{switch_pairs}
-use Rattle.rules.specs.Texts.{nothing_to_receive, not_covered}
+use Rattle.rules.specs.declared.breach.Reason.TheVariants.{NotCovered, NothingToReceive}
 use Rattle.rows.specs.declared.row.Leaf.TheVariants as leaf
 use Rattle.rows.specs.declared.row.Leaf.{Leaf}
 use Rattle.analyse.specs.Reach.{Reached}
@@ -76,16 +76,16 @@ module _ (p : ProgramModel) (bound : QueueBounds) (w : World) (self choice : ℕ
   pairs = switch_pairs p m h.row cases
 
   abbrev later : List Check
-  later = refuse_if (list_all (is_to_send p m h.row) es) (nothing_to_receive place) ∷ flat_map (cover_checks p m h.row cases) es
+  later = refuse_if (list_all (is_to_send p m h.row) es) (breach_at place NothingToReceive) ∷ flat_map (cover_checks p m h.row cases) es
 
   passed : Passed all_checks
   passed = all_pass all_checks pairs h.passes
 
   owned_all : Each (λ e. is_owned h.row e.variable.0 ≡ true) es
-  owned_all = passed_owned m h.row es (passed_left (map (require_owned m h.row) es) later passed)
+  owned_all = passed_owned h.row es (passed_left (map (require_owned h.row) es) later passed)
 
   covered_all : Each (λ e. Passed (cover_checks p m h.row cases e)) es
-  covered_all = passed_flat (cover_checks p m h.row cases) es (passed_right (map (require_owned m h.row) es) later passed).1
+  covered_all = passed_flat (cover_checks p m h.row cases) es (passed_right (map (require_owned h.row) es) later passed).1
 
   reaches : (y : Pair) → Contains pairs y → Reached (outcome p f.method) (entry_of p f.method) y
   reaches y c = h.onward pairs y (passed_goes all_checks pairs passed) c
@@ -179,7 +179,7 @@ module _ (p : ProgramModel) (bound : QueueBounds) (w : World) (self choice : ℕ
       has_case : is_none (case_for cases v.variable.0 (Some y.message)) ≡ false
       has_case =
           let F = λ (d : Edge). refuse_if (is_none (case_for cases v.variable.0 (Some d.message.0)))
-          (not_covered (name_of m v.variable.0) (message_name p (type_of m v.variable.0) d.message.0) v.place) in
+          (breach_at v.place (NotCovered v.variable d.message)) in
           let c = each_at (λ e. Passed (cover_checks p m h.row cases e)) es choice v covered_all at_choice in
           let k = each_contains (λ d. F d ≡ None) (awaited_edges p m h.row v) row_edge.edge
           (passed_map F (awaited_edges p m h.row v) c) row_edge.there in

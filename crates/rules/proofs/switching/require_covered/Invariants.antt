@@ -11,4 +11,4 @@ invariant-loop-edge l =
     let p = program_of l.here in
     let m = method_of l.here in
     let row = row_of l.here in
-    Left (cover_checks p m row (cases_model l.cases) l.fn.endpoint) (edge_checks p m (cases_model l.cases) l.fn.endpoint (drop l.edge-index (awaited_edges p m row l.fn.endpoint)))
+    Left (cover_checks p m row (cases_model l.cases) l.fn.endpoint) (edge_checks (cases_model l.cases) l.fn.endpoint (drop l.edge-index (awaited_edges p m row l.fn.endpoint)))

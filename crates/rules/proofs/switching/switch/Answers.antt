@@ -14,7 +14,7 @@ returns-in_ok-ways-in-Ok c =
     let row = row_of c.args.here.now in
     let cases = cases_model c.args.cases.now in
     ap Goes c.in_ok-ways-in-Ok.ensures
-    ∙ alone (breach_model p m) (switch_checks p m row c.args.place cases) (Ok tt) (switch_pairs p m row cases) c.in-Ok.ensures
+    ∙ alone (switch_checks p m row c.args.place cases) (Ok tt) (switch_pairs p m row cases) c.in-Ok.ensures
 
 pub returns-in-Err : goal.returns-in-Err
 returns-in-Err c =
@@ -22,4 +22,4 @@ returns-in-Err c =
     let m = method_of c.args.here.now in
     let row = row_of c.args.here.now in
     let cases = cases_model c.args.cases.now in
-    alone (breach_model p m) (switch_checks p m row c.args.place cases) (Err c.in-Err.breach) (switch_pairs p m row cases) c.in-Err.ensures
+    alone (switch_checks p m row c.args.place cases) (Err c.in-Err.breach) (switch_pairs p m row cases) c.in-Err.ensures

@@ -15,12 +15,11 @@ returns-in_err-require_arguments-clause-outcome c =
     let m = method_model c.args.site.now.method.now in
     let row = row_model c.args.row.now in
     let starting = c.args.starting.now in
-    let says = breach_model p m in
     let first =
     of_checks (ap (λ xs. all_arguments m row (parameter_types p starting.method.0) xs) c.deref.ensures.value)
     (of_checks (ap (λ ks. all_arguments m row ks c.deref.result.now) c.parameter_types-types.ensures) c.in_err-require_arguments.ensures) in
-    told_on says c.from_residual.result _ _ c.from_residual.ensures.1
-    ∙ alone says (all_arguments m row (parameter_types p starting.method.0) starting.arguments.items) (Err _) _ first
+    told_on c.from_residual.result _ _ c.from_residual.ensures.1
+    ∙ alone (all_arguments m row (parameter_types p starting.method.0) starting.arguments.items) (Err _) _ first
 
 pub returns-clause-outcome : goal.returns-clause-outcome
 returns-clause-outcome c =
@@ -28,9 +27,8 @@ returns-clause-outcome c =
     let m = method_model c.args.site.now.method.now in
     let row = row_model c.args.row.now in
     let starting = c.args.starting.now in
-    let says = breach_model p m in
     let first =
     of_checks (ap (λ xs. all_arguments m row (parameter_types p starting.method.0) xs) c.deref.ensures.value)
     (of_checks (ap (λ ks. all_arguments m row ks c.deref.result.now) c.parameter_types-types.ensures) c.in_ok-require_arguments.ensures) in
     let after = c.claim_all.ensures ∙ ap (after_claims row) c.deref-2.ensures.value in
-    ap (λ r. Goes ((starting.next, r) ∷ [])) after ∙ alone says (all_arguments m row (parameter_types p starting.method.0) starting.arguments.items) (Ok tt) _ first
+    ap (λ r. Goes ((starting.next, r) ∷ [])) after ∙ alone (all_arguments m row (parameter_types p starting.method.0) starting.arguments.items) (Ok tt) _ first

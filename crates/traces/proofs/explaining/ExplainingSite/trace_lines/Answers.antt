@@ -1,4 +1,4 @@
-use Rattle.std.proofs.Common.{◌≡◌, ◌<◌, ◌++◌, ◌∷◌, Some, length, map, slice_get, sym, ap, subst, ◌∙◌, arith, refl}
+use Rattle.std.proofs.Common.{◌≡◌, ◌<◌, ◌++◌, ◌∷◌, Some, length, map, slice_get, sym, ap, subst, ◌∙◌, arith}
 use Rattle.std.specs.List.{All, AllZip}
 use Rattle.std.specs.Prelude.{IsSomeAnd}
 use Rattle.std.proofs.lemmas.Option.{slice_get_within}
@@ -9,7 +9,8 @@ use Rattle.program.specs.Methods.{MethodModel, method_model}
 use Rattle.program.specs.declared.number.VarId.{VarId}
 use Rattle.rules.specs.Breaches.{breach_in}
 use Rattle.rules.specs.Programs.{model_of}
-use Rattle.rules.specs.Steps.{entry_of, outcome}
+use Rattle.rules.specs.Outcomes.{Fails}
+use Rattle.rules.specs.Steps.{entry_of, outcome, step_at}
 use Rattle.analyse.specs.Names.{NamesPair}
 use Rattle.analyse.specs.Noted.{pairs_of}
 use Rattle.analyse.specs.Traces.{IsTrace}
@@ -58,6 +59,8 @@ returns-clause-trace c =
     let way = c.in_ok-places.ensures p n t.0 t.2 in
     let by = way.0 in
     let trace : IsTrace (outcome p n) (entry_of p n) (breach_in p n breach) by.steps = by.trace in
+    let failed = t.2.first c.args.failure c.requires.known in
+    let fails : step_at p n trace.at ≡ Fails breach = ap (step_at p n) (one_pair by.trace.at failed.at (sym way.1 ∙ failed.there)) ∙ failed.fails in
     let seen = c.read_pair.ensures.seen t.0 t.1 in
     let here = one_pair by.trace.at _ (sym way.1 ∙ c.in_ok-point.ensures.pair t.0 t.1) in
     let about : map (λ (v : VarId). v.0) c.in_ok-about.about.items ≡ variables_of_reason breach.reason (slice_get (graph_of m).instructions by.trace.at.0)
@@ -69,9 +72,9 @@ returns-clause-trace c =
     = told t.0 by.steps (entry_of p n) seen first (subst (λ ps. AllZip (λ index x. slice_get t.0 index ≡ Some x) ps by.steps) (sym c.deref-2.ensures.value) by.named)
     ∙ ap (λ vs. start_lines p m vs (entry_of p n).1 ++ path_lines p m vs (entry_of p n ∷ by.steps)) (ap (map (λ (v : VarId). v.0)) c.deref.ensures.value ∙ about) in
     record {
-      breach = breach;
-      says = refl;
       steps = by.steps;
       trace = trace;
+      breach = breach;
+      fails = fails;
       told = subst (λ o. IsSomeAnd o (λ m. map line_model lines.items ≡ trace_lines p m breach (entry_of p n) by.steps trace.at)) (sym there) is;
     }) c.path_lines.ensures.lines
