@@ -1,16 +1,16 @@
 -- The finding of each breach.
-use Rattle.std.specs.Prelude.{ℕ, List, slice_get}
+use Rattle.std.specs.Prelude.{ℕ, List, ◌++◌, codes, slice_get}
 use Rattle.std.specs.Option.{option_map_or}
+use Rattle.std.specs.Str.Lossy.{utf8_lossy}
 use Rattle.source.specs.Findings.{FindingModel}
-use Rattle.source.specs.declared.place.Place.{Place}
+use Rattle.source.specs.declared.finding.Code.{Code}
+use Rattle.source.specs.declared.finding.Code.TheVariants.{A01, A02, A03, A04, A05, A06, A07, A08, A09, A10, A11, A12, A13, A15}
 use Rattle.program.specs.Methods.{MethodModel}
 use Rattle.program.specs.Programs.{ProgramModel}
 use Rattle.program.specs.declared.number.MessageId.{MessageId}
 use Rattle.program.specs.declared.number.VarId.{VarId}
 use Rattle.rules.specs.Endpoints.{type_of, message_name}
 use Rattle.rules.specs.Mentions.{name_of}
-use Rattle.rules.specs.Texts.{lent, no_result, not_back, not_covered, not_owned, not_sent, nothing_to_receive, overwritten, still_owned}
-use Rattle.rules.specs.Texts.{twice, wrong_for, wrong_for_call, wrong_for_field, wrong_for_result}
 use Rattle.rules.specs.declared.breach.Breach.{Breach}
 use Rattle.rules.specs.declared.breach.Reason.{Reason}
 use Rattle.rules.specs.declared.breach.Reason.TheVariants.{NotOwned, NotSent, WrongFor, WrongForCall, NotCovered, NothingToReceive}
@@ -22,27 +22,34 @@ module _ (p : ProgramModel) (m : MethodModel) where
   abbrev pub name_along : VarId → MessageId → List ℕ
   name_along endpoint message = message_name p (type_of m endpoint.0) message.0
 
-  -- the finding at a place, a line for each reason
-  abbrev pub finding_for_reason : Place → Reason → FindingModel
-  finding_for_reason place (NotOwned variable) = not_owned (name_of m variable.0) place
-  finding_for_reason place (NotSent endpoint message) = not_sent (name_along endpoint message) place
-  finding_for_reason place (WrongFor variable endpoint message) = wrong_for (name_of m variable.0) (name_along endpoint message) place
-  finding_for_reason place (WrongForCall variable) = wrong_for_call (name_of m variable.0) place
-  finding_for_reason place (NotCovered endpoint message) = not_covered (name_of m endpoint.0) (name_along endpoint message) place
-  finding_for_reason place NothingToReceive = nothing_to_receive place
-  finding_for_reason place (Overwritten variable) = overwritten (name_of m variable.0) place
-  finding_for_reason place (StillOwned variable) = still_owned (name_of m variable.0) place
-  finding_for_reason place (NotBack variable) = not_back (name_of m variable.0) place
-  finding_for_reason place (Lent variable) = lent (name_of m variable.0) place
-  finding_for_reason place (Twice variable) = twice (name_of m variable.0) place
-  finding_for_reason place (WrongForResult variable) = wrong_for_result (name_of m variable.0) place
-  finding_for_reason place NoResult = no_result place
-  finding_for_reason place (WrongForField variable) = wrong_for_field (name_of m variable.0) place
+  -- the name of a variable, as it is printed
+  abbrev pub shown : VarId → List ℕ
+  shown variable = utf8_lossy (name_of m variable.0)
+
+  -- the code and the text of the finding for each reason
+  abbrev pub words_for : Reason → Code × List ℕ
+  words_for (NotOwned variable) = (A01, shown variable ++ codes " not owned")
+  words_for (NotSent endpoint message) = (A02, utf8_lossy (name_along endpoint message) ++ codes " not sent here")
+  words_for (WrongFor variable endpoint message) =
+      (A03, shown variable ++ (codes " in a wrong state for " ++ utf8_lossy (name_along endpoint message)))
+  words_for (WrongForCall variable) = (A04, shown variable ++ codes " in a wrong state for the call")
+  words_for (NotCovered endpoint message) =
+      (A05, shown endpoint ++ (codes "." ++ (utf8_lossy (name_along endpoint message) ++ codes " not covered")))
+  words_for NothingToReceive = (A06, codes "nothing to receive")
+  words_for (Overwritten variable) = (A07, shown variable ++ codes " overwritten")
+  words_for (StillOwned variable) = (A08, shown variable ++ codes " still owned")
+  words_for (NotBack variable) = (A09, shown variable ++ codes " not back in its state")
+  words_for (Lent variable) = (A10, shown variable ++ codes " is lent")
+  words_for (Twice variable) = (A11, shown variable ++ codes " twice")
+  words_for (WrongForResult variable) = (A12, shown variable ++ codes " in a wrong state for the result")
+  words_for NoResult = (A13, codes "no result")
+  words_for (WrongForField variable) = (A15, shown variable ++ codes " in a wrong state for the field")
 
   -- the finding of a breach
   abbrev pub breach_model : Breach → FindingModel
-  breach_model breach = finding_for_reason breach.place breach.reason
+  breach_model breach = let words = words_for breach.reason in record { place = breach.place; code = words.0; text = words.1 }
 
 -- the finding of a breach in the method with this number; callers ask only for methods of the program
 abbrev pub breach_in : ProgramModel → ℕ → Breach → FindingModel
-breach_in p method breach = option_map_or (λ m. breach_model p m breach) (slice_get p.methods method) (no_result breach.place)
+breach_in p method breach = option_map_or (λ m. breach_model p m breach) (slice_get p.methods method)
+    (record { place = breach.place; code = A13; text = codes "no result" })

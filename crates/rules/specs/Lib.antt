@@ -15,5 +15,4 @@ pub mod Sites
 pub mod Steps
 pub mod Switches
 pub mod Takers
-pub mod Texts
 pub mod Transfers

@@ -102,8 +102,7 @@ abbrev mutual
 -- a turn of a loop: its block, which continues at its condition
 abbrev pub turn : TestModel → (next : Rest) → Rest
 turn (stated.Test place mentions ways body) next =
-    let head = loop (stated.Test place mentions ways body) next in
-    block body next head head
+    let head = loop (stated.Test place mentions ways body) next in block body next head head
 
 -- the end of a method
 abbrev pub ending : MethodModel → Rest

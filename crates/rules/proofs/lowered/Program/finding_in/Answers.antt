@@ -1,11 +1,20 @@
-use Rattle.std.proofs.Common.{ap, sym, ◌∙◌}
+use Rattle.std.proofs.Common.{List, ℕ, ◌++◌, ap, sym, ◌∙◌}
+use Rattle.std.specs.Prelude.{codes}
+use Rattle.std.specs.Str.Lossy.{utf8_lossy}
 use Rattle.std.proofs.lemmas.Result.{IfOk-weaker}
+use Rattle.source.specs.Findings.{FindingModel}
+use Rattle.source.specs.declared.finding.Code.TheVariants.{A03}
+use Rattle.source.specs.declared.place.Place.{Place}
 use Rattle.program.specs.Methods.{method_model}
-use Rattle.rules.specs.Breaches.{finding_for_reason}
+use Rattle.rules.specs.Breaches.{breach_model}
 use Rattle.rules.specs.Mentions.{name_of}
 use Rattle.rules.specs.Programs.{model_of}
-use Rattle.rules.specs.Texts.{wrong_for}
+use Rattle.rules.specs.declared.breach.Reason.{Reason}
 use Rattle.rules.proofs.lowered.Program.finding_in.Goals as goal
+
+wrong_for : Place → (name message : List ℕ) → FindingModel
+wrong_for place name message =
+    record { place = place; code = A03; text = utf8_lossy name ++ (codes " in a wrong state for " ++ utf8_lossy message) }
 
 pub returns-in-WrongFor : goal.returns-in-WrongFor
 returns-in-WrongFor c =
@@ -15,6 +24,6 @@ returns-in-WrongFor c =
     let arm = c.in-WrongFor in
     IfOk-weaker c.in_a_wrong_state_for.result _ _
     (λ finding h. (λ i. record { place = h.place i; code = h.code i; text = h.text i })
-    ∙ ap (λ name. wrong_for name c.name_along-message-in-WrongFor.result.now place) c.name_of-in-WrongFor.ensures
-    ∙ ap (λ message. wrong_for (name_of m arm.variable.0) message place) c.name_along-message-in-WrongFor.ensures
-    ∙ ap (finding_for_reason p m place) (sym arm.is)) c.in_a_wrong_state_for.ensures
+    ∙ ap (λ name. wrong_for place name c.name_along-message-in-WrongFor.result.now) c.name_of-in-WrongFor.ensures
+    ∙ ap (λ message. wrong_for place (name_of m arm.variable.0) message) c.name_along-message-in-WrongFor.ensures
+    ∙ ap (λ (reason : Reason). breach_model p m (record { place = place; reason = reason })) (sym arm.is)) c.in_a_wrong_state_for.ensures
