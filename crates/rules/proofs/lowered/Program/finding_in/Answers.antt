@@ -12,7 +12,7 @@ use Rattle.rules.specs.Programs.{model_of}
 use Rattle.rules.specs.declared.breach.Reason.{Reason}
 use Rattle.rules.proofs.lowered.Program.finding_in.Goals as goal
 
-wrong_for : Place → (name message : List ℕ) → FindingModel
+abbrev wrong_for : Place → (name message : List ℕ) → FindingModel
 wrong_for place name message =
     record { place = place; code = A03; text = utf8_lossy name ++ (codes " in a wrong state for " ++ utf8_lossy message) }
 
