@@ -11,7 +11,7 @@ use Rattle.machine.specs.declared.worlds.Owner.TheVariants.{Process, Queue, Insi
 use Rattle.machine.proofs.ChangeLemmas.{eqb_apart, true≢false}
 use Rattle.machine.proofs.Chains.{depth, depth_few, depth_one, goes_reaches, goes_self, goes_up, inside_there, lies_reaches, reaches}
 use Rattle.machine.proofs.HeapLemmas.{no_queue, own_there}
-use Rattle.machine.proofs.Holding.{not_inside}
+use Rattle.machine.proofs.Holding.{not_freed, not_inside}
 
 -- ---- chains, one step at a time
 module _ (bs : List Block) (rooted : (x : ℕ) → Rooted bs x) where
@@ -100,20 +100,13 @@ begins bs a h own = record {
         ∙ eqb_apart a j (λ e. true≢false inside (ap (λ (n : ℕ). is_inside (block_at bs n).owner b) (sym e)
         ∙ not_inside (block_at bs a).owner b own))
 
-own_lives : (o : Owner) → of_process o ≡ true → is_freed o ≡ false
-own_lives (Process q) own = refl
-own_lives (Queue n) own = refl
-own_lives (Inside n) own = refl
-own_lives Channel own = refl
-own_lives Freed own = absurd (cc)
-
 -- the block at which the path is
 module _ (bs0 : List Block) (a : ℕ) (bs : List Block) (x : ℕ) (h : Frees bs0 a bs x) where
   pub x_there : x < length bs
   x_there = ⊎_elim (λ e. let k = own_there bs a h.owned in omega arith) (λ k. inside_there bs x k.0 k.1) (goes_up bs h.rooted a x h.goes)
 
   pub x_lives : is_freed_at bs x ≡ false
-  x_lives = ⊎_elim (λ e. ap (λ (n : ℕ). is_freed_at bs n) e ∙ own_lives (block_at bs a).owner h.owned) (λ k. ap is_freed k.1)
+  x_lives = ⊎_elim (λ e. ap (λ (n : ℕ). is_freed_at bs n) e ∙ not_freed (block_at bs a).owner h.owned) (λ k. ap is_freed k.1)
       (goes_up bs h.rooted a x h.goes)
 
   pub x_no_queue : (c : ℕ) → is_queue (block_at bs x).owner c ≡ false

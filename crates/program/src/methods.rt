@@ -17,12 +17,12 @@ use std::marker::Model;
 /// The methods of a program in order of the text, with its contracts, the types that its messages bring and the
 /// types of the owning fields of its structs.
 ///
-/// There are at most `MOST_METHODS`. All names are resolved, and the program is well formed: each number refers to something; a method has at
-/// most `MOST_VARIABLES` variables, and a struct at most `MOST_FIELDS` owning fields; a call and a send give a variable
-/// of the right type for each parameter of the exchange heap, and a call has a target exactly if the callee gives a
-/// block; what is assigned is in scope; a started method gives nothing and claims its parameters; a switch has a
-/// case for the close of each of its endpoints; what a case binds takes what its message brings, and comes into
-/// scope there. Exactly what came into scope goes out of it.
+/// There are at most `MOST_METHODS`. All names are resolved, and the program is well formed: each number refers to
+/// something; a method has at most `MOST_VARIABLES` variables, and a struct at most `MOST_FIELDS` owning fields; a call
+/// and a send give a variable of the right type for each parameter of the exchange heap, and a call has a target
+/// exactly if the callee gives a block; what is assigned is in scope; a started method gives nothing and claims its
+/// parameters; a switch has a case for the close of each of its endpoints; what a case binds takes what its message
+/// brings, and comes into scope there. Exactly what came into scope goes out of it.
 #[derive(Drop)]
 pub struct Methods {
     contracts: Resolved,

@@ -47,7 +47,8 @@ module _ (p : ProgramModel) (m : MethodModel) where
 
   -- the checks of lent endpoints, in order: each is cut off, or back in its declared state
   abbrev pub back_checks : List Leaf → Place → List Check
-  back_checks row place = map (λ v. refuse_if (is_not_back row v) (breach_at place (NotBack record { 0 = v }))) (range_with_len 0 (length m.variables))
+  back_checks row place =
+      map (λ v. refuse_if (is_not_back row v) (breach_at place (NotBack record { 0 = v }))) (range_with_len 0 (length m.variables))
 
   -- The outcome of an exchange with a field of this type. The variable then has what was in the
   -- field, in the state that the field asks for.
