@@ -17,12 +17,13 @@ import urllib.parse
 TOP = pathlib.Path(__file__).resolve().parent.parent
 FINDING = re.compile(r'(\d+):(\d+) ([A-Z]\d\d) (.*)')
 MARK = b'\xef\xbb\xbf'
+SECONDS = 600  # for a run on all texts, which takes long with the program of ./build --unproved
 
 
 def run(program, *words, tool='check', **more):
     words = [TOP / 'tools' / tool, *(['--program', program] if tool == 'check' else []), *words]
     return subprocess.run(words, stdin=more.pop('stdin', subprocess.DEVNULL) if 'input' not in more else None, stdout=subprocess.PIPE,
-                          stderr=subprocess.PIPE, timeout=60, **more)
+                          stderr=subprocess.PIPE, timeout=SECONDS, **more)
 
 
 def printed(program, path):
@@ -286,12 +287,12 @@ def ends_when_interrupted(note):
     return found
 
 
-def on_a_terminal(program, *words, columns=40, **more):
-    """Returns what `tools/check` prints on a terminal with `columns` columns."""
+def on_a_terminal(program, *words, columns=40, names=(TOP / 'examples' / 'note.sg',), **more):
+    """Returns what `tools/check` prints of these files on a terminal with `columns` columns."""
     master, slave = pty.openpty()
     env = {**os.environ, 'COLUMNS': str(columns), 'TERM': 'xterm', **more}
     env.pop('NO_COLOR', None) if 'NO_COLOR' not in more else None
-    command = [TOP / 'tools' / 'check', '--program', program, *words, TOP / 'examples' / 'note.sg']
+    command = [TOP / 'tools' / 'check', '--program', program, *words, *names]
     child = subprocess.Popen(command, stdin=subprocess.DEVNULL, stdout=slave, stderr=slave, env=env)
     os.close(slave)
     data = b''
@@ -320,6 +321,35 @@ def colours_and_width(program):
     return found
 
 
+def the_end_on_a_terminal(program):
+    """On a terminal the last line counts the files and the findings."""
+    note, ping = (TOP / 'examples' / name for name in ('note.sg', 'ping.sg'))
+    found = []
+    for names, asked in (([ping], '1 file, no findings'), ([ping, note, ping], '3 files, 1 finding'), ([note, note], '2 files, 2 findings'),
+                         ([ping, 'nowhere.sg'], '2 files, no findings, 1 not checked')):
+        found += unlike(asked, on_a_terminal(program, names=names).splitlines()[-1], 'last line')
+    return found + unlike(['1 file, no findings'], on_a_terminal(program, names=[ping]).splitlines(), 'clean')
+
+
+def folders_without_texts(program):
+    """A folder without a text is refused, whatever the others have, in each format. So a mistyped name does not pass."""
+    found = []
+    with tempfile.TemporaryDirectory() as folder:
+        (pathlib.Path(folder) / 'empty' / 'a.sg').mkdir(parents=True)
+        (pathlib.Path(folder) / 'full').mkdir()
+        (pathlib.Path(folder) / 'full' / 'note.sg').write_bytes((TOP / 'examples' / 'note.sg').read_bytes())
+        said = b'check: there is no *.sg file in empty\n'
+        for kind in ('plain', 'github', 'json'):
+            ran = run(program, '--format', kind, 'empty', cwd=folder)
+            found += unlike((2, b'', said), (ran.returncode, ran.stdout, ran.stderr), kind)
+        ran = run(program, 'full', 'empty', cwd=folder)
+        found += unlike((2, b'full/note.sg:7:5: A01 note not owned\n', said), (ran.returncode, ran.stdout, ran.stderr), 'two folders')
+        ran = run(program, cwd=pathlib.Path(folder) / 'empty')
+        found += unlike((2, b'', said.replace(b'empty', b'.')), (ran.returncode, ran.stdout, ran.stderr), 'this folder')
+        ran = run(program, '--format=sarif', 'empty', cwd=folder)
+        return found + is_sarif(json.loads(ran.stdout)) + unlike((2, said), (ran.returncode, ran.stderr), 'sarif')
+
+
 def many_small_files(program):
     """Two hundred files, each with its finding, in the order of their names."""
     with tempfile.TemporaryDirectory() as folder:
@@ -334,4 +364,4 @@ def many_small_files(program):
 TESTS = [('formats/' + test.__name__, test) for test in
          (plain_lines, json_lines, commands_of_github, sarif, sarif_of_nothing, traces_in_json, traces_in_sarif, traces_of_the_note,
           show_has_the_formats, the_worst_status, standard_input_and_odd_names, ends_as_other_tools, colours_and_width,
-          many_small_files)]
+          the_end_on_a_terminal, folders_without_texts, many_small_files)]
