@@ -1,5 +1,7 @@
 """Tests the scripts of `tools` on reports and texts whose answers follow from their documentation, and on reports of the program."""
+import os
 import pathlib
+import pty
 import re
 import subprocess
 import tempfile
@@ -152,6 +154,22 @@ def text_not_there(_):
     return differs(run('show', 'nowhere.sg', report=OK), b'', b'show: cannot read nowhere.sg: No such file or directory\n', 3)
 
 
+def show_says_what_it_waits_for(_):
+    """If standard input is a terminal, `show` says what it waits for, and then reads the report."""
+    ours, its = pty.openpty()
+    with tempfile.TemporaryFile() as said:
+        show = subprocess.Popen([TOP / 'tools' / 'show', '--plain', 'a.sg'], stdin=its, stdout=subprocess.PIPE, stderr=said)
+        os.close(its)
+        os.write(ours, b'1:2 Z99 one\nfindings: 1\n\x04')
+        stdout = show.communicate(timeout=60)[0]
+        os.close(ours)
+        said.seek(0)
+        given = stdout, said.read(), show.returncode
+    asked = (b'a.sg:1:2: Z99 one\n', b'show: waits for a report on standard input; it usually comes from a pipe: '
+             b'singcheck why FILE | tools/show FILE\n', 1)
+    return [] if given == asked else ['expected %r, given %r' % (asked, given)]
+
+
 def words_of_show(_):
     refused = b'show: one FILE is asked for; tools/show --help says more\n'
     return [found for words in ([], ['a', 'b'], ['--plian', 'a'], ['--plian']) for found in differs(run('show', *words), b'', refused, 2)]
@@ -191,5 +209,6 @@ def program_in_front(program):
 TESTS = [('tools/' + test.__name__, test) for test in
          (a_finding, a_trace, a_trace_of_longer_numbers, two_findings_plain, plain_needs_no_text, tabs, columns_count_bytes,
           carriage_return, byte_order_mark, end_of_the_text, end_of_a_line, what_a_terminal_obeys, long_line, long_line_cut_at_letters,
-          no_such_place, nothing_found, bounds, report_not_whole, run_of_a_schedule, text_not_there, words_of_show, each_page_is_printed,
+          no_such_place, nothing_found, bounds, report_not_whole, run_of_a_schedule, text_not_there,
+          show_says_what_it_waits_for, words_of_show, each_page_is_printed,
           words_of_explain, each_code_has_a_page_with_one_repair, program_in_front)]
