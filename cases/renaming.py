@@ -65,7 +65,7 @@ def made(top, files=FILES, crate='low', mutant='first_one'):
     for name, text in files.items():
         (top / name).parent.mkdir(parents=True, exist_ok=True)
         (top / name).write_text(text)
-    for name in ('edits', 'tools/rename', 'tools/trials.py'):
+    for name in ('edits', 'tools/rename', 'tools/toolchain.py', 'tools/trials.py'):
         (top / name).parent.mkdir(exist_ok=True)
         shutil.copy(TOP / name, top / name)
     spec = importlib.util.spec_from_file_location('trials_there', top / 'tools' / 'trials.py')

@@ -68,3 +68,13 @@ def copied(folder, names, left_out):
         shutil.copy(TOP / 'HANDLES', folder)
     for name in names:
         shutil.copytree(CRATES / name, folder / 'crates' / name, ignore=shutil.ignore_patterns(*left_out))
+
+
+def copy_kept_work(folder, names, top):
+    """Copies to such a repository what `rt check` has kept here: the libraries of these crates, and the proofs of one of them, `top`. So a
+    check of `top` there proves no other crate again. Newer releases of `rt` find most of this by themselves."""
+    for name in names:
+        for part in ('rlib', 'incremental') if name == top else ('rlib',):
+            kept = CRATES / name / 'out' / part
+            if kept.is_dir():
+                shutil.copytree(kept, folder / 'crates' / name / 'out' / part, symlinks=True)
