@@ -1,6 +1,6 @@
-"""Tests the manual page: readers of such pages accept it without warnings, and it has the commands and options of the help, the version, and
-what `why` prints. The help itself has the program's name, the range and the default of each number, the exit statuses, and an example for
-each command."""
+"""Tests the manual page: readers of such pages accept it without warnings. It has the version, and the commands and options of the help,
+and says what `why` prints. The help itself has the program's name, the range and the default of each number, the exit statuses, and an
+example for each command."""
 import os
 import pathlib
 import re
