@@ -102,4 +102,5 @@ def times_are_on_one_page(_):
 
 
 TESTS = commands() + [('documents/' + test.__name__, test) for test in
-                      (first_page_is_short, texts_of_the_tour_are_examples, links_lead_somewhere, theorem_page_is_made, times_are_on_one_page)]
+                      (first_page_is_short, texts_of_the_tour_are_examples, links_lead_somewhere, theorem_page_is_made,
+                       times_are_on_one_page)]
