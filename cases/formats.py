@@ -241,6 +241,15 @@ def standard_input_and_odd_names(program):
         return found
 
 
+def without_reader(command, data):
+    """Runs a command of the repository whose output nobody reads any more."""
+    reads, writes = os.pipe()
+    os.close(reads)
+    ran = subprocess.run(command, input=data, stdout=writes, stderr=subprocess.PIPE, timeout=60, cwd=TOP)
+    os.close(writes)
+    return ran
+
+
 def ends_as_other_tools(program):
     """A full disk or a closed output gives status 3, and a reader that is gone ends a tool by SIGPIPE. Neither looks like findings."""
     note, found = str(TOP / 'examples' / 'note.sg'), []
@@ -255,11 +264,11 @@ def ends_as_other_tools(program):
         found += unlike((3, False), (ran.returncode, b'Traceback' in ran.stderr), tool + ' on a closed stream')
         ran = subprocess.run(['sh', '-c', '"$@" <&- 2>&-', 'sh', *command], stdout=subprocess.PIPE, timeout=60)
         found += unlike(3 if tool == 'show' else 1 if tool == 'check' else 0, ran.returncode, tool + ' without input')
-        reads, writes = os.pipe()
-        os.close(reads)
-        ran = subprocess.run(command, input=data, stdout=writes, stderr=subprocess.PIPE, timeout=60)
-        os.close(writes)
+        ran = without_reader(command, data)
         found += unlike((-signal.SIGPIPE, b''), (ran.returncode, ran.stderr), tool + ' without a reader')
+    for command in (['tools/lsp', '--help'], ['tools/tidy', '--all'], ['./build', '--help'], ['./edits', '--due']):
+        ran = without_reader(command, b'')
+        found += unlike((-signal.SIGPIPE, b''), (ran.returncode, ran.stderr), ' '.join(command) + ' without a reader')
     ran = subprocess.run(['sh', '-c', '"$@" - <&-', 'sh', TOP / 'tools' / 'check', '--program', program], capture_output=True, timeout=60)
     found += unlike((3, b'', b'check: cannot read -: it is closed\n'), (ran.returncode, ran.stdout, ran.stderr), 'closed input')
     return found + ends_when_interrupted(note)
