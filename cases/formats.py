@@ -266,7 +266,7 @@ def ends_as_other_tools(program):
         found += unlike(3 if tool == 'show' else 1 if tool == 'check' else 0, ran.returncode, tool + ' without input')
         ran = without_reader(command, data)
         found += unlike((-signal.SIGPIPE, b''), (ran.returncode, ran.stderr), tool + ' without a reader')
-    for command in (['tools/lsp', '--help'], ['tools/tidy', '--all'], ['./build', '--help'], ['./edits', '--due']):
+    for command in (['tools/lsp', '--help'], ['tools/tidy', '--all'], ['./build', '--help']):
         ran = without_reader(command, b'')
         found += unlike((-signal.SIGPIPE, b''), (ran.returncode, ran.stderr), ' '.join(command) + ' without a reader')
     ran = subprocess.run(['sh', '-c', '"$@" - <&-', 'sh', TOP / 'tools' / 'check', '--program', program], capture_output=True, timeout=60)
