@@ -61,13 +61,14 @@ def with_below(names):
 
 
 def copied(folder, names, left_out):
-    """Makes a repository of these crates in a folder, without these folders of each crate. `rt` finds its top by the folder .git."""
+    """Makes a repository of these crates in a folder, without these folders of each crate. `rt` finds its top by the folder .git. It writes
+    files BUILD.bazel when it makes a crate, and refuses them in a gate."""
     (folder / '.git').mkdir(parents=True, exist_ok=True)
     (folder / 'crates.txt').write_text(''.join(line + '\n' for name, line in lines().items() if name in names))
     if (TOP / 'HANDLES').exists():
         shutil.copy(TOP / 'HANDLES', folder)
     for name in names:
-        shutil.copytree(CRATES / name, folder / 'crates' / name, ignore=shutil.ignore_patterns(*left_out))
+        shutil.copytree(CRATES / name, folder / 'crates' / name, ignore=shutil.ignore_patterns(*left_out, 'BUILD.bazel'))
 
 
 def copy_kept_work(folder, names, top):
