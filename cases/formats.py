@@ -212,7 +212,7 @@ def the_worst_status(program):
     found += unlike(1, run(program, 'examples/ping.sg', 'examples/note.sg', cwd=TOP).returncode, 'found')
     ran = run(program, 'examples/note.sg', 'nowhere.sg', cwd=TOP)
     found += unlike((3, b'examples/note.sg:7:5: A01 note not owned\n'), (ran.returncode, ran.stdout), 'not there')
-    found += [] if b'nowhere.sg' in ran.stderr else ['it does not name the file: %r' % ran.stderr]
+    found += [] if b'nowhere.sg' in ran.stderr and ran.stderr.count(b'\n') == 1 else ['no line that names the file: %r' % ran.stderr]
     found += unlike(2, run(program, '--fast', cwd=TOP).returncode, 'an option')
     found += unlike(2, run(program, '--format', 'xml').returncode, 'xml')
     found += unlike(2, run(program, '--why=yes', 'examples/note.sg', cwd=TOP).returncode, 'a value of --why')
