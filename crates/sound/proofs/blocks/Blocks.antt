@@ -124,15 +124,15 @@ inside_append [] more x a bare = bare.outside x a
 inside_append (b ∷ bs) more zero a bare = refl
 inside_append (b ∷ bs) more (suc x) a bare = inside_append bs more x a bare
 
-pub freed_append : (bs more : List Block) (a : ℕ) → AreBare more → is_freed_at (bs ++ more) a ≡ is_freed_at bs a
-freed_append [] more a bare = bare.alive a
-freed_append (b ∷ bs) more zero bare = refl
-freed_append (b ∷ bs) more (suc a) bare = freed_append bs more a bare
+pub freed_beside : (bs more : List Block) (a : ℕ) → AreBare more → is_freed_at (bs ++ more) a ≡ is_freed_at bs a
+freed_beside [] more a bare = bare.alive a
+freed_beside (b ∷ bs) more zero bare = refl
+freed_beside (b ∷ bs) more (suc a) bare = freed_beside bs more a bare
 
 pub held_append : (bs more : List Block) → AreBare more → FieldsHold bs → FieldsHold (bs ++ more)
 held_append bs more bare h =
     held_same bs (bs ++ more) (λ a. fields_append bs more a bare) (λ j a. inside_append bs more j a bare)
-    (λ a. freed_append bs more a bare) h
+    (λ a. freed_beside bs more a bare) h
 
 pub queue_append : (self : ℕ) (bs more : List Block) (a : ℕ) → AreFresh self more → (block_at (bs ++ more) a).queue ≡ (block_at bs a).queue
 queue_append self [] more a fresh = fresh.queue a
