@@ -1,7 +1,10 @@
 //! The program `singcheck`: its arguments, files and exit statuses, and nothing else.
 #![tactic(auto)]
 
-use clap::error::ErrorKind;
+mod numbers;
+
+use crate::numbers::fault_of;
+use clap::error::{Error, ErrorKind};
 use singcheck::{
     Ask, Counted, Input, Open, Place, RunFault, Sink, Status, ask, ending, run_bounds, run_check,
     run_replay, run_why,
@@ -84,11 +87,20 @@ fn answer<R: AllocGlobal + Files + Print + Eprint + Threads + Wait + Sync, O: Si
         Err(refusal) if refusal.kind() == ErrorKind::OutOfMemory => {
             ending(&RunFault::Memory, "", errors)
         }
-        Err(refusal) => match refusal.print(rt) {
-            Ok(()) if refusal.use_stderr() => 2,
-            Ok(()) => 0,
-            Err(_) => ending(&RunFault::Write, "", errors),
+        Err(refusal) if refusal.kind() == ErrorKind::ValueValidation => match fault_of(words) {
+            Some(fault) => ending(&fault, "", errors),
+            None => refuse(rt, &refusal, errors),
         },
+        Err(refusal) => refuse(rt, &refusal, errors),
+    }
+}
+
+/// Prints why the command line is refused, or the help that was asked for, and returns the exit status.
+fn refuse<R: Print + Eprint, E: Sink>(rt: &R, refusal: &Error, errors: &mut E) -> u8 {
+    match refusal.print(rt) {
+        Ok(()) if refusal.use_stderr() => 2,
+        Ok(()) => 0,
+        Err(_) => ending(&RunFault::Write, "", errors),
     }
 }
 
