@@ -1,4 +1,5 @@
 """Tests devices that fail, and paths that are not regular files."""
+import errno
 import functools
 import os
 import pathlib
@@ -37,8 +38,9 @@ def run(program, *words, **more):
     return subprocess.run([program, *map(str, words)], stdin=subprocess.DEVNULL, stderr=subprocess.PIPE, timeout=60, **more)
 
 
-def cannot_read(name):
-    return b'singcheck: cannot read %s\n' % str(name).encode()
+def cannot_read(name, number):
+    """Returns the lines about an input that cannot be read: which one, and why."""
+    return ('singcheck: cannot read %s\n%s (os error %d)\n' % (name, os.strerror(number), number)).encode()
 
 
 def full_device(command, program):
@@ -47,14 +49,15 @@ def full_device(command, program):
 
 
 def closed_pipe(command, program):
-    """The output is a pipe without a reader. The test waits for that, since a process that another test starts may briefly have a copy."""
+    """The output is a pipe without a reader, which needs no words. The test waits for that, since a process that another test starts may
+    briefly have a copy."""
     read, write = os.pipe()
     os.close(read)
     ended = select.poll()
     ended.register(write, 0)
     ended.poll(60_000)
     try:
-        return compared(run(program, *WORDS[command], stdout=write), None, CANNOT_WRITE, 3)
+        return compared(run(program, *WORDS[command], stdout=write), None, b'', 3)
     finally:
         os.close(write)
 
@@ -72,13 +75,13 @@ def closed_error(command, program):
 
 
 def check_of_nothing(program):
-    return compared(run(program, 'check', 'nowhere.sg', '--workers', '0'), b'', cannot_read('nowhere.sg'), 3)
+    return compared(run(program, 'check', 'nowhere.sg', '--workers', '0'), b'', cannot_read('nowhere.sg', errno.ENOENT), 3)
 
 
 def folder(command, program):
     """A folder can be opened but not read."""
     with tempfile.TemporaryDirectory() as made:
-        return compared(run(program, command, made, *WORDS[command][2:]), b'', cannot_read(made), 3)
+        return compared(run(program, command, made, *WORDS[command][2:]), b'', cannot_read(made, errno.EISDIR), 3)
 
 
 def null(program):
@@ -120,7 +123,7 @@ def schedule_that_is_a_folder(program):
     with tempfile.TemporaryDirectory() as made:
         short = pathlib.Path(made) / 'short.sg'
         short.write_bytes(b'class K {')
-        found = compared(run(program, *WORDS['replay'][:3], made), b'', cannot_read(made), 3)
+        found = compared(run(program, *WORDS['replay'][:3], made), b'', cannot_read(made, errno.EISDIR), 3)
         found += compared(run(program, 'replay', short, 'K.Main', made), FOUND, b'', 1)
         return found + compared(run(program, *WORDS['replay'][:2], 'K.None', made), b'', b'singcheck: no entry K.None\n', 2)
 
@@ -128,7 +131,7 @@ def schedule_that_is_a_folder(program):
 def text_that_is_a_folder_and_no_schedule(program):
     """Both files are opened before either is read."""
     with tempfile.TemporaryDirectory() as made:
-        return compared(run(program, 'replay', made, 'K.Main', 'nowhere'), b'', cannot_read('nowhere'), 3)
+        return compared(run(program, 'replay', made, 'K.Main', 'nowhere'), b'', cannot_read('nowhere', errno.ENOENT), 3)
 
 
 def unreadable(program):
@@ -139,8 +142,8 @@ def unreadable(program):
         path.chmod(0)
         if os.access(path, os.R_OK):
             return []
-        found = compared(run(program, 'bounds', path), b'', cannot_read(path), 3)
-        return found + compared(run(program, *WORDS['replay'][:3], path), b'', cannot_read(path), 3)
+        found = compared(run(program, 'bounds', path), b'', cannot_read(path, errno.EACCES), 3)
+        return found + compared(run(program, *WORDS['replay'][:3], path), b'', cannot_read(path, errno.EACCES), 3)
 
 
 READERS = ('bounds', 'check', 'why', 'replay')

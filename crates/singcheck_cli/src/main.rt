@@ -1,8 +1,10 @@
 //! The program `singcheck`: its arguments, files and exit statuses, and nothing else.
 #![tactic(auto)]
 
+mod noted;
 mod numbers;
 
+use crate::noted::Noted;
 use crate::numbers::fault_of;
 use clap::error::{Error, ErrorKind};
 use singcheck::{
@@ -10,23 +12,26 @@ use singcheck::{
     run_replay, run_why,
 };
 use std::alloc::{AllocError, Global};
-use std::fs::File;
+use std::io::Write;
 use std::process::ExitCode;
 use std::rt::{Env, Files};
 use std::sync::Wait;
 use std::thread::Threads;
 use std::{env, fs, io};
 
+/// Where the answer goes.
+type Output<O> = Counted<Noted<O>>;
+
 fn main(rt: HostRuntime) -> ExitCode {
-    let mut output = Counted::new(rt.stdout());
+    let mut output = Counted::new(Noted::new(rt.stdout()));
     let mut errors = Counted::new(rt.stderr());
     ExitCode::from(run(&rt, &mut output, &mut errors))
 }
 
 /// Does what the command line asks for and returns the exit status.
-fn run<R: AllocGlobal + Env + Files + Print + Eprint + Threads + Wait + Sync, O: Sink, E: Sink>(
+fn run<R: AllocGlobal + Env + Files + Print + Eprint + Threads + Wait + Sync, O: Write, E: Sink>(
     rt: &R,
-    output: &mut O,
+    output: &mut Output<O>,
     errors: &mut E,
 ) -> u8 {
     let texts = match texts_of_words(rt) {
@@ -61,10 +66,10 @@ fn words_of(alloc: Global, texts: &[String]) -> Result<Vec<&str>, AllocError> {
     Ok(words)
 }
 
-fn answer<R: AllocGlobal + Files + Print + Eprint + Threads + Wait + Sync, O: Sink, E: Sink>(
+fn answer<R: AllocGlobal + Files + Print + Eprint + Threads + Wait + Sync, O: Write, E: Sink>(
     rt: &R,
     words: &[&str],
-    output: &mut O,
+    output: &mut Output<O>,
     errors: &mut E,
 ) -> u8 {
     match ask(rt.alloc(), words) {
@@ -100,83 +105,122 @@ fn refuse<R: Print + Eprint, E: Sink>(rt: &R, refusal: &Error, errors: &mut E) -
     match refusal.print(rt) {
         Ok(()) if refusal.use_stderr() => 2,
         Ok(()) => 0,
+        Err(error) if error.kind() == io::ErrorKind::BrokenPipe => 3,
         Err(_) => ending(&RunFault::Write, "", errors),
     }
 }
 
-fn answer_bounds<R: AllocGlobal + Files, O: Sink, E: Sink>(
+fn answer_bounds<R: AllocGlobal + Files + Eprint, O: Write, E: Sink>(
     rt: &R,
     file: &str,
-    output: &mut O,
+    output: &mut Output<O>,
     errors: &mut E,
 ) -> u8 {
-    let Ok(text) = fs::open(rt, file) else {
-        return ending(&RunFault::Read(Input::Text), file, errors);
+    let mut text = match fs::open(rt, file) {
+        Ok(text) => Counted::new(Noted::new(text)),
+        Err(error) => return unread(rt, Input::Text, file, error, errors),
     };
-    let answered = run_bounds(rt.alloc(), &mut Counted::new(text), output);
-    status(answered, file, errors)
+    let answered = run_bounds(rt.alloc(), &mut text, output);
+    status(rt, answered, file, text.device.failure, output, errors)
 }
 
-fn answer_check<R: AllocGlobal + Files + Threads + Wait + Sync, O: Sink, E: Sink>(
+fn answer_check<R: AllocGlobal + Files + Eprint + Threads + Wait + Sync, O: Write, E: Sink>(
     rt: &R,
     file: &str,
     workers: usize,
     slots: usize,
-    output: &mut O,
+    output: &mut Output<O>,
     errors: &mut E,
 ) -> u8 {
-    let Ok(text) = fs::open(rt, file) else {
-        return ending(&RunFault::Read(Input::Text), file, errors);
+    let mut text = match fs::open(rt, file) {
+        Ok(text) => Counted::new(Noted::new(text)),
+        Err(error) => return unread(rt, Input::Text, file, error, errors),
     };
-    let mut text = Counted::new(text);
     let answered = run_check(rt, &mut text, output, workers, slots, &Open);
-    status(answered, file, errors)
+    status(rt, answered, file, text.device.failure, output, errors)
 }
 
-fn answer_replay<R: AllocGlobal + Files, O: Sink, E: Sink>(
+fn answer_replay<R: AllocGlobal + Files + Eprint, O: Write, E: Sink>(
     rt: &R,
     file: &str,
     entry: &str,
     schedule: &str,
-    output: &mut O,
+    output: &mut Output<O>,
     errors: &mut E,
 ) -> u8 {
-    let Ok(text) = fs::open(rt, file) else {
-        return ending(&RunFault::Read(Input::Text), file, errors);
+    let mut text = match fs::open(rt, file) {
+        Ok(text) => Counted::new(Noted::new(text)),
+        Err(error) => return unread(rt, Input::Text, file, error, errors),
     };
-    let Ok(events) = fs::open(rt, schedule) else {
-        return ending(&RunFault::Read(Input::Schedule), schedule, errors);
+    let mut events = match fs::open(rt, schedule) {
+        Ok(events) => Counted::new(Noted::new(events)),
+        Err(error) => return unread(rt, Input::Schedule, schedule, error, errors),
     };
-    let mut text = Counted::new(text);
-    let mut events = Counted::new(events);
     let answered = run_replay(rt.alloc(), &mut text, entry.as_bytes(), &mut events, output);
-    let name = match answered {
-        Err(RunFault::Entry) => entry,
-        Err(RunFault::Read(Input::Schedule)) => schedule,
-        _ => file,
+    let (name, failure) = match answered {
+        Err(RunFault::Entry) => (entry, None),
+        Err(RunFault::Read(Input::Schedule)) => (schedule, events.device.failure),
+        _ => (file, text.device.failure),
     };
-    status(answered, name, errors)
+    status(rt, answered, name, failure, output, errors)
 }
 
-fn answer_why<R: AllocGlobal + Files, O: Sink, E: Sink>(
+fn answer_why<R: AllocGlobal + Files + Eprint, O: Write, E: Sink>(
     rt: &R,
     file: &str,
     named: Option<Place>,
-    output: &mut O,
+    output: &mut Output<O>,
     errors: &mut E,
 ) -> u8 {
-    let Ok(text) = fs::open(rt, file) else {
-        return ending(&RunFault::Read(Input::Text), file, errors);
+    let mut text = match fs::open(rt, file) {
+        Ok(text) => Counted::new(Noted::new(text)),
+        Err(error) => return unread(rt, Input::Text, file, error, errors),
     };
-    let answered = run_why(rt.alloc(), &mut Counted::new(text), output, named);
-    status(answered, file, errors)
+    let answered = run_why(rt.alloc(), &mut text, output, named);
+    status(rt, answered, file, text.device.failure, output, errors)
 }
 
-/// Returns the exit status of a run, after writing the line of its fault, if it failed.
-fn status<E: Sink>(answered: Result<Status, RunFault>, file: &str, errors: &mut E) -> u8 {
+/// Returns the exit status of a run, after writing the line of its fault, if it failed. If an input failed, `failure` says why. A closed
+/// pipe has no line, since whoever closed it knows.
+fn status<R: Eprint, O: Write, E: Sink>(
+    rt: &R,
+    answered: Result<Status, RunFault>,
+    name: &str,
+    failure: Option<io::Error>,
+    output: &Output<O>,
+    errors: &mut E,
+) -> u8 {
     match answered {
         Ok(Status::Empty) => 0,
         Ok(Status::Found) => 1,
-        Err(fault) => ending(&fault, file, errors),
+        Err(RunFault::Write) if is_closed(output) => 3,
+        Err(fault) => {
+            let status = ending(&fault, name, errors);
+            if let (RunFault::Read(_), Some(error)) = (fault, failure) {
+                let _ = rt.eprintln(error);
+            }
+            status
+        }
+    }
+}
+
+/// Writes that an input could not be opened, and why, and returns the exit status.
+fn unread<R: Eprint, E: Sink>(
+    rt: &R,
+    input: Input,
+    name: &str,
+    error: io::Error,
+    errors: &mut E,
+) -> u8 {
+    let status = ending(&RunFault::Read(input), name, errors);
+    let _ = rt.eprintln(error);
+    status
+}
+
+/// Returns whether the last write failed because nobody reads the output any more.
+fn is_closed<O: Write>(output: &Output<O>) -> bool {
+    match output.device.failure {
+        Some(error) => error.kind() == io::ErrorKind::BrokenPipe,
+        None => false,
     }
 }
