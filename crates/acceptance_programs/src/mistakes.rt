@@ -1,12 +1,17 @@
 //! Remarks on mistakes in names, and on faults of a text.
 
+ghost use Rattle.std.specs.Prelude.{◌<◌, ◌^◌, length};
+ghost use Rattle.tree.specs.Programs.{program};
+ghost use Rattle.tree.specs.Trees.{program_tree};
+
 use declarations::{Limit, Mistake, NameSort, add_twice, add_unknown, findings_of};
-use names::mistakes_of;
+use names::judge_names;
 use remarks::{Remark, fault_remark, remark};
 use source::{Place, Span, TextFault, lex};
 use std::alloc::Global;
 use std::test::Fail;
 use syntax::parse;
+use tree::Tree;
 
 /// Returns the line of a remark; a dash if there is none.
 fn line_of(alloc: Global, said: Option<Remark>) -> Result<String, Fail> {
@@ -20,12 +25,22 @@ fn line_of(alloc: Global, said: Option<Remark>) -> Result<String, Fail> {
     }
 }
 
+/// Returns all mistakes in the names of a text, in the order in which they are judged.
+fn mistakes_in(alloc: Global, tree: &Tree, text: &[u8]) -> Result<Vec<Mistake>, Fail>
+    requires few { length (program (program_tree tree.now)) < 2 ^ 32 }
+{
+    match judge_names(alloc, tree, text)? {
+        Ok(_resolved) => Ok(Vec::new(alloc)),
+        Err(mistakes) => Ok(mistakes),
+    }
+}
+
 /// Returns the remarks on the mistakes in the names of a text, a line each, in the order in which the mistakes are judged.
 fn remarks_in(alloc: Global, text: &str) -> Result<String, Fail> {
     let tokens = lex(alloc, text.as_bytes())?;
     let tree = parse(alloc, &tokens)?;
     let mut lines = String::new(alloc);
-    for mistake in &mistakes_of(alloc, &tree, text.as_bytes())? {
+    for mistake in &mistakes_in(alloc, &tree, text.as_bytes())? {
         let said = remark(alloc, text.as_bytes(), &tree.items, *mistake)?;
         lines.push_str(&line_of(alloc, said)?)?;
     }
@@ -112,7 +127,7 @@ fn findings_of_mistakes(rt: HostRuntime) -> Result<(), Fail> {
     let alloc = rt.alloc();
     let tokens = lex(alloc, text.as_bytes())?;
     let tree = parse(alloc, &tokens)?;
-    let mistakes = mistakes_of(alloc, &tree, text.as_bytes())?;
+    let mistakes = mistakes_in(alloc, &tree, text.as_bytes())?;
     let mut lines = String::new(alloc);
     for finding in &findings_of(alloc, text.as_bytes(), &mistakes)? {
         let Place { line, col } = finding.place;

@@ -1,6 +1,6 @@
 //! What texts mean: numbers, printed names and findings.
 
-use names::{NameFaults, resolve, resolve_tree};
+use names::{NameFaults, resolve};
 use program::{Contract, Resolved};
 use source::{Finding, Place, compare, lex};
 use std::alloc::Global;
@@ -11,8 +11,7 @@ use syntax::parse;
 fn resolve_text(alloc: Global, text: &str) -> Result<Resolved, Fail> {
     let tokens = lex(alloc, text.as_bytes())?;
     let tree = parse(alloc, &tokens)?;
-    let (resolved, _tree) = resolve_tree(alloc, tree, text.as_bytes())?;
-    Ok(resolved)
+    Ok(resolve(alloc, &tree, text.as_bytes())?)
 }
 
 /// Returns the findings of a result; none if it is a program.

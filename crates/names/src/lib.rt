@@ -32,4 +32,4 @@ pub use program::{
     ContractId, MOST_CONTRACTS, MOST_FIELDS, MOST_METHODS, MOST_PARAMETERS, MOST_STATES,
     MOST_VARIABLES, MessageId, MethodId, Resolved, StateId, VarId,
 };
-pub use resolving::{mistakes_of, resolve, resolve_tree};
+pub use resolving::{judge_names, resolve};

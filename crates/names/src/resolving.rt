@@ -36,25 +36,12 @@ pub fn resolve(alloc: Global, tree: &Tree, text: &[u8]) -> Result<Resolved, Name
     }
 }
 
-/// Resolves a program as `resolve` does, and returns its tree as well. If there are findings, the tree is dropped
-/// before they are written, so that they can use its memory.
-pub fn resolve_tree(alloc: Global, tree: Tree, text: &[u8]) -> Result<(Resolved, Tree), NameFaults>
-    requires { length (program (program_tree tree)) < 2 ^ 32 }
-    ensures found { IfErr result (TellsMistakes (program_of text.now tree)) }
-    ensures resolved { IfOk result (λ r. IsResolution (program_of text.now tree) r.0) }
-    ensures same { IfOk result (λ r. r.1 ≡ tree) }
-{
-    match judge_names(alloc, &tree, text)? {
-        Ok(resolved) => Ok((resolved, tree)),
-        Err(mistakes) => {
-            drop(tree);
-            Err(NameFaults::Found(findings_of(alloc, text, &mistakes)?))
-        }
-    }
-}
-
-/// Returns the resolved program, or all mistakes in its names and types.
-fn judge_names(
+/// Returns the resolved program as `resolve` does, or, if there are any, all mistakes in its names and types in the order in which they are
+/// judged. The findings of `resolve` are those of these mistakes, in the same order.
+///
+/// # Errors
+/// `Memory` if an allocation fails.
+pub fn judge_names(
     alloc: Global,
     tree: &Tree,
     text: &[u8],
@@ -72,20 +59,6 @@ fn judge_names(
     } else {
         Ok(Err(mistakes))
     }
-}
-
-/// Returns all mistakes in the names and types of a program, in the order in which they are judged. The findings of
-/// `resolve` are those of these mistakes, in the same order.
-///
-/// The tree is that of the text.
-///
-/// # Errors
-/// `Memory` if an allocation fails.
-pub fn mistakes_of(alloc: Global, tree: &Tree, text: &[u8]) -> Result<Vec<Mistake>, Memory>
-    ensures { IfOk result (λ mistakes. mistakes.items ≡ program_mistakes (program_of text.now tree.now)) }
-{
-    let scope = Scope::of(alloc, text, &tree.items)?;
-    mistakes_in(alloc, &scope)
 }
 
 /// Returns all mistakes in the names and types in scope.

@@ -10,8 +10,8 @@ use Rattle.contracts.specs.Sounds.{sound_parts}
 use Rattle.contracts.specs.declared.sound.Sound.{Sound}
 use Rattle.singcheck.specs.Answers.{IsBoundsReport, IsBoundsLine}
 use Rattle.singcheck.specs.Lines.{ok_line}
-use Rattle.singcheck.specs.Stages.{AddsLine, IsClean}
-use Rattle.singcheck.specs.declared.stages.Clean.{Clean}
+use Rattle.singcheck.specs.Judgements.{AddsLine, IsClean}
+use Rattle.singcheck.specs.declared.bounds.Clean.{Clean}
 
 -- a contract with the name of the first and the parts of the second
 abbrev pub paired_with : Contract → Sound → ContractModel

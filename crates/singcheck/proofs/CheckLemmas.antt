@@ -10,36 +10,16 @@ use Rattle.program.specs.Parts.{ContractModel}
 use Rattle.program.specs.Programs.{ProgramModel}
 use Rattle.devices.specs.declared.fault.Status.{Status}
 use Rattle.devices.specs.declared.fault.Status.TheVariants.{Empty, Found}
-use Rattle.singcheck.specs.Answers.{AreFindings}
 use Rattle.singcheck.specs.Checks.{AreCheckFindings, OfMethods, Checks, HasProgram, IsWrong}
 use Rattle.singcheck.specs.Lines.{clear_line}
-use Rattle.rules.specs.Programs.{model_of}
-use Rattle.singcheck.specs.Named.{AreBrokenOf, AreNamed, HasCleanNames, IsBuilt, IsBuiltIn}
-use Rattle.singcheck.specs.declared.programs.Built.{Built}
-use Rattle.singcheck.specs.declared.programs.Built.TheVariants as built
+use Rattle.singcheck.specs.Fronts.{HasCleanNames}
 use Rattle.singcheck.specs.Reports.{IsReport}
-use Rattle.singcheck.specs.Stages.{AreBroken}
 use Rattle.singcheck.specs.declared.report.Report.{Report}
 use Rattle.singcheck.proofs.JudgeLemmas.{none_of}
-use Rattle.singcheck.proofs.StageLemmas.{unsound}
 
 -- the report of the findings of a text is what `check` returns for it
 pub reported_is : (text bytes : List ℕ) (status : Status) (found : List FindingModel) → AreCheckFindings text found → IsReport found bytes → status ≡ Found → Checks text bytes status
 reported_is text bytes status found are told is = subst (Checks text bytes) (sym is) (record { found = found; are = are; told = told })
-
--- the same for the result of a call
-pub reported_ok : (text : List ℕ) (found : List FindingModel) → AreCheckFindings text found → (result : Result Report Memory) → IfOk result (λ r. IsReport found r.bytes.items) → IfOk result (λ r. r.status ≡ Found)
-    → IfOk result (λ r. Checks text r.bytes.items r.status)
-reported_ok text found are (Ok r) told is = reported_is text r.bytes.items r.status found are told is
-reported_ok text found are (Err fault) told is = tt
-
--- the findings of the contracts of a program whose names are clean
-pub unsound_named : (text : List ℕ) (items : List ItemTree) (p : ProgramModel) (found : List FindingModel) → HasCleanNames text items p → AreBroken p.contracts found → AreFindings text found
-unsound_named text items p found names broken = unsound text p.contracts found (record { items = items; parsed = names.parsed; clean = names.clean; are = ap (λ (q : ProgramModel). q.contracts) names.is }) broken
-
--- the findings of the contracts of a text
-pub broken_findings : (text : List ℕ) (contracts : List ContractModel) (found : List FindingModel) → AreBrokenOf text contracts found → AreFindings text found
-broken_findings text contracts found are = unsound text contracts found are.resolved are.broken
 
 -- if its contracts are sound, this is the program of the text
 abbrev pub has_program : (text : List ℕ) (items : List ItemTree) (p : ProgramModel) → HasCleanNames text items p → All (λ c. IsSound c.parts) p.contracts → HasProgram text p
@@ -77,15 +57,3 @@ pub clear_ok : (p : ProgramModel) (found : List Finding) → found ≡ [] → Ar
     → IfOk result (λ r. (text : List ℕ) → HasProgram text p → Checks text r.bytes.items r.status)
 clear_ok p found none are (Ok r) bytes is = λ text has. subst (Checks text r.bytes.items) (sym is) (clear_is text r.bytes.items p found has none are bytes)
 clear_ok p found none are (Err fault) bytes is = tt
-
--- the result for a text, given the result for its names and its contracts
-pub built_of : (text : List ℕ) (items : List ItemTree) (p : ProgramModel) → AreNamed text items p → (b : Built) → IsBuilt p b → IsBuiltIn text b
-built_of text items p named (built.Broken methods findings) is = subst (λ l. AreBrokenOf text l (map finding_model findings.items)) (sym is.0) (record {
-  resolved = record { items = items; parsed = named.names.parsed; clean = named.names.clean; are = ap (λ (q : ProgramModel). q.contracts) named.names.is };
-  whole = named.whole;
-  room = named.room;
-  broken = is.1;
-})
-built_of text items p named (built.Program program) one =
-    let same = subst (AreNamed text items) (sym one.same) named in
-    record { has = has_program text items (model_of program) same.names one.sound; few = same.few; safe = one.safe }

@@ -1,6 +1,7 @@
 -- From the findings of methods, each with its trace, to the report of `why`.
 use Rattle.std.proofs.Common.{◌≡◌, ◌↔◌, ℕ, ◌+◌, ◌<◌, ◌≤◌, inl, inr, List, [], ◌∷◌, ◌++◌, Option, length, get_or, map, take, refl, sym, ap, subst, arith, append_assoc, append-nil, ◌∙◌}
-use Rattle.std.specs.Prelude.{◌≢◌, All, Contains, Err, IfOk, Ok, Result}
+use Rattle.std.specs.Global.{Global}
+use Rattle.std.specs.Prelude.{◌≢◌, All, Contains, Err, IfOk, Ok, Result, Vec}
 use Rattle.std.specs.List.{flat_map}
 use Rattle.std.specs.List.Sorted.{IsStrictlySortedBy}
 use Rattle.std.proofs.lemmas.Grind.{flat_map-append}
@@ -21,15 +22,16 @@ use Rattle.traces.specs.declared.line.Line.{Line}
 use Rattle.program.specs.Parts.{ContractModel}
 use Rattle.devices.specs.declared.fault.Status.TheVariants.{Empty, Found}
 use Rattle.singcheck.specs.Answers.{AreFindings, IsBroken, IsProgram, OfNames, OfSyntax, OfText}
-use Rattle.names.specs.Findings.{program_findings}
+use Rattle.declarations.specs.Mistakes.{finding_in}
+use Rattle.declarations.specs.declared.mistake.Mistake.{Mistake}
+use Rattle.names.specs.Findings.{program_findings, program_mistakes}
 use Rattle.tree.specs.Trees.{ItemTree}
 use Rattle.singcheck.specs.Remarked.{HasFault, IsMistake}
 use Rattle.singcheck.specs.Checks.{HasProgram, IsWrong}
-use Rattle.singcheck.specs.Explains.{AreExplained, Bare, ByContract, ByFault, ByMistake, ByTokens, Explains, IsExplainedText, IsExplainedIn, IsExplainedFinding, IsShownIn, explained_bytes, explained_lines}
+use Rattle.singcheck.specs.Explains.{AreExplained, ByContract, ByFault, ByMistake, ByTokens, Explains, IsExplainedIn, IsExplainedFinding, IsShownIn, explained_bytes, explained_lines}
 use Rattle.singcheck.specs.Lines.{clear_line, count_line, finding_line, trace_line}
-use Rattle.singcheck.specs.Named.{AreBrokenOf}
-use Rattle.singcheck.specs.Unexpected.{IsAskedUnexpected}
-use Rattle.singcheck.specs.Reports.{IsReport}
+use Rattle.singcheck.specs.Fronts.{AreBrokenOf}
+use Rattle.singcheck.specs.Unexpected.{IsUnexpected}
 use Rattle.singcheck.specs.declared.report.Report.{Report}
 use Rattle.contracts.proofs.PartLemmas.{contains_map}
 use Rattle.singcheck.proofs.JudgeLemmas.{none_of}
@@ -38,31 +40,6 @@ use Rattle.singcheck.proofs.StageLemmas.{unsound}
 explained_view : (xs : List Explained) → map (λ (e : ExplainedModel). e.finding) (map explained_model xs) ≡ map (λ (e : Explained). finding_model e.finding) xs
 explained_view [] = refl
 explained_view (x ∷ xs) = ap (λ l. finding_model x.finding ∷ l) (explained_view xs)
-
--- a finding without lines
-abbrev bare : FindingModel → ExplainedModel
-bare f = record { finding = f; lines = [] }
-
-bare_view : (fs : List FindingModel) → map (λ (e : ExplainedModel). e.finding) (map bare fs) ≡ fs
-bare_view [] = refl
-bare_view (f ∷ fs) = ap (λ l. f ∷ l) (bare_view fs)
-
-bare_lines : (fs : List FindingModel) → flat_map explained_lines (map bare fs) ≡ flat_map finding_line fs
-bare_lines fs = flat_map-map explained_lines bare fs ∙ ap (λ (each : FindingModel → List ℕ). flat_map each fs) (λ i f. append-nil (finding_line f) i)
-
--- the report of findings before the methods
-pub explains_before : (named : Option Place) (text : List ℕ) (found : List FindingModel) → AreFindings text found → (result : Result Report Memory) → IfOk result (λ r. IsReport found r.bytes.items) → IfOk result (λ r. r.status ≡ Found)
-    → IfOk result (λ r. Explains named text r.bytes.items r.status)
-explains_before named text found are (Ok r) told is = subst (Explains named text r.bytes.items) (sym is) (inl (record {
-  found = found;
-  are = are;
-  listed = map bare told.listed;
-  same = subst (AreExactly (Contains found)) (sym (bare_view told.listed)) told.same;
-  each = All-map (IsExplainedFinding named text) bare told.listed (λ k d lt. Bare refl);
-  ordered = subst (IsStrictlySortedBy report_cmp) (sym (bare_view told.listed)) told.ordered;
-  is = told.is ∙ ap (λ b. b ++ count_line (length told.listed)) (sym (bare_lines told.listed)) ∙ ap (λ n. flat_map explained_lines (map bare told.listed) ++ count_line n) (sym (length-map told.listed bare));
-}))
-explains_before named text found are (Err fault) told is = tt
 
 -- all findings of the first stage with findings, in order
 pub explains_noted : (named : Option Place) (text bytes : List ℕ) (found listed : List Explained) → AreExplained named text (map explained_model found)
@@ -80,13 +57,11 @@ explains_noted named text bytes found listed all same among ordered bytes_are = 
 })
 
 -- an unexpected token
-pub syntax_explained : (named : Option Place) (text : List ℕ) (e : Explained) → IsAskedUnexpected named text (explained_model e) → AreExplained named text (explained_model e ∷ [])
-syntax_explained named text e is =
-    let u = is.unexpected in
-    record {
-      are = OfSyntax (record { tokens = u.tokens; lexed = u.lexed; number = u.number; wrong = u.wrong; are = ap (λ f. f ∷ []) u.finding });
-      each = All-cons (IsExplainedFinding named text) (explained_model e) [] (ByTokens is) (All-nil (IsExplainedFinding named text));
-    }
+pub syntax_explained : (named : Option Place) (text : List ℕ) (e : Explained) → IsUnexpected named text (explained_model e) → AreExplained named text (explained_model e ∷ [])
+syntax_explained named text e is = record {
+  are = OfSyntax (record { tokens = is.tokens; lexed = is.lexed; number = is.number; wrong = is.wrong; are = ap (λ f. f ∷ []) is.finding });
+  each = All-cons (IsExplainedFinding named text) (explained_model e) [] (ByTokens is) (All-nil (IsExplainedFinding named text));
+}
 
 -- a fault of the text
 pub fault_explained : (named : Option Place) (text : List ℕ) (e : Explained) → HasFault named text (explained_model e) → AreExplained named text (explained_model e ∷ [])
@@ -96,21 +71,23 @@ fault_explained named text e is = record {
 }
 
 -- all mistakes in the names of the text
-pub names_explained : (named : Option Place) (text : List ℕ) (items : List ItemTree) (found : List Explained) → IsProgram text items → map (λ e. finding_model e.finding) found ≡ program_findings (record { text = text; items = items })
-    → All (λ e. IsMistake named (record { text = text; items = items }) (explained_model e)) found → IsExplainedText named text (map explained_model found)
-names_explained named text items found parsed all each = λ some. record {
+pub names_explained : (named : Option Place) (text : List ℕ) (items : List ItemTree) (found : List Explained) → IsProgram text items
+    → program_mistakes (record { text = text; items = items }) ≢ []
+    → map (λ e. finding_model e.finding) found ≡ program_findings (record { text = text; items = items })
+    → All (λ e. IsMistake named (record { text = text; items = items }) (explained_model e)) found → AreExplained named text (map explained_model found)
+names_explained named text items found parsed some all each = record {
   are = OfNames (record {
     items = items;
     parsed = parsed;
-    some = λ none. some (no_view found (sym (explained_view found) ∙ none));
+    some = λ none. some (no_mistakes (program_mistakes (record { text = text; items = items })) (sym (explained_view found ∙ all) ∙ none));
     are = subst (AreExactly (Contains (program_findings (record { text = text; items = items })))) (sym (explained_view found ∙ all)) (record { right = λ f h. h; all = λ f h. h });
   });
   each = All-map (IsExplainedFinding named text) explained_model found (All-weaker (λ (e : Explained). IsMistake named (record { text = text; items = items }) (explained_model e)) (λ (e : Explained). IsExplainedFinding named text (explained_model e)) (λ e h. ByMistake (record { items = items; parsed = parsed; is = h })) found each);
 }
   where
-    no_view : (xs : List Explained) → map (λ (e : Explained). finding_model e.finding) xs ≡ [] → map explained_model xs ≡ []
-    no_view [] none = refl
-    no_view (x ∷ xs) none = cc
+    no_mistakes : (ms : List Mistake) → map (finding_in text) ms ≡ [] → ms ≡ []
+    no_mistakes [] none = refl
+    no_mistakes (m ∷ ms) none = absurd (cc)
 
 -- the findings of contracts, with the edges that show them
 pub contracts_explained : (named : Option Place) (text : List ℕ) (contracts : List ContractModel) (some : List FindingModel) (found : List Explained) → AreBrokenOf text contracts some → AreExactly (IsBroken contracts) (map (λ e. finding_model e.finding) found)
@@ -185,3 +162,11 @@ report_end all n answer new over is counted =
     counted
     ∙ ap (λ b. b ++ count_line (length all)) (is ∙ ap (flat_map (λ e. explained_lines (explained_model e))) (take_all n all over) ∙ sym (flat_map-map explained_lines explained_model all))
     ∙ ap (λ k. flat_map explained_lines (map explained_model all) ++ count_line k) (sym (length-map all explained_model))
+
+-- one finding with its lines
+pub explained_alone : {named : Option Place} {text : List ℕ} (Is : ExplainedModel → Type 0)
+    → ((e : Explained) → Is (explained_model e) → AreExplained named text (explained_model e ∷ [])) → (e : Explained) → Is (explained_model e)
+    → (result : Result (Vec Explained Global) Memory) → IfOk result (λ found. found.items ≡ e ∷ [])
+    → IfOk result (λ found. AreExplained named text (map explained_model found.items))
+explained_alone {named} {text} Is all e is (Ok found) one = subst (λ l. AreExplained named text (map explained_model l)) (sym one) (all e is)
+explained_alone Is all e is (Err m) one = tt

@@ -12,7 +12,8 @@ use Rattle.contracts.specs.Conditions.{AreExactly, IsSound}
 use Rattle.contracts.specs.Sounds.{sound_parts}
 use Rattle.contracts.specs.declared.sound.Sound.{Sound}
 use Rattle.singcheck.specs.Answers.{IsBroken}
-use Rattle.singcheck.specs.Stages.{JudgesContract, Keeps, Adds, AddsAll, AreBroken, AreJudged}
+use Rattle.singcheck.specs.Fronts.{AreBroken}
+use Rattle.singcheck.specs.Judgements.{JudgesContract, Keeps, Adds, AddsAll, AreJudged}
 use Rattle.singcheck.specs.declared.soundness.Judging.{Judging}
 
 -- the parts at an index are those of the contract there

@@ -18,7 +18,7 @@ use Rattle.devices.specs.declared.reading.TheConstants.{MAX_READ}
 use Rattle.singcheck.specs.Answers.{AreFindings, OfText, OfSyntax, OfNames, OfContracts, Answers}
 use Rattle.singcheck.specs.Checks.{AreCheckFindings, Before, OfMethods, Checks}
 use Rattle.traces.specs.Explained.{ExplainedModel}
-use Rattle.singcheck.specs.Explains.{Bare, ByContract, ByFault, ByMistake, ByTokens, Explains, IsExplainedFinding}
+use Rattle.singcheck.specs.Explains.{ByContract, ByFault, ByMistake, ByTokens, Explains, IsExplainedFinding}
 
 -- both texts are too long
 pub record AreLong (text other : List ℕ) : Type 0 where
@@ -61,8 +61,7 @@ checks_long text other bytes Empty long told = no_program text long.one told.has
 checks_long text other bytes Found long told = record { found = told.found; are = checked_long text other told.found long told.are; told = told.told }
 
 noted_long : (named : Option Place) (text other : List ℕ) → AreLong text other → (e : ExplainedModel) → IsExplainedFinding named text e → IsExplainedFinding named other e
-noted_long named text other long e (Bare none) = Bare none
-noted_long named text other long e (ByTokens is) = no_program text long.one is.unexpected.tokens is.unexpected.lexed
+noted_long named text other long e (ByTokens is) = no_program text long.one is.tokens is.lexed
 noted_long named text other long e (ByFault is) = ByFault (record { fault = is.fault; first = fault_long text other is.fault long is.first; finding = is.finding; lines = is.lines })
 noted_long named text other long e (ByMistake is) = no_program text long.one is.parsed.tokens is.parsed.lexed
 noted_long named text other long e (ByContract contracts resolved shown) = no_program text long.one resolved.parsed.tokens resolved.parsed.lexed

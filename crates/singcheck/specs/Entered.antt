@@ -13,8 +13,6 @@ use Rattle.devices.specs.declared.fault.RunFault.{RunFault}
 use Rattle.devices.specs.declared.fault.RunFault.TheVariants.{Read, Entry, Schedule, Memory}
 use Rattle.singcheck.specs.Replays.{HasEntry, LacksEntry, struct_names}
 use Rattle.singcheck.specs.declared.entering.Begun.{Begun}
-use Rattle.singcheck.specs.Stages.{IsStage}
-use Rattle.singcheck.specs.declared.stage.Stage.{Stage}
 
 -- a run may begin with this method of a program
 abbrev pub MayBegin : ProgramModel → ℕ → Type 0
@@ -34,10 +32,6 @@ pub record IsBegun (text entry : List ℕ) (b : Begun) : Type 0 where
 abbrev pub ComesIn : List ℕ → List ℕ → Option Begun → Type 0
 ComesIn text entry None = LacksEntry text entry
 ComesIn text entry (Some b) = IsBegun text entry b
-
--- the same, or the findings before the methods of the text
-abbrev pub IsEntered : List ℕ → List ℕ → Stage (Option Begun) → Type 0
-IsEntered text entry entered = IsStage text (ComesIn text entry) entered
 
 -- the errors of a replay of a schedule: it cannot be read, a line is malformed, or out of memory
 abbrev pub IsScheduledFault : RunFault → Type 0

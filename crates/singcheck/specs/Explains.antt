@@ -15,7 +15,7 @@ use Rattle.devices.specs.declared.fault.Status.TheVariants.{Empty, Found}
 use Rattle.singcheck.specs.Answers.{AreFindings, IsResolved}
 use Rattle.singcheck.specs.Checks.{HasProgram, IsClear, IsWrong}
 use Rattle.singcheck.specs.Remarked.{HasFault, HasMistake}
-use Rattle.singcheck.specs.Unexpected.{IsAskedUnexpected}
+use Rattle.singcheck.specs.Unexpected.{IsUnexpected}
 use Rattle.singcheck.specs.Lines.{count_line, finding_line, trace_line}
 
 -- a finding of one of the methods, with its trace if no other place is named
@@ -46,11 +46,10 @@ pub record AreReasons (named : Option Place) (text bytes : List ℕ) : Type 0 wh
 abbrev pub IsShownIn : Option Place → List ContractModel → ExplainedModel → Type 0
 IsShownIn named contracts e = (c : ContractModel) × Contains contracts c × IsShown named c.parts e
 
--- A finding before the methods. It has no lines; or it is an unexpected token, and no other place is named; or it is
--- a fault of the text or a mistake in its names, with its remark; or edges of contracts of the text show it.
+-- A finding before the methods: an unexpected token with the tokens that could have been there, a fault of the text or a mistake
+-- in its names with its remark, or a finding of a contract with edges that show it.
 pub data IsExplainedFinding (named : Option Place) (text : List ℕ) (e : ExplainedModel) : Type 0 where
-  Bare : e.lines ≡ [] → IsExplainedFinding named text e
-  ByTokens : IsAskedUnexpected named text e → IsExplainedFinding named text e
+  ByTokens : IsUnexpected named text e → IsExplainedFinding named text e
   ByFault : HasFault named text e → IsExplainedFinding named text e
   ByMistake : HasMistake named text e → IsExplainedFinding named text e
   ByContract : (contracts : List ContractModel) → IsResolved text contracts → IsShownIn named contracts e → IsExplainedFinding named text e
@@ -75,7 +74,3 @@ Explains named text bytes Found = IsStageExplained named text bytes ⊎ AreReaso
 pub record AreExplained (named : Option Place) (text : List ℕ) (es : List ExplainedModel) : Type 0 where
   pub are : AreFindings text (map (λ e. e.finding) es)
   pub each : All (IsExplainedFinding named text) es
-
--- if there are any, they are those findings
-abbrev pub IsExplainedText : Option Place → List ℕ → List ExplainedModel → Type 0
-IsExplainedText named text es = es ≢ [] → AreExplained named text es

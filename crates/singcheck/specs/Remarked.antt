@@ -1,5 +1,5 @@
 -- Findings of a text or its names with their remarks.
-use Rattle.std.specs.Prelude.{◌≡◌, ℕ, Bool, false, List, [], ◌∷◌, Option, None, Contains, if◌then◌else◌}
+use Rattle.std.specs.Prelude.{◌≡◌, ◌/◌, ◌||◌, ℕ, Bool, false, List, [], ◌∷◌, Option, None, Some, if◌then◌else◌, is_some, length, max, nat_lt, slice_get}
 use Rattle.std.specs.Option.{option_map_or}
 use Rattle.source.specs.Faults.{IsFault}
 use Rattle.source.specs.Findings.{fault_findings}
@@ -16,6 +16,7 @@ use Rattle.remarks.specs.Remarks.{RemarkModel, remark_of}
 use Rattle.traces.specs.Explained.{ExplainedModel, is_asked}
 use Rattle.traces.specs.Lines.{LineModel, line}
 use Rattle.singcheck.specs.Answers.{IsProgram}
+use Rattle.singcheck.specs.declared.limits.TheConstants.{MOST_LOOKED_THROUGH}
 
 -- the line of a remark, if there is one
 abbrev pub said_lines : Option RemarkModel → List LineModel
@@ -29,13 +30,19 @@ abbrev pub remark_within : Bool → ProgramText → Mistake → Option RemarkMod
 remark_within false p (mistake.Unknown name sort) = None
 remark_within within p m = remark_of p m
 
--- a mistake in the names of the text: its finding, with its remark
+-- for how many mistakes in the names of a text the nearest name is searched, so that all searches together look at as many bytes
+abbrev pub most_searched : List ℕ → ℕ
+most_searched text = MOST_LOOKED_THROUGH / max 1 (length text)
+
+-- a mistake in the names of the text, by its number: its finding, with its remark; the nearest name is searched for the first
+-- mistakes, or for all if a place is named
 pub record IsMistake (named : Option Place) (p : ProgramText) (e : ExplainedModel) : Type 0 where
+  pub number : ℕ
   pub mistake : Mistake
-  pub within : Bool
-  pub among : Contains (program_mistakes p) mistake
+  pub there : slice_get (program_mistakes p) number ≡ Some mistake
   pub finding : e.finding ≡ finding_in p.text mistake
-  pub lines : e.lines ≡ remark_lines named e.finding.place (remark_within within p mistake)
+  pub lines : e.lines ≡ remark_lines named e.finding.place
+      (remark_within (nat_lt number (most_searched p.text) || is_some named) p mistake)
 
 pub record HasMistake (named : Option Place) (text : List ℕ) (e : ExplainedModel) : Type 0 where
   pub items : List ItemTree

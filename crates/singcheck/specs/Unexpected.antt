@@ -47,21 +47,20 @@ likely_brace tokens number = if begins_item (slice_get tokens number) then slice
 abbrev pub brace_lines : List Token → ℕ → List LineModel
 brace_lines tokens number = option_map_or (λ brace. line brace.place (codes "{ is not closed") ∷ []) (likely_brace tokens number) []
 
--- The tokens of the text are no program. The finding is that of the first wrong token, or of the end, and the lines
--- list exactly the kinds of tokens that could have been there, and a brace.
-pub record IsUnexpected (text : List ℕ) (e : ExplainedModel) : Type 0 where
+-- The lines of the wrong token of this number, or of the end: exactly the kinds of tokens that could have been there, and a brace.
+pub record AreExpectedLines (tokens : List Token) (number : ℕ) (end place : Place) (lines : List LineModel) : Type 0 where
+  pub kinds : List Kind
+  pub exact : (kind : Kind) → Contains kinds kind ↔ IsExpected tokens number (wrong_span end (slice_get tokens number)) kind
+  pub order : IsSublist kinds ALL_KINDS
+  pub are : lines ≡ line place (expectation_of kinds) ∷ brace_lines tokens number
+
+-- The tokens of the text are no program. The finding is that of the first wrong token, or of the end, with its lines unless
+-- another place is named.
+pub record IsUnexpected (named : Option Place) (text : List ℕ) (e : ExplainedModel) : Type 0 where
   pub tokens : List Token
   pub lexed : AreTokens text tokens
   pub number : ℕ
   pub wrong : IsFirstWrong program tokens number
   pub finding : e.finding ≡ wrong_token text (slice_get tokens number)
-  pub kinds : List Kind
-  pub exact : (kind : Kind) → Contains kinds kind
-      ↔ IsExpected tokens number (wrong_span (place_of (body_of text)) (slice_get tokens number)) kind
-  pub order : IsSublist kinds ALL_KINDS
-  pub lines : e.lines ≡ line e.finding.place (expectation_of kinds) ∷ brace_lines tokens number
-
--- the same, and no other place is named
-pub record IsAskedUnexpected (named : Option Place) (text : List ℕ) (e : ExplainedModel) : Type 0 where
-  pub asked : is_asked named e.finding.place ≡ true
-  pub unexpected : IsUnexpected text e
+  pub lines : if is_asked named e.finding.place then AreExpectedLines tokens number (place_of (body_of text)) e.finding.place e.lines
+      else (e.lines ≡ [])

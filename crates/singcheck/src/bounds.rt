@@ -1,20 +1,22 @@
 //! Queue bounds of the contracts of a text.
 
-ghost use Rattle.std.specs.Prelude.{◌≡◌, ◌≢◌, ℕ, List, IfErr, IfOk, IfSome, IsErrOf, OnOk, OnErr, string_bytes};
+ghost use Rattle.std.specs.Prelude.{◌≡◌, ◌≢◌, ◌<◌, ◌^◌, ℕ, All, List, IfErr, IfOk, IfSome, IsErrOf, OnOk, OnErr, length, map, string_bytes};
 ghost use Rattle.std.specs.Io.KnownBytes.{Keeps};
 ghost use Rattle.contracts.specs.Sounds.{sound_parts};
 ghost use Rattle.devices.specs.RunFaults.{IsBoundsFault};
 ghost use Rattle.devices.specs.Runs.{Writes, BeginsAnswer, LeavesRest, TakesAtMost};
-ghost use Rattle.singcheck.specs.Answers.{Answers, IsBoundsReport};
-ghost use Rattle.singcheck.specs.Stages.{IsClean, AddsLine};
+ghost use Rattle.program.specs.Parts.{IsWhole, contract_model};
+ghost use Rattle.singcheck.specs.Answers.{Answers, IsBoundsReport, IsResolved};
+ghost use Rattle.singcheck.specs.Judgements.{AddsLine, IsClean};
 
+use crate::front::resolved_of;
 use crate::lines::{add_bounds, add_contracts};
-use crate::report::{Report, report_of};
-use crate::stage::Stage;
-use crate::stages::{Clean, run_stages};
+use crate::refusals::refused_report;
+use crate::report::{Report, finding_report};
+use crate::soundness::{Judgement, judge_contracts};
 use contracts::Sound;
 use devices::{Input, MAX_READ, RunFault, Sink, Source, Status, read_text, write_all};
-use program::{Contract, Side};
+use program::{Contract, Resolved, Side};
 use source::Memory;
 use std::alloc::Global;
 
@@ -50,17 +52,40 @@ pub fn run_bounds<R: Source, W: Sink>(
     Ok(answer.status)
 }
 
-/// Returns the answer to a text.
+/// The contracts of a text with their names resolved, and a sound one for each, in order of the text.
+#[derive(Drop)]
+struct Clean {
+    resolved: Resolved,
+    sounds: Vec<Sound>,
+}
+
+/// Returns the answer to a text. Its tree is dropped before the contracts are judged, so that these can use its memory.
 fn bounds_report(alloc: Global, text: &[u8]) -> Result<Report, Memory>
     ensures { IfOk result (λ answer. Answers text.now answer.bytes.items answer.status) }
 {
-    match run_stages(alloc, text)? {
-        Stage::Found(findings) => Ok(Report {
-            bytes: report_of(alloc, findings)?,
-            status: Status::Found,
-        }),
-        Stage::Clean(clean) => Ok(Report {
-            bytes: bounds_lines(alloc, &clean)?,
+    match resolved_of(alloc, text) {
+        Ok((resolved, tree)) => {
+            drop(tree);
+            contracts_report(alloc, resolved)
+        }
+        Err(refused) => refused_report(alloc, text, refused),
+    }
+}
+
+/// Returns the bounds of these contracts, or the report of their findings.
+fn contracts_report(alloc: Global, resolved: Resolved) -> Result<Report, Memory>
+    requires whole { All (λ c. IsWhole c.parts) (map contract_model resolved.contracts.items) }
+    requires few { length resolved.contracts.items < 2 ^ 32 }
+    ensures { IfOk result (λ answer. (text : List ℕ) → IsResolved text (map contract_model resolved.contracts.items)
+        → Answers text answer.bytes.items answer.status) }
+{
+    match judge_contracts(alloc, &resolved)? {
+        Judgement::Broken(findings) => {
+            drop(resolved);
+            finding_report(alloc, findings)
+        }
+        Judgement::Sound(sounds) => Ok(Report {
+            bytes: bounds_lines(alloc, &Clean { resolved, sounds })?,
             status: Status::Empty,
         }),
     }

@@ -7,11 +7,11 @@ ghost use Rattle.singcheck.specs.Checks.{Checks, HasProgram};
 ghost use Rattle.singcheck.specs.CheckFaults.{AreUnfit, ExplainsFault, workers_fit, slots_fit};
 ghost use Rattle.singcheck.specs.Safety.{IsSafeText};
 
+use crate::front::program_of;
 use crate::laws::one_program;
 use crate::limits::{MOST_SLOTS, MOST_WORKERS};
-use crate::programs::{Built, program_of};
+use crate::refusals::refused_report;
 use crate::report::{Report, clear, finding_report};
-use crate::stage::Stage;
 use crate::tools::Tools;
 use crate::verdicts::analyse_methods;
 use devices::{CheckFault, Status};
@@ -109,13 +109,9 @@ pub(crate) fn check_text<R: Threads + Wait + Sync, G: Gate>(
     ensures safe { IfOk result (λ r. r.status ≡ Status.Empty → IsSafeText text.now) }
 {
     one_program();
-    match program_of(tools.alloc, text)? {
-        Stage::Found(findings) => finding_report(tools.alloc, findings),
-        Stage::Clean(Built::Broken(methods, findings)) => {
-            drop(methods); // frees their memory before the report is made
-            finding_report(tools.alloc, findings)
-        }
-        Stage::Clean(Built::Program(program)) => check_methods(tools, &program),
+    match program_of(tools.alloc, text) {
+        Ok(program) => check_methods(tools, &program),
+        Err(refused) => refused_report(tools.alloc, text, refused),
     }
 }
 

@@ -1,18 +1,15 @@
 //! Entries: the method with which a run of a text begins.
 
-ghost use Rattle.std.specs.Prelude.{◌≡◌, ◌<◌, ◌≤◌, ◌^◌, ℕ, All, IfNone, IfOk, IfSome, Some, length};
+ghost use Rattle.std.specs.Prelude.{◌≡◌, ◌<◌, ◌≤◌, ◌^◌, ℕ, All, IfErr, IfNone, IfOk, IfSome, Some, length};
 ghost use Rattle.tree.specs.Trees.{program_tree};
 ghost use Rattle.contracts.specs.Conditions.{IsSound};
 ghost use Rattle.program.specs.declared.limits.TheConstants.{MOST_METHODS};
 ghost use Rattle.rules.specs.Programs.{model_of};
-ghost use Rattle.singcheck.specs.Entered.{MayBegin, ComesIn, IsEntered};
-ghost use Rattle.singcheck.specs.Named.{HasCleanNames};
-ghost use Rattle.singcheck.specs.Stages.{IsProgramOf};
+ghost use Rattle.singcheck.specs.Entered.{MayBegin, ComesIn};
+ghost use Rattle.singcheck.specs.Fronts.{HasCleanNames, IsRefused};
 
 use crate::entries::{entry_index, struct_names};
-use crate::programs::{Built, Named, judged_program, named_methods};
-use crate::stage::Stage;
-use crate::stages::parse_text;
+use crate::front::{Refused, judged_program, methods_of};
 use program::MethodId;
 use rules::Program;
 use source::Memory;
@@ -27,42 +24,15 @@ pub(crate) struct Begun {
     pub(crate) structs: Vec<String>,
 }
 
-/// Runs the stages of a text before its methods, and then looks up the entry. `None` if the text has no such method,
-/// or a run may not begin with it.
-pub(crate) fn enter(
-    alloc: Global,
-    text: &[u8],
-    entry: &[u8],
-) -> Result<Stage<Option<Begun>>, Memory>
-    ensures { IfOk result (IsEntered text.now entry.now) }
+/// Returns the run of a text that begins with the entry. `None` if the text has no such method, or a run may not
+/// begin with it.
+pub(crate) fn enter(alloc: Global, text: &[u8], entry: &[u8]) -> Result<Option<Begun>, Refused>
+    ensures begun { IfOk result (ComesIn text.now entry.now) }
+    ensures refused { IfErr result (IsRefused text.now) }
 {
-    match parse_text(alloc, text)? {
-        Stage::Found(findings) => Ok(Stage::Found(findings)),
-        Stage::Clean(tree) => enter_program(alloc, text, tree, entry),
-    }
-}
-
-/// Runs the stages of names and contracts, and then looks up the entry.
-fn enter_program(
-    alloc: Global,
-    text: &[u8],
-    tree: Tree,
-    entry: &[u8],
-) -> Result<Stage<Option<Begun>>, Memory>
-    requires program { IsProgramOf text.now tree }
-    ensures { IfOk result (IsEntered text.now entry.now) }
-{
-    let Named { methods, tree } = match named_methods(alloc, tree, text)? {
-        Stage::Found(findings) => return Ok(Stage::Found(findings)),
-        Stage::Clean(named) => named,
-    };
-    match judged_program(alloc, methods)? {
-        Built::Broken(_, findings) => Ok(Stage::Found(findings)),
-        Built::Program(program) => {
-            let begun = enter_method(alloc, text, &tree, program, entry)?;
-            Ok(Stage::Clean(begun))
-        }
-    }
+    let (methods, tree) = methods_of(alloc, text)?;
+    let program = judged_program(alloc, methods)?;
+    Ok(enter_method(alloc, text, &tree, program, entry)?)
 }
 
 /// Looks up the entry in a program without findings before its methods.

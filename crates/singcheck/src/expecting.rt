@@ -1,6 +1,6 @@
 //! Why a text is no program: the tokens with which it could have gone on.
 
-ghost use Rattle.std.specs.Prelude.{◌≡◌, ◌++◌, ◌≤◌, IfOk, IfSome, OnOk, List, ℕ, codes, length, map, slice_get};
+ghost use Rattle.std.specs.Prelude.{◌≡◌, ◌++◌, ◌≤◌, IfOk, OnOk, List, ℕ, codes, length, map, slice_get};
 ghost use Rattle.source.specs.Marks.{body_of};
 ghost use Rattle.source.specs.Places.{place_of};
 ghost use Rattle.source.specs.Tokens.{AreTokens};
@@ -9,16 +9,16 @@ ghost use Rattle.tree.specs.Programs.{program};
 ghost use Rattle.traces.specs.Explained.{explained_model};
 ghost use Rattle.expected.specs.Expectations.{expectation_of};
 ghost use Rattle.traces.specs.Lines.{line, line_model};
-ghost use Rattle.singcheck.specs.Unexpected.{IsAskedUnexpected, begins_item, brace_lines, likely_brace, wrong_span};
+ghost use Rattle.singcheck.specs.Unexpected.{AreExpectedLines, IsUnexpected, begins_item, brace_lines, likely_brace, wrong_span};
 
-use crate::stages::{finding_at, token_at};
+use crate::refusals::{finding_at, token_at};
 use expected::{expectation, expected_kinds, fault_is_within, open_brace};
 use source::{Kind, Memory, Place, Span, Token, Tokens};
 use std::alloc::Global;
 use traces::{Explained, Line, is_asked};
 
 /// Explains the first wrong token, which has this number, or the end: lists the tokens that could have been there,
-/// and a brace that is likely not closed. `None` if another place is named.
+/// and a brace that is likely not closed. If another place is named, there are no lines.
 ///
 /// It takes the time of about 65 parses of the text.
 ///
@@ -29,21 +29,37 @@ pub(crate) fn explain_at(
     tokens: &Tokens,
     number: usize,
     named: Option<Place>,
-) -> Result<Option<Explained>, Memory>
+) -> Result<Explained, Memory>
     requires wrong { IsFirstWrong program tokens.now.list.items number }
     ensures { (text : List ℕ) → AreTokens text tokens.now.list.items → tokens.now.end ≡ place_of (body_of text)
-        → IfOk result (λ found. IfSome found (λ e. IsAskedUnexpected named text (explained_model e))) }
+        → IfOk result (λ e. IsUnexpected named text (explained_model e)) }
+{
+    let finding = finding_at(alloc, tokens, number)?;
+    let lines = if is_asked(named, finding.place) {
+        expected_lines(alloc, tokens, number, finding.place)?
+    } else {
+        Vec::new(alloc)
+    };
+    Ok(Explained { finding, lines })
+}
+
+/// Returns the lines of a wrong token at this place: the kinds of tokens that could have been there, and a brace that is
+/// likely not closed.
+fn expected_lines(
+    alloc: Global,
+    tokens: &Tokens,
+    number: usize,
+    place: Place,
+) -> Result<Vec<Line>, Memory>
+    requires wrong { IsFirstWrong program tokens.now.list.items number }
+    ensures { IfOk result (λ lines. AreExpectedLines tokens.now.list.items number tokens.now.end place (map line_model lines.items)) }
 {
     fault_is_within();
-    let finding = finding_at(alloc, tokens, number)?;
-    if !is_asked(named, finding.place) {
-        return Ok(None);
-    }
     let kinds = expected_kinds(alloc, tokens, number, span_at(tokens, number))?;
     let mut lines = Vec::new(alloc);
-    lines.push(expectation_line(alloc, finding.place, &kinds)?)?;
+    lines.push(expectation_line(alloc, place, &kinds)?)?;
     add_brace(alloc, tokens, number, &mut lines)?;
-    Ok(Some(Explained { finding, lines }))
+    Ok(lines)
 }
 
 /// Returns the line that lists the expected kinds of tokens at a place.

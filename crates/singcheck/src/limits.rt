@@ -10,3 +10,6 @@ pub const MOST_SLOTS: usize = intern::MOST_SLOTS;
 
 /// The most bytes of a schedule that are read: one more than it may have.
 pub const MAX_SCHEDULE_READ: usize = MOST_SCHEDULE + 1;
+
+/// The most bytes of a text that are searched for all its nearest names together.
+pub const MOST_LOOKED_THROUGH: usize = 1 << 26;

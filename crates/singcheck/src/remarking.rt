@@ -1,106 +1,73 @@
-//! Findings of a text and its names, with their remarks.
+//! The findings of a text that has no program, with lines that explain them.
 
-ghost use Rattle.std.specs.Prelude.{◌≡◌, ◌≢◌, ◌++◌, IfOk, OnOk, List, ℕ, map, option_map};
+ghost use Rattle.std.specs.Prelude.{◌≡◌, ◌≢◌, ◌∷◌, [], ◌++◌, IfOk, OnOk, List, ℕ, map, option_map};
 ghost use Rattle.source.specs.Faults.{IsFault};
 ghost use Rattle.source.specs.Findings.{finding_model};
-ghost use Rattle.source.specs.Marks.{body_of};
-ghost use Rattle.source.specs.Places.{place_of};
-ghost use Rattle.source.specs.Tokens.{AreTokens};
-ghost use Rattle.syntax.specs.Parsing.{IsFirstWrong};
-ghost use Rattle.tree.specs.Programs.{program};
-ghost use Rattle.tree.specs.Trees.{program_tree};
 ghost use Rattle.declarations.specs.Mistakes.{finding_in};
 ghost use Rattle.declarations.specs.Program.{program_of};
 ghost use Rattle.remarks.specs.Remarks.{remark_model};
 ghost use Rattle.traces.specs.Explained.{explained_model};
 ghost use Rattle.traces.specs.Lines.{line_model};
-ghost use Rattle.singcheck.specs.Answers.{IsProgram};
-ghost use Rattle.singcheck.specs.Explains.{IsExplainedText};
-ghost use Rattle.singcheck.specs.Remarked.{remark_lines, remark_within, said_lines};
+ghost use Rattle.singcheck.specs.Explains.{AreExplained};
+ghost use Rattle.singcheck.specs.Fronts.{AreMistaken, IsRefused};
+ghost use Rattle.singcheck.specs.Remarked.{HasFault, most_searched, remark_lines, remark_within, said_lines};
 
 use crate::expecting::explain_at;
-use crate::stages::fault_finding;
-use names::{Mistake, mistakes_of};
+use crate::explaining::explain_contracts;
+use crate::front::Refused;
+use crate::limits::MOST_LOOKED_THROUGH;
+use crate::refusals::fault_finding;
+use names::Mistake;
 use remarks::{Remark, fault_remark, remark};
-use source::{Finding, Memory, Place, TextFault, Tokens, lex};
+use source::{Finding, Memory, Place, TextFault};
 use std::alloc::Global;
-use syntax::{SyntaxFault, parse};
 use traces::{Explained, Line, is_asked};
 use tree::Tree;
 
-/// The most bytes of a text that are searched for all its nearest names together.
-const MOST_LOOKED_THROUGH: usize = 1 << 26;
-
-/// Returns the findings of a text, its tokens or its names, each with its remark, in no order. If a place is named,
-/// only findings there have lines, and an unexpected token at another place is left out.
+/// Returns the findings of a text that has no program, in no order. If a place is named, only findings there have lines.
 ///
 /// # Errors
-/// `Memory` if out of memory.
-pub(crate) fn explain_text(
+/// `Memory` if out of memory, also while the text was read.
+pub(crate) fn explain_refused(
     alloc: Global,
     text: &[u8],
+    refused: Refused,
     named: Option<Place>,
 ) -> Result<Vec<Explained>, Memory>
-    ensures { IfOk result (λ found. IsExplainedText named text.now (map explained_model found.items)) }
+    requires refused { IsRefused text.now refused }
+    ensures { IfOk result (λ found. AreExplained named text.now (map explained_model found.items)) }
 {
-    match lex(alloc, text) {
-        Ok(tokens) => explain_tokens(alloc, text, tokens, named),
-        Err(fault) => explain_fault(alloc, fault, named),
+    match refused {
+        Refused::Text(fault) => alone(alloc, explain_fault(alloc, fault, named)?),
+        Refused::Syntax(tokens, number) => alone(alloc, explain_at(alloc, &tokens, number, named)?),
+        Refused::Names(tree, mistakes) => explain_names(alloc, text, &tree, &mistakes, named),
+        Refused::Contracts(methods, _) => explain_contracts(alloc, methods.contracts(), named),
+        Refused::Memory => Err(Memory),
     }
 }
 
-/// Does the same, given the tokens of the text.
-fn explain_tokens(
-    alloc: Global,
-    text: &[u8],
-    tokens: Tokens,
-    named: Option<Place>,
-) -> Result<Vec<Explained>, Memory>
-    requires lexed { AreTokens text.now tokens.list.items }
-    requires end { tokens.end ≡ place_of (body_of text.now) }
-    ensures { IfOk result (λ found. IsExplainedText named text.now (map explained_model found.items)) }
-{
-    match parse(alloc, &tokens) {
-        Ok(tree) => {
-            drop(tokens); // frees their memory before the names are judged
-            explain_names(alloc, text, &tree, named)
-        }
-        Err(SyntaxFault::At(number)) => explain_wrong(alloc, &tokens, number, named),
-        Err(SyntaxFault::Memory) => Err(Memory),
-    }
-}
-
-/// Explains the first wrong token, which has this number, or the end. The list is empty if another place is named.
-fn explain_wrong(
-    alloc: Global,
-    tokens: &Tokens,
-    number: usize,
-    named: Option<Place>,
-) -> Result<Vec<Explained>, Memory>
-    requires wrong { IsFirstWrong program tokens.now.list.items number }
-    ensures { (text : List ℕ) → AreTokens text tokens.now.list.items → tokens.now.end ≡ place_of (body_of text)
-        → IfOk result (λ found. IsExplainedText named text (map explained_model found.items)) }
+/// Returns a list of one finding with its lines.
+fn alone(alloc: Global, explained: Explained) -> Result<Vec<Explained>, Memory>
+    ensures { IfOk result (λ found. found.items ≡ explained ∷ []) }
 {
     let mut found = Vec::new(alloc);
-    match explain_at(alloc, tokens, number, named)? {
-        Some(explained) => found.push(explained)?,
-        None => {}
-    }
+    found.push(explained)?;
     Ok(found)
 }
 
-/// Explains all mistakes in the names of a text.
+/// Explains all mistakes in the names of a text. For the first `most_searched` of them, or for all if a place is named,
+/// the nearest name is searched.
 fn explain_names(
     alloc: Global,
     text: &[u8],
     tree: &Tree,
+    mistakes: &[Mistake],
     named: Option<Place>,
 ) -> Result<Vec<Explained>, Memory>
-    requires parsed { IsProgram text.now (program_tree tree.now) }
-    ensures { IfOk result (λ found. IsExplainedText named text.now (map explained_model found.items)) }
+    requires mistaken { AreMistaken text.now tree.now mistakes.now }
+    ensures { IfOk result (λ found. AreExplained named text.now (map explained_model found.items)) }
 {
-    let mistakes = mistakes_of(alloc, tree, text)?;
-    let most = most_looked_for(text);
+    let most = most_searched(text);
     let mut found = Vec::new(alloc);
     for (number, mistake) in mistakes.iter().enumerate() {
         let within = number < most || named.is_some();
@@ -111,7 +78,9 @@ fn explain_names(
 
 /// Returns for how many mistakes in the names of a text the nearest name is searched. Each search may go through the
 /// whole text, so a longer text has fewer.
-fn most_looked_for(text: &[u8]) -> usize {
+fn most_searched(text: &[u8]) -> usize
+    ensures { result ≡ most_searched text.now }
+{
     MOST_LOOKED_THROUGH / text.len().max(1)
 }
 
@@ -159,19 +128,13 @@ fn remark_within(
 }
 
 /// Explains the first fault of a text.
-fn explain_fault(
-    alloc: Global,
-    fault: TextFault,
-    named: Option<Place>,
-) -> Result<Vec<Explained>, Memory>
+fn explain_fault(alloc: Global, fault: TextFault, named: Option<Place>) -> Result<Explained, Memory>
     ensures { (text : List ℕ) → (fault ≢ TextFault.Memory → IsFault text fault)
-        → IfOk result (λ found. IsExplainedText named text (map explained_model found.items)) }
+        → IfOk result (λ e. HasFault named text (explained_model e)) }
 {
     let finding = fault_finding(alloc, fault)?;
     let said = fault_remark(alloc, fault)?;
-    let mut found = Vec::new(alloc);
-    found.push(explained_by(alloc, finding, said, named)?)?;
-    Ok(found)
+    explained_by(alloc, finding, said, named)
 }
 
 /// Returns a finding with its remark, if there is one and no other place is named.

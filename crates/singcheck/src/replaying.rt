@@ -15,8 +15,8 @@ use crate::laws::{
     each_program_has_bounds, each_program_is_well_formed, findings_or_program, one_program,
 };
 use crate::limits::MAX_SCHEDULE_READ;
-use crate::report::{Report, report_of};
-use crate::stage::Stage;
+use crate::refusals::refused_report;
+use crate::report::Report;
 use devices::{Input, MAX_READ, RunFault, Sink, Source, Status, read_text, read_up_to, write_all};
 use machine::{Event, Halt, replay};
 use replays::laws::a_front_tells_all;
@@ -112,13 +112,10 @@ fn answer_to<Q: Source>(
     findings_or_program();
     empty_report_is_safe();
     runs_are_bounded();
-    match enter(alloc, text, entry)? {
-        Stage::Found(findings) => Ok(Report {
-            bytes: report_of(alloc, findings)?,
-            status: Status::Found,
-        }),
-        Stage::Clean(None) => Err(RunFault::Entry),
-        Stage::Clean(Some(begun)) => run_schedule(alloc, &begun, schedule),
+    match enter(alloc, text, entry) {
+        Ok(Some(begun)) => run_schedule(alloc, &begun, schedule),
+        Ok(None) => Err(RunFault::Entry),
+        Err(refused) => Ok(refused_report(alloc, text, refused)?),
     }
 }
 

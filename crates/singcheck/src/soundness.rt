@@ -2,19 +2,24 @@
 
 ghost use Rattle.std.specs.Prelude.{◌≡◌, ◌++◌, ◌<◌, ◌^◌, All, IfOk, OnOk, Some, length, map, slice_get};
 ghost use Rattle.program.specs.Parts.{ContractModel, IsWhole, contract_model};
-ghost use Rattle.singcheck.specs.Stages.{IsJudgement, JudgesContract};
+ghost use Rattle.singcheck.specs.Judgements.{IsJudgement, JudgesContract};
 
-use crate::stage::Stage;
 use contracts::{Judged, Sound, edges};
 use program::{ContractId, Resolved};
 use source::{Finding, Memory};
 use std::alloc::Global;
 
+/// What the four conditions say of the contracts of a text.
+#[derive(Drop)]
+pub(crate) enum Judgement {
+    /// The findings of all contracts, at least one.
+    Broken(Vec<Finding>),
+    /// No findings: the contracts as sound ones, in order of the text.
+    Sound(Vec<Sound>),
+}
+
 /// Returns the contracts as sound ones, or the findings of those that are not sound.
-pub(crate) fn judge_contracts(
-    alloc: Global,
-    resolved: &Resolved,
-) -> Result<Stage<Vec<Sound>>, Memory>
+pub(crate) fn judge_contracts(alloc: Global, resolved: &Resolved) -> Result<Judgement, Memory>
     requires whole { All (λ c. IsWhole c.parts) (map contract_model resolved.now.contracts.items) }
     requires few { length resolved.now.contracts.items < 2 ^ 32 }
     ensures { IfOk result (IsJudgement (map contract_model resolved.now.contracts.items)) }
@@ -28,9 +33,9 @@ pub(crate) fn judge_contracts(
     }
     let Judging { sounds, findings } = judging;
     if findings.is_empty() {
-        Ok(Stage::Clean(sounds))
+        Ok(Judgement::Sound(sounds))
     } else {
-        Ok(Stage::Found(findings))
+        Ok(Judgement::Broken(findings))
     }
 }
 

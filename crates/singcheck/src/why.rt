@@ -1,30 +1,22 @@
 //! Explains the findings of a text.
 
-ghost use Rattle.std.specs.Prelude.{◌≡◌, ◌≢◌, ◌<◌, ◌^◌, ℕ, All, List, Option, IfErr, IfOk, IfSome, IsErrOf, OnOk, OnErr, length, map};
+ghost use Rattle.std.specs.Prelude.{◌≡◌, ◌≢◌, ℕ, List, IfErr, IfOk, IfSome, IsErrOf, OnOk, OnErr};
 ghost use Rattle.std.specs.Io.KnownBytes.{Keeps};
-ghost use Rattle.program.specs.Parts.{IsWhole, contract_model};
 ghost use Rattle.rules.specs.Programs.{model_of};
-ghost use Rattle.source.specs.Findings.{FindingModel, finding_model};
-ghost use Rattle.source.specs.declared.place.Place.{Place as PlaceModel};
-ghost use Rattle.traces.specs.Explained.{explained_model};
 ghost use Rattle.devices.specs.RunFaults.{IsBoundsFault};
 ghost use Rattle.devices.specs.Runs.{Writes, BeginsAnswer, LeavesRest, TakesAtMost};
-ghost use Rattle.singcheck.specs.Answers.{AreFindings};
 ghost use Rattle.singcheck.specs.Checks.{HasProgram};
-ghost use Rattle.singcheck.specs.Explains.{AreExplained, Explains};
-ghost use Rattle.singcheck.specs.Named.{AreBrokenOf};
+ghost use Rattle.singcheck.specs.Explains.{Explains};
+ghost use Rattle.singcheck.specs.Fronts.{IsRefused};
 
-use crate::explaining::{explain_contracts, explain_methods, explained_in_order, explained_report};
-use crate::programs::{Built, program_of};
-use crate::remarking::explain_text;
-use crate::report::{Report, clear, finding_report};
-use crate::stage::Stage;
+use crate::explaining::{explain_methods, explained_in_order, explained_report};
+use crate::front::{Refused, program_of};
+use crate::remarking::explain_refused;
+use crate::report::{Report, clear};
 use devices::{Input, MAX_READ, RunFault, Sink, Source, Status, read_text, write_all};
-use program::Resolved;
 use rules::Program;
-use source::{Finding, Memory, Place};
+use source::{Memory, Place};
 use std::alloc::Global;
-use traces::Explained;
 
 /// Reads a program text and writes the report of `check`, with lines that explain the findings.
 ///
@@ -65,58 +57,28 @@ pub fn run_why<R: Source, W: Sink>(
 fn why_of(alloc: Global, text: &[u8], named: Option<Place>) -> Result<Report, Memory>
     ensures { IfOk result (λ answer. Explains named text.now answer.bytes.items answer.status) }
 {
-    match program_of(alloc, text)? {
-        Stage::Found(findings) => why_text(alloc, text, findings, named),
-        Stage::Clean(Built::Broken(methods, _)) => {
-            report_of_contracts(alloc, methods.contracts(), named)
-        }
-        Stage::Clean(Built::Program(program)) => why_methods(alloc, &program, named),
+    match program_of(alloc, text) {
+        Ok(program) => why_methods(alloc, &program, named),
+        Err(refused) => why_refused(alloc, text, refused, named),
     }
 }
 
-/// Returns the answer to a text with these findings before its contracts.
-fn why_text(
+/// Returns the answer to a text that has no program.
+fn why_refused(
     alloc: Global,
     text: &[u8],
-    findings: Vec<Finding>,
+    refused: Refused,
     named: Option<Place>,
 ) -> Result<Report, Memory>
-    requires { AreFindings text.now (map finding_model findings.items) }
+    requires refused { IsRefused text.now refused }
     ensures { IfOk result (λ answer. Explains named text.now answer.bytes.items answer.status) }
 {
-    let explained = explain_text(alloc, text, named)?;
-    if explained.is_empty() {
-        // an unexpected token at another place than the named one
-        return finding_report(alloc, findings);
-    }
-    why_noted(alloc, explained)
-}
-
-/// Returns the answer to a text with these findings, which are all of its first stage with findings, each with its lines.
-fn why_noted(alloc: Global, explained: Vec<Explained>) -> Result<Report, Memory>
-    ensures { IfOk result (λ answer. (named : Option PlaceModel) (text : List ℕ)
-        → AreExplained named text (map explained_model explained.items) → Explains named text answer.bytes.items answer.status) }
-{
+    let explained = explain_refused(alloc, text, refused, named)?;
     let listed = explained_in_order(explained)?;
     Ok(Report {
         bytes: explained_report(alloc, &listed)?,
         status: Status::Found,
     })
-}
-
-/// Returns the answer to a text whose contracts break conditions.
-fn report_of_contracts(
-    alloc: Global,
-    resolved: &Resolved,
-    named: Option<Place>,
-) -> Result<Report, Memory>
-    requires whole { All (λ c. IsWhole c.parts) (map contract_model resolved.now.contracts.items) }
-    requires few { length resolved.now.contracts.items < 2 ^ 32 }
-    ensures { IfOk result (λ answer. (text : List ℕ) (found : List FindingModel)
-        → AreBrokenOf text (map contract_model resolved.now.contracts.items) found → Explains named text answer.bytes.items answer.status) }
-{
-    let explained = explain_contracts(alloc, resolved, named)?;
-    why_noted(alloc, explained)
 }
 
 /// Returns the answer to a program without findings before its methods.

@@ -2,7 +2,7 @@ use Rattle.std.proofs.Common.{◌≡◌, ◌∙◌, map, sym, subst, [], arith}
 use Rattle.std.proofs.lemmas.Bool.{eqb-true, eqb-false}
 use Rattle.std.proofs.lemmas.List.{length-map, take_all}
 use Rattle.program.specs.Parts.{contract_model}
-use Rattle.singcheck.specs.Stages.{AreJudged}
+use Rattle.singcheck.specs.Judgements.{AreJudged}
 use Rattle.singcheck.proofs.JudgeLemmas.{judged_turn, no_items, found_all, clean_all}
 use Rattle.singcheck.proofs.soundness.judge_contracts.Goals as goal
 

@@ -1,6 +1,6 @@
 use Rattle.std.proofs.Common.{map, take}
 use Rattle.program.specs.Parts.{contract_model}
-use Rattle.singcheck.specs.Stages.{AreJudged}
+use Rattle.singcheck.specs.Judgements.{AreJudged}
 use Rattle.singcheck.proofs.soundness.judge_contracts.Given as goal
 
 abbrev pub invariant-loop-number : goal.invariant-loop-number
