@@ -1,6 +1,6 @@
 -- The verdicts of methods, in whatever order they arrived.
 use Rattle.std.proofs.Common.{◌≡◌, ℕ, zero, suc, ◌+◌, ◌<◌, ◌==◌, Bool, true, false, cond, List, [], ◌∷◌, ◌++◌, length, map, refl, sym, subst, arith, ⊎_elim}
-use Rattle.std.specs.Prelude.{Contains, Ok, Result}
+use Rattle.std.specs.Prelude.{Contains, Err, Ok, Result}
 use Rattle.std.proofs.Math.Nat.{eq-or-lt_of_le}
 use Rattle.std.proofs.lemmas.Bool.{eqb-true, eqb-false}
 use Rattle.std.proofs.lemmas.List.Elements.{Contains-append_left, Contains-append_right, Contains-append_cases, Contains-push, Contains-push_cases}
@@ -10,9 +10,11 @@ use Rattle.source.specs.declared.finding.Finding.{Finding}
 use Rattle.contracts.specs.Conditions.{AreExactly}
 use Rattle.program.specs.Programs.{ProgramModel}
 use Rattle.tasks.specs.Tasks.{numbers_below}
+use Rattle.analyse.specs.VerdictParts.{findings_of}
 use Rattle.analyse.specs.Verdicts.{IsFoundIn, IsMethodVerdict}
 use Rattle.analyse.specs.declared.verdict.Verdict.{Verdict}
 use Rattle.pool.specs.Counts.{times}
+use Rattle.rules.specs.Programs.{model_of}
 use Rattle.rules.specs.declared.lowered.Program.{Program}
 use Rattle.shelf.specs.declared.receipt.Receipt.{Receipt}
 use Rattle.shelf.specs.declared.shelf.Shelf.{Shelf}
@@ -102,3 +104,8 @@ of_all_methods p methods found each of = record {
 -- the verdict that a receipt names
 pub put_of : (p : Program) (shelf : Shelf) (n : ℕ) (out : Result Receipt Verdict) (receipt : Receipt) → HasVerdict p shelf n out → out ≡ Ok receipt → IsPut p shelf n receipt
 put_of p shelf n out receipt has is = subst (HasVerdict p shelf n) is has
+
+-- the verdict that came back
+pub back_of : (p : Program) (shelf : Shelf) (n : ℕ) (out : Result Receipt Verdict) (verdict : Verdict) → HasVerdict p shelf n out → out ≡ Err verdict
+    → IsMethodVerdict (model_of p) n (map finding_model (findings_of verdict))
+back_of p shelf n out verdict has is = subst (HasVerdict p shelf n) is has

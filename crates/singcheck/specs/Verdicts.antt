@@ -18,10 +18,10 @@ pub record IsPut (p : Program) (shelf : Shelf) (n : ℕ) (receipt : Receipt) : T
   pub of_shelf : IsOf receipt shelf
   pub found : IsMethodVerdict (model_of p) n (map finding_model (findings_of (verdict_of receipt)))
 
--- the verdict of a method was put on the shelf, or there was no room for it
+-- the verdict of a method was put on the shelf, or came back because there was no room for it
 abbrev pub HasVerdict : Program → Shelf → ℕ → Result Receipt Verdict → Type 0
 HasVerdict p shelf n (Ok receipt) = IsPut p shelf n receipt
-HasVerdict p shelf n (Err verdict) = Unit {0}
+HasVerdict p shelf n (Err verdict) = IsMethodVerdict (model_of p) n (map finding_model (findings_of verdict))
 
 -- all findings of a method are added
 pub record AddsVerdict (p : ProgramModel) (n : ℕ) (old new : List Finding) : Type 0 where

@@ -15,7 +15,7 @@ use std::alloc::Global;
 use std::sync::Wait;
 
 /// A job on methods: it judges a method and puts the verdict on the shelf. Its result is the receipt, or the verdict
-/// itself if the shelf has no room for it.
+/// itself, which the shelf hands back if it has no room.
 #[derive(Drop)]
 pub(crate) struct Judging<'a, R> {
     pub(crate) rt: &'a R,

@@ -4,6 +4,7 @@ ghost use Rattle.std.specs.Prelude.{◌≡◌, ◌<◌, ◌^◌, ◌++◌, All, 
 ghost use Rattle.source.specs.Findings.{finding_model};
 ghost use Rattle.contracts.specs.Conditions.{AreExactly};
 ghost use Rattle.rules.specs.Programs.{model_of};
+ghost use Rattle.analyse.specs.Verdicts.{IsMethodVerdict};
 ghost use Rattle.pool.specs.Counts.{method_of};
 ghost use Rattle.singcheck.specs.Checks.{IsWrong};
 ghost use Rattle.singcheck.specs.Verdicts.{AddsVerdict, AreOfMethods, HasVerdict};
@@ -58,7 +59,7 @@ pub(crate) fn analyse_methods<R: Threads + Wait + Sync, G: Gate>(
 /// Returns the findings of the methods that these workers are done with.
 ///
 /// # Errors
-/// `Memory` if out of memory, or if the shelf had no room for a verdict.
+/// `Memory` if out of memory.
 fn found_in(
     alloc: Global,
     shelf: &Shelf,
@@ -68,15 +69,26 @@ fn found_in(
     requires each { All (λ d. HasVerdict program.now shelf.now (method_of d) d.out) done.now }
     ensures { IfOk result (λ found. AreOfMethods (model_of program.now) (map method_of done.now) (map finding_model found.items)) }
 {
-    let _ = program;
     let mut found = Vec::new(alloc);
     for one in done {
-        match &one.out {
-            Ok(receipt) => add_copies(alloc, shelf.read(receipt).findings(), &mut found)?,
-            Err(_) => return Err(Memory),
-        }
+        add_copies(alloc, findings_of(shelf, program, one), &mut found)?;
     }
     Ok(found)
+}
+
+/// Returns the findings of a method: those of its verdict on the shelf or, if the shelf had no room for it, of the verdict that came back.
+fn findings_of<'s>(
+    shelf: &'s Shelf,
+    _program: &Program,
+    done: &'s Done<Result<Receipt, Verdict>>,
+) -> &'s [Finding]
+    requires has { HasVerdict _program.now shelf.now (method_of done.now) done.now.out }
+    ensures { IsMethodVerdict (model_of _program.now) (method_of done.now) (map finding_model result.now) }
+{
+    match &done.out {
+        Ok(receipt) => shelf.read(receipt).findings(),
+        Err(verdict) => verdict.findings(),
+    }
 }
 
 /// Adds copies of these findings.
