@@ -1,11 +1,11 @@
 //! The program `singcheck`: its arguments, files and exit statuses, and nothing else.
 #![tactic(auto)]
 
-mod noted;
 mod numbers;
+mod with_error;
 
-use crate::noted::Noted;
 use crate::numbers::fault_of;
+use crate::with_error::WithError;
 use clap::error::{Error, ErrorKind};
 use singcheck::{
     Ask, Counted, Input, Open, Place, RunFault, Sink, Status, ask, ending, run_bounds, run_check,
@@ -20,10 +20,10 @@ use std::thread::Threads;
 use std::{env, fs, io};
 
 /// Where the answer goes.
-type Output<O> = Counted<Noted<O>>;
+type Output<O> = Counted<WithError<O>>;
 
 fn main(rt: HostRuntime) -> ExitCode {
-    let mut output = Counted::new(Noted::new(rt.stdout()));
+    let mut output = Counted::new(WithError::new(rt.stdout()));
     let mut errors = Counted::new(rt.stderr());
     ExitCode::from(run(&rt, &mut output, &mut errors))
 }
@@ -117,11 +117,11 @@ fn answer_bounds<R: AllocGlobal + Files + Eprint, O: Write, E: Sink>(
     errors: &mut E,
 ) -> u8 {
     let mut text = match fs::open(rt, file) {
-        Ok(text) => Counted::new(Noted::new(text)),
+        Ok(text) => Counted::new(WithError::new(text)),
         Err(error) => return unread(rt, Input::Text, file, error, errors),
     };
     let answered = run_bounds(rt.alloc(), &mut text, output);
-    status(rt, answered, file, text.device.failure, output, errors)
+    status(rt, answered, file, text.device.error, output, errors)
 }
 
 fn answer_check<R: AllocGlobal + Files + Eprint + Threads + Wait + Sync, O: Write, E: Sink>(
@@ -133,11 +133,11 @@ fn answer_check<R: AllocGlobal + Files + Eprint + Threads + Wait + Sync, O: Writ
     errors: &mut E,
 ) -> u8 {
     let mut text = match fs::open(rt, file) {
-        Ok(text) => Counted::new(Noted::new(text)),
+        Ok(text) => Counted::new(WithError::new(text)),
         Err(error) => return unread(rt, Input::Text, file, error, errors),
     };
     let answered = run_check(rt, &mut text, output, workers, slots, &Open);
-    status(rt, answered, file, text.device.failure, output, errors)
+    status(rt, answered, file, text.device.error, output, errors)
 }
 
 fn answer_replay<R: AllocGlobal + Files + Eprint, O: Write, E: Sink>(
@@ -149,20 +149,20 @@ fn answer_replay<R: AllocGlobal + Files + Eprint, O: Write, E: Sink>(
     errors: &mut E,
 ) -> u8 {
     let mut text = match fs::open(rt, file) {
-        Ok(text) => Counted::new(Noted::new(text)),
+        Ok(text) => Counted::new(WithError::new(text)),
         Err(error) => return unread(rt, Input::Text, file, error, errors),
     };
     let mut events = match fs::open(rt, schedule) {
-        Ok(events) => Counted::new(Noted::new(events)),
+        Ok(events) => Counted::new(WithError::new(events)),
         Err(error) => return unread(rt, Input::Schedule, schedule, error, errors),
     };
     let answered = run_replay(rt.alloc(), &mut text, entry.as_bytes(), &mut events, output);
-    let (name, failure) = match answered {
+    let (name, error) = match answered {
         Err(RunFault::Entry) => (entry, None),
-        Err(RunFault::Read(Input::Schedule)) => (schedule, events.device.failure),
-        _ => (file, text.device.failure),
+        Err(RunFault::Read(Input::Schedule)) => (schedule, events.device.error),
+        _ => (file, text.device.error),
     };
-    status(rt, answered, name, failure, output, errors)
+    status(rt, answered, name, error, output, errors)
 }
 
 fn answer_why<R: AllocGlobal + Files + Eprint, O: Write, E: Sink>(
@@ -173,20 +173,20 @@ fn answer_why<R: AllocGlobal + Files + Eprint, O: Write, E: Sink>(
     errors: &mut E,
 ) -> u8 {
     let mut text = match fs::open(rt, file) {
-        Ok(text) => Counted::new(Noted::new(text)),
+        Ok(text) => Counted::new(WithError::new(text)),
         Err(error) => return unread(rt, Input::Text, file, error, errors),
     };
     let answered = run_why(rt.alloc(), &mut text, output, named);
-    status(rt, answered, file, text.device.failure, output, errors)
+    status(rt, answered, file, text.device.error, output, errors)
 }
 
-/// Returns the exit status of a run, after writing the line of its fault, if it failed. If an input failed, `failure` says why. A closed
+/// Returns the exit status of a run, after writing the line of its fault, if it failed. If an input failed, `error` says why. A closed
 /// pipe has no line, since whoever closed it knows.
 fn status<R: Eprint, O: Write, E: Sink>(
     rt: &R,
     answered: Result<Status, RunFault>,
     name: &str,
-    failure: Option<io::Error>,
+    error: Option<io::Error>,
     output: &Output<O>,
     errors: &mut E,
 ) -> u8 {
@@ -196,7 +196,7 @@ fn status<R: Eprint, O: Write, E: Sink>(
         Err(RunFault::Write) if is_closed(output) => 3,
         Err(fault) => {
             let status = ending(&fault, name, errors);
-            if let (RunFault::Read(_), Some(error)) = (fault, failure) {
+            if let (RunFault::Read(_), Some(error)) = (fault, error) {
                 let _ = rt.eprintln(error);
             }
             status
@@ -219,7 +219,7 @@ fn unread<R: Eprint, E: Sink>(
 
 /// Returns whether the last write failed because nobody reads the output any more.
 fn is_closed<O: Write>(output: &Output<O>) -> bool {
-    match output.device.failure {
+    match output.device.error {
         Some(error) => error.kind() == io::ErrorKind::BrokenPipe,
         None => false,
     }

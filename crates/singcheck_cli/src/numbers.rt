@@ -2,8 +2,9 @@
 
 use singcheck::RunFault;
 
-/// Returns the fault of the first option whose number has more digits than a machine word holds. `clap` refuses such a word as no number, but
-/// it is out of range like any other large number, and gets the same line. `None` if there is no such number.
+/// Returns the fault of the first option whose number has more digits than a machine word holds, if there is one.
+///
+/// `clap` refuses such a word as no number, but it is out of range like any other large number, and gets the same line.
 pub(crate) fn fault_of(words: &[&str]) -> Option<RunFault> {
     if is_long(value_of(words, "--workers")) {
         return Some(RunFault::Workers);
