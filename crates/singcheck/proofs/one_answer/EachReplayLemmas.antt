@@ -12,6 +12,7 @@ use Rattle.machine.specs.Replays.{ReplayModel}
 use Rattle.machine.specs.Runs.{AreBounds}
 use Rattle.machine.specs.declared.halts.Event.{Event}
 use Rattle.machine.proofs.BoundLemmas.{bound_is, bound_past}
+use Rattle.replays.specs.Names.{Words}
 use Rattle.replays.specs.Schedules.{IsFirstMalformed, IsSchedule}
 use Rattle.devices.specs.declared.fault.Status.{Status}
 use Rattle.devices.specs.declared.fault.Status.TheVariants.{Found}
@@ -46,7 +47,7 @@ pub ran_some : Replaying → (entry lines text : List ℕ) (p : ProgramModel) (n
     → ((bytes : List ℕ) (status : Status) → ¬ IsRan entry lines text bytes status) → ⊥
 ran_some laws entry lines text p n events entered told none = laws.bounds text p entered.has (λ bound are.
     laws.replays p bound n events (λ r is.
-    let words = record { program = p; structs = struct_names text entered.has.resolved.items } in
+    let words : Words = record { program = p; structs = struct_names text entered.has.resolved.items } in
     none (graph_printed words events r) (stop_status r.halt) (record {
       program = p;
       n = n;

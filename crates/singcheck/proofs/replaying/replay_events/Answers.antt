@@ -1,9 +1,10 @@
 use Rattle.std.proofs.Common.{◌∙◌, List, ap, map, subst, sym, ℕ}
 use Rattle.std.specs.Prelude.{string_bytes}
 use Rattle.machine.specs.Replays.{replay_model}
+use Rattle.replays.specs.Names.{Words}
 use Rattle.rules.specs.Programs.{model_of}
 use Rattle.singcheck.specs.Replays.{IsPrinted, struct_names}
-use Rattle.singcheck.proofs.PrintedLemmas.{graph_printed, printed}
+use Rattle.singcheck.proofs.PrintedLemmas.{Agreeing, graph_printed, printed}
 use Rattle.singcheck.proofs.replaying.replay_events.Goals as goal
 
 pub returns : goal.returns
@@ -12,8 +13,8 @@ returns c = λ text entry schedule begun told.
     let p = model_of c.args.begun.now.program in
     let n = c.args.begun.now.method.0 in
     let events = c.args.events.now in
-    let words = record { program = p; structs = struct_names text begun.entered.has.resolved.items } in
-    let agree = record {
+    let words : Words = record { program = p; structs = struct_names text begun.entered.has.resolved.items } in
+    let agree : Agreeing = record {
       positions = c.replays_agree.ensures.positions;
       graphs = c.replays_agree.ensures.graphs;
       statements = c.replays_agree.ensures.statements;
