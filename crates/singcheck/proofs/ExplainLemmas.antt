@@ -29,7 +29,7 @@ use Rattle.tree.specs.Trees.{ItemTree}
 use Rattle.singcheck.specs.Remarked.{HasFault, IsMistake}
 use Rattle.singcheck.specs.Checks.{HasProgram, IsWrong}
 use Rattle.singcheck.specs.Explains.{AreExplained, ByContract, ByFault, ByMistake, ByTokens, Explains, IsExplainedIn, IsExplainedFinding, IsShownIn, explained_bytes, explained_lines}
-use Rattle.singcheck.specs.Lines.{clear_line, count_line, finding_line, trace_line}
+use Rattle.singcheck.specs.Lines.{clear_line, count_line, trace_line}
 use Rattle.singcheck.specs.Fronts.{AreBrokenOf}
 use Rattle.singcheck.specs.Unexpected.{IsUnexpected}
 use Rattle.singcheck.specs.declared.report.Report.{Report}
@@ -162,6 +162,14 @@ report_end all n answer new over is counted =
     counted
     ∙ ap (λ b. b ++ count_line (length all)) (is ∙ ap (flat_map (λ e. explained_lines (explained_model e))) (take_all n all over) ∙ sym (flat_map-map explained_lines explained_model all))
     ∙ ap (λ k. flat_map explained_lines (map explained_model all) ++ count_line k) (sym (length-map all explained_model))
+
+-- contracts in a result
+pub contracts_explained_if : (named : Option Place) (text : List ℕ) (contracts : List ContractModel) (some : List FindingModel) → AreBrokenOf text contracts some → (result : Result (Vec Explained Global) Memory)
+    → IfOk result (λ found. AreExactly (IsBroken contracts) (map (λ e. finding_model e.finding) found.items))
+    → IfOk result (λ found. All (λ e. IsShownIn named contracts (explained_model e)) found.items)
+    → IfOk result (λ found. AreExplained named text (map explained_model found.items))
+contracts_explained_if named text contracts some is (Ok found) are each = contracts_explained named text contracts some found.items is are each
+contracts_explained_if named text contracts some is (Err m) are each = tt
 
 -- one finding with its lines
 pub explained_alone : {named : Option Place} {text : List ℕ} (Is : ExplainedModel → Type 0)

@@ -1,6 +1,6 @@
 -- Mistakes in names that are explained one after another.
 use Rattle.std.proofs.Common.{◌≡◌, ℕ, ◌+◌, ◌<◌, ◌≤◌, List, [], ◌∷◌, ◌++◌, Option, length, get_or, map, take, refl, sym, ap, subst, ◌∙◌}
-use Rattle.std.specs.Prelude.{◌||◌, All, Some, is_some, nat_lt, slice_get}
+use Rattle.std.specs.Prelude.{◌||◌, All, Bool, Some, is_some, nat_lt, slice_get}
 use Rattle.std.proofs.lemmas.List.{map-append, take_all, take_more}
 use Rattle.std.proofs.lemmas.List.Elements.{All-nil, All-push}
 use Rattle.std.proofs.lemmas.Option.{slice_get-get_or}
@@ -32,12 +32,13 @@ pub remarked_none : (named : Option Place) (p : ProgramText) (mistakes : List Mi
 remarked_none named p mistakes [] none = record { view = refl; each = All-nil (λ (e : Explained). IsMistake named p (explained_model e)) }
 remarked_none named p mistakes (x ∷ found) none = cc
 
-pub remarked_more : (named : Option Place) (p : ProgramText) (mistakes : List Mistake) (n : ℕ) (d : Mistake) (found : List Explained) (e : Explained) → n < length mistakes → mistakes ≡ program_mistakes p
+pub remarked_more : (named : Option Place) (p : ProgramText) (mistakes : List Mistake) (n : ℕ) (d : Mistake) (within : Bool) (found : List Explained) (e : Explained) → n < length mistakes → mistakes ≡ program_mistakes p
+    → within ≡ nat_lt n (most_searched p.text) || is_some named
     → finding_model e.finding ≡ finding_in p.text (get_or mistakes n d)
-    → map line_model e.lines.items ≡ remark_lines named e.finding.place (remark_within (nat_lt n (most_searched p.text) || is_some named) p (get_or mistakes n d))
+    → map line_model e.lines.items ≡ remark_lines named e.finding.place (remark_within within p (get_or mistakes n d))
     → Remarked named p mistakes n found
     → Remarked named p mistakes (n + 1) (found ++ e ∷ [])
-remarked_more named p mistakes n d found e lt all finding lines so =
+remarked_more named p mistakes n d within found e lt all is finding lines so =
     let says = finding_in p.text in
     let m = get_or mistakes n d in
     record {
@@ -45,7 +46,13 @@ remarked_more named p mistakes n d found e lt all finding lines so =
           ∙ ap (λ f. map says (take n mistakes) ++ f ∷ []) finding ∙ sym (map-append says (take n mistakes) (m ∷ []))
           ∙ ap (map says) (sym (take_more mistakes n d lt));
       each = All-push (λ (x : Explained). IsMistake named p (explained_model x)) found e so.each
-          (record { number = n; mistake = m; there = subst (λ l. slice_get l n ≡ Some m) all (slice_get-get_or mistakes n d lt); finding = finding; lines = lines });
+          (record {
+            number = n;
+            mistake = m;
+            there = subst (λ l. slice_get l n ≡ Some m) all (slice_get-get_or mistakes n d lt);
+            finding = finding;
+            lines = lines ∙ ap (λ b. remark_lines named e.finding.place (remark_within b p m)) is;
+          });
     }
 
 pub remarked_all : (named : Option Place) (p : ProgramText) (mistakes : List Mistake) (n : ℕ) (found : List Explained) → length mistakes ≤ n → mistakes ≡ program_mistakes p → Remarked named p mistakes n found

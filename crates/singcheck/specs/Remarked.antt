@@ -1,5 +1,6 @@
 -- Findings of a text or its names with their remarks.
-use Rattle.std.specs.Prelude.{◌≡◌, ◌/◌, ◌||◌, ℕ, Bool, false, List, [], ◌∷◌, Option, None, Some, if◌then◌else◌, is_some, length, max, nat_lt, slice_get}
+use Rattle.std.specs.Prelude.{◌≡◌, ◌/◌, ◌||◌, ℕ, Bool, false, List, [], ◌∷◌, Option, None, Some, if◌then◌else◌}
+use Rattle.std.specs.Prelude.{is_some, length, max, nat_lt, slice_get}
 use Rattle.std.specs.Option.{option_map_or}
 use Rattle.source.specs.Faults.{IsFault}
 use Rattle.source.specs.Findings.{fault_findings}

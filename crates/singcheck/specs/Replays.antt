@@ -82,7 +82,8 @@ pub record LacksSchedule (text entry schedule : List ℕ) (line : ℕ) : Type 0 
 abbrev pub stop_status : Option Halt → Status
 stop_status halt = option_map_or (λ why. Found) halt Empty
 
--- the first of these events lead from the method to a world, where the replay stops for this reason, and the bytes are what is printed of that
+-- the first of these events lead from the method to a world, where the replay stops for this reason, and the bytes are what is
+-- printed of that
 pub record IsPrinted (words : Words) (bound : QueueBounds) (n : ℕ) (events : List Event) (steps : ℕ) (halt : Option Halt) (bytes : List ℕ)
     : Type 0 where
   pub world : World

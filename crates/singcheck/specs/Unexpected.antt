@@ -62,5 +62,5 @@ pub record IsUnexpected (named : Option Place) (text : List ℕ) (e : ExplainedM
   pub number : ℕ
   pub wrong : IsFirstWrong program tokens number
   pub finding : e.finding ≡ wrong_token text (slice_get tokens number)
-  pub lines : if is_asked named e.finding.place then AreExpectedLines tokens number (place_of (body_of text)) e.finding.place e.lines
-      else (e.lines ≡ [])
+  pub asked : is_asked named e.finding.place ≡ true → AreExpectedLines tokens number (place_of (body_of text)) e.finding.place e.lines
+  pub other : is_asked named e.finding.place ≡ false → e.lines ≡ []

@@ -31,8 +31,10 @@ pub(crate) fn enter(alloc: Global, text: &[u8], entry: &[u8]) -> Result<Option<B
     ensures refused { IfErr result (IsRefused text.now) }
 {
     let (methods, tree) = methods_of(alloc, text)?;
-    let program = judged_program(alloc, methods)?;
-    Ok(enter_method(alloc, text, &tree, program, entry)?)
+    match judged_program(alloc, methods) {
+        Ok(program) => Ok(enter_method(alloc, text, &tree, program, entry)?),
+        Err(refused) => Err(refused),
+    }
 }
 
 /// Looks up the entry in a program without findings before its methods.

@@ -35,11 +35,13 @@ pub(crate) fn explain_at(
         → IfOk result (λ e. IsUnexpected named text (explained_model e)) }
 {
     let finding = finding_at(alloc, tokens, number)?;
-    let lines = if is_asked(named, finding.place) {
-        expected_lines(alloc, tokens, number, finding.place)?
-    } else {
-        Vec::new(alloc)
-    };
+    if !is_asked(named, finding.place) {
+        return Ok(Explained {
+            finding,
+            lines: Vec::new(alloc),
+        });
+    }
+    let lines = expected_lines(alloc, tokens, number, finding.place)?;
     Ok(Explained { finding, lines })
 }
 

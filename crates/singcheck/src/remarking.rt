@@ -1,6 +1,6 @@
 //! The findings of a text that has no program, with lines that explain them.
 
-ghost use Rattle.std.specs.Prelude.{◌≡◌, ◌≢◌, ◌∷◌, [], ◌++◌, IfOk, OnOk, List, ℕ, map, option_map};
+ghost use Rattle.std.specs.Prelude.{◌≡◌, ◌≢◌, ◌∷◌, [], ◌++◌, ◌||◌, IfOk, OnOk, List, ℕ, is_some, map, nat_lt, option_map};
 ghost use Rattle.source.specs.Faults.{IsFault};
 ghost use Rattle.source.specs.Findings.{finding_model};
 ghost use Rattle.declarations.specs.Mistakes.{finding_in};
@@ -67,13 +67,19 @@ fn explain_names(
     requires mistaken { AreMistaken text.now tree.now mistakes.now }
     ensures { IfOk result (λ found. AreExplained named text.now (map explained_model found.items)) }
 {
-    let most = most_searched(text);
     let mut found = Vec::new(alloc);
     for (number, mistake) in mistakes.iter().enumerate() {
-        let within = number < most || named.is_some();
+        let within = is_searched(text, number, named);
         found.push(explain_mistake(alloc, text, tree, *mistake, named, within)?)?;
     }
     Ok(found)
+}
+
+/// Returns whether the nearest name is searched for the mistake with this number.
+fn is_searched(text: &[u8], number: usize, named: Option<Place>) -> bool
+    ensures { result ≡ nat_lt number (most_searched text.now) || is_some named }
+{
+    number < most_searched(text) || named.is_some()
 }
 
 /// Returns for how many mistakes in the names of a text the nearest name is searched. Each search may go through the

@@ -1,5 +1,4 @@
 use Rattle.std.proofs.Common.{map, subst}
-use Rattle.std.proofs.lemmas.Result.{IfOk-weaker}
 use Rattle.source.specs.Findings.{finding_model}
 use Rattle.program.specs.Parts.{contract_model}
 use Rattle.singcheck.specs.Judgements.{IsJudgement}
@@ -11,12 +10,12 @@ pub returns-in-Broken : goal.returns-in-Broken
 returns-in-Broken c =
     let contracts = map contract_model c.args.resolved.contracts.items in
     let found = map finding_model c.in-Broken.findings.items in
-    let broken = subst (IsJudgement contracts) c.in-Broken.is c.in_ok-judge_contracts.ensures in
+    let broken = subst (IsJudgement contracts) c.in-Broken.is c.in_ok-findings.ensures in
     answers_found contracts found (λ text resolved. unsound text contracts found resolved broken) c.finding_report.result
     c.finding_report.ensures.bytes c.finding_report.ensures.status
 
-pub returns-in-Sound : goal.returns-in-Sound
-returns-in-Sound c = λ text resolved.
+pub returns-in_ok-bounds_lines-in-Sound : goal.returns-in_ok-bounds_lines-in-Sound
+returns-in_ok-bounds_lines-in-Sound c = λ text resolved.
     let contracts = map contract_model c.args.resolved.contracts.items in
-    let sounds = subst (IsJudgement contracts) c.in-Sound.is c.in_ok-judge_contracts.ensures in
-    c.in_ok-bounds_lines.ensures text (record { resolved = resolved; sounds = sounds.kept; sound = sounds.sound })
+    let sounds = subst (IsJudgement contracts) c.in-Sound.is c.in_ok-findings.ensures in
+    c.in_ok-bounds_lines-in-Sound.ensures text (record { resolved = resolved; sounds = sounds.kept; sound = sounds.sound })

@@ -24,12 +24,12 @@ judge_contracts-requires c =
 
 pub clean_methods_are_safe-requires : goal.clean_methods_are_safe-requires
 clean_methods_are_safe-requires c =
-    let sounds = subst (IsJudgement (map contract_model c.contracts.result.now.contracts.items)) c.in-Sound.is c.in_ok-judge_contracts.ensures in
+    let sounds = subst (IsJudgement (map contract_model c.contracts.result.now.contracts.items)) c.in-Sound.is c.in_ok-findings.ensures in
     record { sound = ap (map sound_parts) c.deref.ensures.value ∙ sounds.kept ∙ ap (map (λ (x : ContractModel). x.parts)) c.contracts.ensures }
 
 pub new-requires : goal.new-requires
 new-requires c =
-    let sounds = subst (IsJudgement (map contract_model c.contracts.result.now.contracts.items)) c.in-Sound.is c.in_ok-judge_contracts.ensures in
+    let sounds = subst (IsJudgement (map contract_model c.contracts.result.now.contracts.items)) c.in-Sound.is c.in_ok-findings.ensures in
     record { sound = sounds.kept ∙ ap (map (λ (x : ContractModel). x.parts)) c.contracts.ensures }
 
 pub returns-in-Broken-clause-refused : goal.returns-in-Broken-clause-refused
@@ -40,14 +40,14 @@ returns-in-Broken-clause-refused c = λ text items named.
       whole = named.whole;
       room = named.room;
       broken = subst (λ l. AreBroken l (map finding_model c.in-Broken.findings.items)) c.contracts.ensures
-          (subst (IsJudgement contracts) c.in-Broken.is c.in_ok-judge_contracts.ensures);
+          (subst (IsJudgement contracts) c.in-Broken.is c.in_ok-findings.ensures);
     }
 
-pub returns-in-Sound-clause-program : goal.returns-in-Sound-clause-program
-returns-in-Sound-clause-program c =
+pub returns-in_ok-new-in-Sound-clause-program : goal.returns-in_ok-new-in-Sound-clause-program
+returns-in_ok-new-in-Sound-clause-program c =
     let contracts = map contract_model c.contracts.result.now.contracts.items in
-    let sounds = subst (IsJudgement contracts) c.in-Sound.is c.in_ok-judge_contracts.ensures in
-    let same = c.in_ok-new.ensures in
+    let sounds = subst (IsJudgement contracts) c.in-Sound.is c.in_ok-findings.ensures in
+    let same = c.in_ok-new-in-Sound.ensures in
     record {
       same = same;
       sound = subst (λ (p : ProgramModel). All (λ (s : ContractModel). IsSound s.parts) p.contracts) (sym same)

@@ -1,4 +1,4 @@
-use Rattle.std.proofs.Common.{◌∙◌, ap, length, map, arith}
+use Rattle.std.proofs.Common.{◌∙◌, ap, length, arith}
 use Rattle.std.proofs.lemmas.List.{length-map}
 use Rattle.std.proofs.lemmas.List.Elements.{All-map, All-same}
 use Rattle.tree.specs.Trees.{program_tree}
@@ -9,9 +9,9 @@ use Rattle.singcheck.proofs.front.methods_of.Goals as goal
 pub well_formed_methods-requires : goal.well_formed_methods-requires
 well_formed_methods-requires c =
     let text = c.args.text.now in
-    let tree = c.in_ok-resolved_of.field-0-1 in
-    let resolved = c.in_ok-resolved_of.field-0-0 in
-    let has = c.in_ok-resolved_of.ensures.resolved in
+    let tree = c.in_ok-resolved.tree in
+    let resolved = c.in_ok-resolved.resolved in
+    let has = c.in_ok-resolved.ensures.resolved in
     let few = few_contracts text (program_tree tree) resolved.contracts.items contract_model has.is.contracts in
     record {
       contracts = has.is.contracts;
@@ -22,9 +22,9 @@ well_formed_methods-requires c =
 pub returns-clause-methods : goal.returns-clause-methods
 returns-clause-methods c =
     let text = c.args.text.now in
-    let tree = c.in_ok-resolved_of.field-0-1 in
-    let resolved = c.in_ok-resolved_of.field-0-0 in
-    let has = c.in_ok-resolved_of.ensures.resolved in
+    let tree = c.in_ok-resolved.tree in
+    let resolved = c.in_ok-resolved.resolved in
+    let has = c.in_ok-resolved.ensures.resolved in
     let told = c.in_ok-methods.ensures in
     let few = few_contracts text (program_tree tree) resolved.contracts.items contract_model has.is.contracts in
     let size = length-map resolved.contracts.items contract_model in

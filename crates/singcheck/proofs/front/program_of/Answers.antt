@@ -8,14 +8,14 @@ use Rattle.singcheck.proofs.front.program_of.Goals as goal
 
 pub judged_program-requires : goal.judged_program-requires
 judged_program-requires c =
-    let named = c.in_ok-methods_of.ensures.methods in
+    let named = c.in_ok-methods.ensures.methods in
     record { whole = named.whole; few = named.room }
 
 pub returns-clause-program : goal.returns-clause-program
 returns-clause-program c =
     let text = c.args.text.now in
-    let items = program_tree c.in_ok-methods_of.field-0-1 in
-    let named = c.in_ok-methods_of.ensures.methods in
+    let items = program_tree c.in_ok-methods.tree in
+    let named = c.in_ok-methods.ensures.methods in
     IfOk-weaker c.judged_program.result _ _ (λ program one. record {
       has = has_program text items (model_of program) (subst (HasCleanNames text items) (sym one.same) named.names) one.sound;
       safe = one.safe;
@@ -23,4 +23,4 @@ returns-clause-program c =
 
 pub returns-clause-refused : goal.returns-clause-refused
 returns-clause-refused c =
-    c.judged_program.ensures.refused c.args.text.now (program_tree c.in_ok-methods_of.field-0-1) c.in_ok-methods_of.ensures.methods
+    c.judged_program.ensures.refused c.args.text.now (program_tree c.in_ok-methods.tree) c.in_ok-methods.ensures.methods

@@ -1,7 +1,3 @@
-use Rattle.std.proofs.Common.{◌∷◌, [], ap, ◌∙◌}
-use Rattle.std.proofs.lemmas.Result.{IfOk-weaker}
-use Rattle.source.specs.Findings.{finding_model}
-use Rattle.singcheck.specs.Remarked.{remark_lines}
 use Rattle.singcheck.proofs.RemarkLemmas.{faulty}
 use Rattle.singcheck.proofs.remarking.explain_fault.Goals as goal
 

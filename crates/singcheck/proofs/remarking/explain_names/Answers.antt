@@ -1,11 +1,8 @@
-use Rattle.std.proofs.Common.{◌≡◌, ◌∙◌, ◌+◌, ◌≤◌, ap, length, map, sym, subst}
-use Rattle.std.specs.Prelude.{◌≢◌, ◌||◌, [], is_some, nat_lt}
-use Rattle.source.specs.Findings.{finding_model}
+use Rattle.std.proofs.Common.{◌∙◌, ◌+◌, ◌≤◌, length, sym, subst}
+use Rattle.std.specs.Prelude.{◌≢◌, []}
 use Rattle.tree.specs.Trees.{program_tree}
 use Rattle.declarations.specs.Program.{ProgramText}
 use Rattle.names.specs.Findings.{program_mistakes}
-use Rattle.traces.specs.Lines.{line_model}
-use Rattle.singcheck.specs.Remarked.{remark_lines, remark_within}
 use Rattle.singcheck.proofs.ExplainLemmas.{names_explained}
 use Rattle.singcheck.proofs.RemarkLemmas.{Remarked, remarked_more, remarked_all}
 use Rattle.singcheck.proofs.remarking.explain_names.Goals as goal
@@ -17,7 +14,7 @@ loop-number-preserved c =
     let n = c.loop-number.number in
     let e = c.in_ok-explain_mistake.field-0 in
     subst (Remarked c.args.named p mistakes (n + 1)) (sym c.in_ok-push.ensures.items)
-    (remarked_more c.args.named p mistakes n _ c.loop-number.found.items e c.loop-number-test.true c.requires.mistaken.are.all
+    (remarked_more c.args.named p mistakes n _ c.is_searched-within.result c.loop-number.found.items e c.loop-number-test.true c.requires.mistaken.are.all c.is_searched-within.ensures
     c.in_ok-explain_mistake.ensures.finding c.in_ok-explain_mistake.ensures.lines c.loop-number.invariant)
 
 pub returns : goal.returns

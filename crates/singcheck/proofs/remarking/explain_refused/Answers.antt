@@ -1,46 +1,46 @@
-use Rattle.std.proofs.Common.{[], ◌∷◌, ap, length, map, subst, sym, arith}
+use Rattle.std.proofs.Common.{ap, length, map, subst, sym, arith}
 use Rattle.std.proofs.lemmas.List.{length-map}
 use Rattle.std.proofs.lemmas.List.Elements.{All-same}
-use Rattle.std.proofs.lemmas.Result.{IfOk-weaker}
 use Rattle.source.specs.Findings.{finding_model}
 use Rattle.program.specs.Parts.{IsWhole, contract_model}
 use Rattle.program.specs.Programs.{contracts_model}
-use Rattle.traces.specs.Explained.{explained_model}
-use Rattle.singcheck.specs.Explains.{AreExplained}
-use Rattle.singcheck.specs.Fronts.{AreBrokenOf, IsRefused}
+use Rattle.singcheck.specs.Fronts.{AreBrokenOf, AreMistaken, IsRefused}
 use Rattle.singcheck.specs.Remarked.{HasFault}
 use Rattle.singcheck.specs.Unexpected.{IsUnexpected}
-use Rattle.singcheck.proofs.ExplainLemmas.{contracts_explained, explained_alone, fault_explained, syntax_explained}
+use Rattle.singcheck.proofs.ExplainLemmas.{contracts_explained_if, explained_alone, fault_explained, syntax_explained}
 use Rattle.singcheck.proofs.remarking.explain_refused.Goals as goal
 
 pub returns-in-Text : goal.returns-in-Text
 returns-in-Text c =
     let text = c.args.text.now in
-    let known = subst (IsRefused text) c.in-Text.is c.requires in
+    let known = subst (IsRefused text) c.in-Text.is c.requires.refused in
     explained_alone (HasFault c.args.named text) (fault_explained c.args.named text) c.in_ok-explain_fault-in-Text.field-0
     (c.in_ok-explain_fault-in-Text.ensures text known) c.alone.result c.alone.ensures
 
 pub explain_at-requires : goal.explain_at-requires
-explain_at-requires c = record { wrong = (subst (IsRefused c.args.text.now) c.in-Syntax.is c.requires).wrong }
+explain_at-requires c = record { wrong = (subst (IsRefused c.args.text.now) c.in-Syntax.is c.requires.refused).wrong }
 
 pub returns-in-Syntax : goal.returns-in-Syntax
 returns-in-Syntax c =
     let text = c.args.text.now in
-    let wrong = subst (IsRefused text) c.in-Syntax.is c.requires in
+    let wrong = subst (IsRefused text) c.in-Syntax.is c.requires.refused in
     explained_alone (IsUnexpected c.args.named text) (syntax_explained c.args.named text) c.in_ok-explain_at-in-Syntax.field-0
     (c.in_ok-explain_at-in-Syntax.ensures text wrong.lexed wrong.end) c.alone-in-Syntax.result c.alone-in-Syntax.ensures
 
 pub explain_names-requires : goal.explain_names-requires
-explain_names-requires c = record { mistaken = subst (IsRefused c.args.text.now) c.in-Names.is c.requires }
+explain_names-requires c = record {
+  mistaken = subst (AreMistaken c.args.text.now c.in-Names.tree) (sym c.deref.ensures.value)
+      (subst (IsRefused c.args.text.now) c.in-Names.is c.requires.refused);
+}
 
 pub explain_contracts-requires : goal.explain_contracts-requires
 explain_contracts-requires c =
-    let broken = subst (IsRefused c.args.text.now) c.in-Contracts.is c.requires in
-    let resolved = c.contracts-in-Contracts.result.now.contracts.items in
+    let broken = subst (IsRefused c.args.text.now) c.in-Contracts.is c.requires.refused in
+    let resolved = c.contracts.result.now.contracts.items in
     let size = length-map resolved contract_model in
-    let same = ap length c.contracts-in-Contracts.ensures in
+    let same = ap length c.contracts.ensures in
     record {
-      whole = All-same (λ s. IsWhole s.parts) (map contract_model resolved) (contracts_model c.in-Contracts.methods) c.contracts-in-Contracts.ensures broken.whole;
+      whole = All-same (λ s. IsWhole s.parts) (map contract_model resolved) (contracts_model c.in-Contracts.methods) c.contracts.ensures broken.whole;
       few = omega (arith, size, same, broken.room);
     }
 
@@ -48,8 +48,7 @@ pub returns-in-Contracts : goal.returns-in-Contracts
 returns-in-Contracts c =
     let text = c.args.text.now in
     let found = map finding_model c.in-Contracts.field-1.items in
-    let broken = subst (IsRefused text) c.in-Contracts.is c.requires in
-    let same = subst (λ l. AreBrokenOf text l found) (sym c.contracts-in-Contracts.ensures) broken in
-    IfOk-weaker c.explain_contracts.result _ _
-    (λ es h. contracts_explained c.args.named text (map contract_model c.contracts-in-Contracts.result.now.contracts.items) found es.items same h.0 h.1)
-    c.explain_contracts.ensures
+    let broken = subst (IsRefused text) c.in-Contracts.is c.requires.refused in
+    let same = subst (λ l. AreBrokenOf text l found) (sym c.contracts.ensures) broken in
+    contracts_explained_if c.args.named text (map contract_model c.contracts.result.now.contracts.items) found same c.explain_contracts.result
+    c.explain_contracts.ensures.found c.explain_contracts.ensures.each

@@ -7,12 +7,12 @@ use Rattle.singcheck.specs.Safety.{Reported}
 use Rattle.singcheck.proofs.ReplayLemmas.{KnownOf, ran_safely, ran_within_bounds, some_always, some_map}
 use Rattle.singcheck.proofs.replaying.answer_to.Goals as goal
 
-pub returns-in-Err-clause-replays : goal.returns-in-Err-clause-replays
-returns-in-Err-clause-replays g c = some_always (g.Q.Source.remaining c.args.schedule.now) _
+pub returns-in_ok-refused_report-in-Err-clause-replays : goal.returns-in_ok-refused_report-in-Err-clause-replays
+returns-in_ok-refused_report-in-Err-clause-replays g c = some_always (g.Q.Source.remaining c.args.schedule.now) _
     (λ lines. OfFindings c.in_ok-refused_report-in-Err.ensures.bytes c.in_ok-refused_report-in-Err.ensures.status)
 
-pub returns-in-Err-clause-safe : goal.returns-in-Err-clause-safe
-returns-in-Err-clause-safe g c = some_always (g.Q.Source.remaining c.args.schedule.now) _ (λ lines empty.
+pub returns-in_ok-refused_report-in-Err-clause-safe : goal.returns-in_ok-refused_report-in-Err-clause-safe
+returns-in_ok-refused_report-in-Err-clause-safe g c = some_always (g.Q.Source.remaining c.args.schedule.now) _ (λ lines empty.
     let told = c.in_ok-refused_report-in-Err.ensures.bytes in
     absurd (c.findings_or_program.ensures c.args.text.now told.found empty.1.program told.are empty.1.has))
 
@@ -55,12 +55,12 @@ returns-in-Ok-Some-clause-untouched g c =
     let begun = subst (ComesIn c.args.text.now c.args.entry.now) c.in-Ok-Some.field-0-is c.in-Ok-Some.ensures.begun in
     inr (model_of c.in-Ok-Some.begun.program, c.in-Ok-Some.begun.method.0, begun.entered)
 
-pub returns-in-Err-clause-bounded : goal.returns-in-Err-clause-bounded
-returns-in-Err-clause-bounded g c = some_always (g.Q.Source.remaining c.args.schedule.now) _
+pub returns-in_ok-refused_report-in-Err-clause-bounded : goal.returns-in_ok-refused_report-in-Err-clause-bounded
+returns-in_ok-refused_report-in-Err-clause-bounded g c = some_always (g.Q.Source.remaining c.args.schedule.now) _
     (λ lines. Reported c.in_ok-refused_report-in-Err.ensures.bytes c.in_ok-refused_report-in-Err.ensures.status)
 
-pub returns-in-Err-clause-rest : goal.returns-in-Err-clause-rest
-returns-in-Err-clause-rest g c = λ has.
+pub returns-in_ok-refused_report-in-Err-clause-rest : goal.returns-in_ok-refused_report-in-Err-clause-rest
+returns-in_ok-refused_report-in-Err-clause-rest g c = λ has.
     let told = c.in_ok-refused_report-in-Err.ensures.bytes in
     absurd (c.findings_or_program.ensures c.args.text.now told.found has.0 told.are has.2.has)
 

@@ -4,7 +4,6 @@ use Rattle.rules.specs.Programs.{model_of}
 use Rattle.analyse.specs.VerdictParts.{findings_of}
 use Rattle.analyse.specs.Verdicts.{IsMethodVerdict}
 use Rattle.pool.specs.Counts.{method_of}
-use Rattle.singcheck.specs.Verdicts.{HasVerdict}
 use Rattle.singcheck.proofs.VerdictLemmas.{back_of, put_of}
 use Rattle.singcheck.proofs.verdicts.findings_of.Goals as goal
 
