@@ -23,27 +23,27 @@ module _ (p : ProgramModel) (m : MethodModel) where
   name_along endpoint message = message_name p (type_of m endpoint.0) message.0
 
   -- the name of a variable, as it is printed
-  abbrev pub shown : VarId → List ℕ
-  shown variable = utf8_lossy (name_of m variable.0)
+  abbrev pub variable_text : VarId → List ℕ
+  variable_text variable = utf8_lossy (name_of m variable.0)
 
   -- the code and the text of the finding for each reason
   abbrev pub words_for : Reason → Code × List ℕ
-  words_for (NotOwned variable) = (A01, shown variable ++ codes " not owned")
+  words_for (NotOwned variable) = (A01, variable_text variable ++ codes " not owned")
   words_for (NotSent endpoint message) = (A02, utf8_lossy (name_along endpoint message) ++ codes " not sent here")
   words_for (WrongFor variable endpoint message) =
-      (A03, shown variable ++ (codes " in a wrong state for " ++ utf8_lossy (name_along endpoint message)))
-  words_for (WrongForCall variable) = (A04, shown variable ++ codes " in a wrong state for the call")
+      (A03, variable_text variable ++ (codes " in a wrong state for " ++ utf8_lossy (name_along endpoint message)))
+  words_for (WrongForCall variable) = (A04, variable_text variable ++ codes " in a wrong state for the call")
   words_for (NotCovered endpoint message) =
-      (A05, shown endpoint ++ (codes "." ++ (utf8_lossy (name_along endpoint message) ++ codes " not covered")))
+      (A05, variable_text endpoint ++ (codes "." ++ (utf8_lossy (name_along endpoint message) ++ codes " not covered")))
   words_for NothingToReceive = (A06, codes "nothing to receive")
-  words_for (Overwritten variable) = (A07, shown variable ++ codes " overwritten")
-  words_for (StillOwned variable) = (A08, shown variable ++ codes " still owned")
-  words_for (NotBack variable) = (A09, shown variable ++ codes " not back in its state")
-  words_for (Lent variable) = (A10, shown variable ++ codes " is lent")
-  words_for (Twice variable) = (A11, shown variable ++ codes " twice")
-  words_for (WrongForResult variable) = (A12, shown variable ++ codes " in a wrong state for the result")
+  words_for (Overwritten variable) = (A07, variable_text variable ++ codes " overwritten")
+  words_for (StillOwned variable) = (A08, variable_text variable ++ codes " still owned")
+  words_for (NotBack variable) = (A09, variable_text variable ++ codes " not back in its state")
+  words_for (Lent variable) = (A10, variable_text variable ++ codes " is lent")
+  words_for (Twice variable) = (A11, variable_text variable ++ codes " twice")
+  words_for (WrongForResult variable) = (A12, variable_text variable ++ codes " in a wrong state for the result")
   words_for NoResult = (A13, codes "no result")
-  words_for (WrongForField variable) = (A15, shown variable ++ codes " in a wrong state for the field")
+  words_for (WrongForField variable) = (A15, variable_text variable ++ codes " in a wrong state for the field")
 
   -- the finding of a breach
   abbrev pub breach_model : Breach → FindingModel

@@ -7,7 +7,8 @@ use Rattle.flow.specs.Cases.{EntranceModel}
 use Rattle.flow.specs.Graphs as graph
 use Rattle.flow.specs.Graphs.{Instruction}
 use Rattle.flow.specs.Lowering.{block, branches}
-use Rattle.semantics.specs.Rests.{Rest, Act, New, Send, Switch, If, While, Forget, Call, Start, Return, Stop, Missing, Arms, NoArm, MoreArms}
+use Rattle.semantics.specs.Rests.{Rest, Act, New, Send, Switch, If, While, Forget, Call, Start, Return, Stop, Missing}
+use Rattle.semantics.specs.Rests.{Arms, NoArm, MoreArms}
 
 module _ (at : ℕ → Option Instruction) where
   -- these instructions stand from a point on
