@@ -1,5 +1,5 @@
 -- The program of `Exchanges` is well formed.
-use Rattle.std.proofs.Common.{◌≡◌, ◌<◌, ◌∙◌, ℕ, zero, suc, false, true≢false, List, [], ◌∷◌, ◌++◌, Some, None, map, slice_get, refl, sym, ap, subst, arith}
+use Rattle.std.proofs.Common.{◌≡◌, ◌<◌, ◌≤◌, ◌∙◌, ℕ, zero, suc, false, true≢false, List, [], ◌∷◌, ◌++◌, Some, None, length, map, slice_get, refl, sym, ap, subst, arith}
 use Rattle.std.specs.Prelude.{IfSome}
 use Rattle.std.specs.Global.{Vec}
 use Rattle.program.specs.Methods.{MethodModel, VariableModel, method_model}
@@ -8,6 +8,7 @@ use Rattle.program.specs.Scopes.{Grows}
 use Rattle.program.specs.Statements.{statement_sequence}
 use Rattle.program.specs.WellFormed.{AreStatements, AreWellFormed, Setting, in_loop, is_parameter, with_last, setting}
 use Rattle.program.specs.declared.contract.Contract.{Contract}
+use Rattle.program.specs.declared.limits.TheConstants.{MOST_METHODS}
 use Rattle.program.specs.declared.types.HeapType.{HeapType}
 use Rattle.program.specs.declared.method.Method.{Method}
 use Rattle.acceptance_methods.specs.Exchanges.{deletes, exchange, method, new, structs}
@@ -114,3 +115,6 @@ made_well_formed contracts messages fields methods no_contract no_message told i
 -- the list has the one method
 pub one_method : (old all : List Method) (m : Method) → old ≡ [] → all ≡ old ++ m ∷ [] → method_model m ≡ method → map method_model all ≡ method ∷ []
 one_method old all m none is seen = ap (map method_model) (is ∙ ap (λ l. l ++ m ∷ []) none) ∙ ap (λ s. s ∷ []) seen
+
+pub one_is_few : (old all : List Method) (m : Method) → old ≡ [] → all ≡ old ++ m ∷ [] → length all ≤ MOST_METHODS
+one_is_few old all m none is = omega (arith, ap length (is ∙ ap (λ l. l ++ m ∷ []) none))
