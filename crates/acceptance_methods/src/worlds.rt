@@ -3,7 +3,7 @@
 ghost use Rattle.std.specs.Prelude.{◌<◌, length};
 ghost use Rattle.rules.specs.Programs.{model_of};
 
-use crate::texts::{ANSWERS_AN_ERROR, SERVES, with_one_contract};
+use crate::texts::{ANSWERS_AN_ERROR, FREED_ON_ONE_WAY, SERVES, only, with_one_contract};
 use machine::{Event, Fault, Halt, Owner, Replayed, World, replay};
 use program::MethodId;
 use rules::Program;
@@ -79,5 +79,38 @@ fn an_error_has_no_case(rt: HostRuntime) -> Result<(), Fail> {
     assert!(rt; run.steps == 4);
     assert_eq!(rt; run.halt, Some(Halt::Fault(Fault::F5, at(8, 1))));
     assert!(rt; states(alloc, &run.world)?.as_slice() == [(1, 1), (0, 0)].as_slice());
+    Ok(())
+}
+
+#[test]
+fn a_process_has_the_choices_of_its_instruction(rt: HostRuntime) -> Result<(), Fail> {
+    let alloc = rt.alloc();
+    let program = with_one_contract(alloc, SERVES)?;
+    let run = run_of(alloc, &program, &[0, 0])?;
+    assert!(rt; run.world.choices(&program, 1) == 1);
+    assert!(rt; run.world.choices(&program, 2) == 0);
+    let program = only(alloc, FREED_ON_ONE_WAY)?;
+    let run = run_of(alloc, &program, &[0])?;
+    assert!(rt; run.world.choices(&program, 0) == 2);
+    Ok(())
+}
+
+#[test]
+fn a_copy_goes_on_alone(rt: HostRuntime) -> Result<(), Fail> {
+    let alloc = rt.alloc();
+    let program = with_one_contract(alloc, SERVES)?;
+    let run = run_of(alloc, &program, &[0, 0])?;
+    let mut copy = run.world.clone()?;
+    let before = run.world.key(alloc)?;
+    assert!(rt; copy.key(alloc)?.as_slice() == before.as_slice());
+    let event = Event {
+        process: 0,
+        choice: 0,
+    };
+    if copy.step(alloc, &program, event).is_err() {
+        return Err(Fail::from("no step"));
+    }
+    assert!(rt; copy.key(alloc)?.as_slice() != before.as_slice());
+    assert!(rt; run.world.key(alloc)?.as_slice() == before.as_slice());
     Ok(())
 }

@@ -3,6 +3,7 @@ pub mod BoundLemmas
 pub mod CallLemmas
 pub mod Chains
 pub mod ChangeLemmas
+pub mod CopyLemmas
 pub mod CountLemmas
 pub mod EachReplayLemmas
 pub mod FrameLemmas
@@ -14,6 +15,8 @@ pub mod HeldExchange
 pub mod HeldLemmas
 pub mod HeldNew
 pub mod Holding
+pub mod KeyLemmas
+pub mod KeyLoops
 pub mod MakeLemmas
 pub mod PassLemmas
 pub mod ReplayLemmas

@@ -14,3 +14,5 @@ pub mod Places
 pub mod Answers
 pub mod Freeing
 pub mod Replays
+pub mod Choices
+pub mod Keys

@@ -16,7 +16,7 @@ use crate::halts::Refusal;
 use crate::reading::field_of;
 use crate::worlds::{Block, Held, Owner};
 use program::{HeapType, MessageId, StateId};
-use std::alloc::Global;
+use std::alloc::{AllocError, Global};
 use std::collections::VecDeque;
 
 /// The blocks, by their addresses, and how many of them each process owns, by its number.
@@ -251,5 +251,18 @@ impl BlockHeap {
         );
         set_state(&mut self.blocks, at, state);
         payload
+    }
+}
+
+impl Clone for BlockHeap {
+    ghost use Rattle.machine.specs.Views.{heap_model};
+
+    ghost is_clone = { λ h k. heap_model k ≡ heap_model h };
+
+    fn clone(&self) -> Result<BlockHeap, AllocError> {
+        Ok(BlockHeap {
+            blocks: self.blocks.clone()?,
+            counts: self.counts.clone()?,
+        })
     }
 }

@@ -4,6 +4,8 @@
 mod acting;
 mod calling;
 mod changing;
+mod choosing;
+mod copying;
 mod edges;
 mod exchanging;
 mod freeing;
@@ -11,6 +13,7 @@ mod giving;
 mod halts;
 mod heaps;
 mod instructing;
+mod keys;
 pub mod laws;
 mod mentions;
 mod owning;

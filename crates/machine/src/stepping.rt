@@ -37,7 +37,7 @@ fn halt_of(refusal: Refusal, place: Place) -> Halt
 
 impl World {
     /// Returns the innermost frame of a process. `None` if there is no such process or it has ended.
-    fn innermost(&self, process: usize) -> Option<&Frame>
+    pub(crate) fn innermost(&self, process: usize) -> Option<&Frame>
         ensures there { IfSome result (λ f. process < length self.now.processes.items) }
         ensures stands { IfSome result (λ f. stack_at (world_model self.now).processes process
             ≡ frame_model f.now ∷ drop 1 (stack_at (world_model self.now).processes process)) }

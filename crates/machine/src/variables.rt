@@ -104,6 +104,13 @@ impl Variables {
         Ok(())
     }
 
+    /// Returns the number of variables.
+    pub(crate) fn len(&self) -> usize
+        ensures { result ≡ self.now.count }
+    {
+        self.count
+    }
+
     /// Returns the index of a variable's binding. `Err` is the index at which to insert one.
     fn search(&self, v: VarId) -> Result<usize, usize>
         ensures found { IfOk result (IsAt self.now.bindings.items v.0) }
@@ -169,5 +176,18 @@ impl Variables {
         if let Ok(at) = self.search(v) {
             self.bindings[at] = Binding::new(self.bindings[at].variable, x);
         }
+    }
+}
+
+impl Clone for Variables {
+    ghost use Rattle.machine.specs.Views.{variables_model};
+
+    ghost is_clone = { λ v w. variables_model w ≡ variables_model v };
+
+    fn clone(&self) -> Result<Variables, AllocError> {
+        Ok(Variables {
+            count: self.count,
+            bindings: self.bindings.clone()?,
+        })
     }
 }
