@@ -5,6 +5,7 @@ pub mod Chains
 pub mod ChangeLemmas
 pub mod CopyLemmas
 pub mod CountLemmas
+pub mod DigitLemmas
 pub mod EachReplayLemmas
 pub mod FrameLemmas
 pub mod FreeLemmas
