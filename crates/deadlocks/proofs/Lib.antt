@@ -1,0 +1,2 @@
+pub mod DeadlockLemmas
+pub mod LeadingLemmas

@@ -1,0 +1,3 @@
+pub mod Deadlocks
+pub mod GraphDeadlocks
+pub mod Trials
