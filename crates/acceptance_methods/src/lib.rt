@@ -4,6 +4,8 @@
 #[cfg(test)]
 mod channels;
 #[cfg(test)]
+mod explorations;
+#[cfg(test)]
 mod faults;
 #[cfg(test)]
 mod fields;

@@ -81,6 +81,34 @@ delete i; delete e;
 }
 }";
 
+/// A process makes a channel and frees both ends.
+pub(crate) const MAKES_A_CHANNEL: &str =
+    "contract Ping { in message Req(); out message Rep(); state Start: Req? -> Pend; state Pend: Rep! -> Start; }
+class K {
+static void Main() {
+Ping.Imp i; Ping.Exp e;
+Ping.NewChannel(out i, out e);
+delete i; delete e;
+}
+}";
+
+/// Two processes are started, each of which waits for a request from the other before it sends one.
+pub(crate) const WAIT_FOR_EACH_OTHER: &str =
+    "contract Ping { in message Req(); out message Rep(); state Start: Req? -> Pend; state Pend: Rep! -> Start; }
+class K {
+static void Main() {
+Ping.Imp i; Ping.Exp e; Ping.NewChannel(out i, out e);
+Ping.Imp j; Ping.Exp f; Ping.NewChannel(out j, out f);
+start K.Play(e, j);
+start K.Play(f, i);
+}
+static void Play([Claims] Ping.Exp mine, [Claims] Ping.Imp other) {
+switch receive { case mine.Req(): mine.SendRep(); break; case mine.ChannelClosed(): break; }
+other.SendReq();
+delete other; delete mine;
+}
+}";
+
 /// Returns the program of a text without contracts that has one method.
 pub(crate) fn only(alloc: Global, text: &str) -> Result<Program, Fail>
     ensures { IfOk result (λ p. length (model_of p).methods ≡ 1) }
