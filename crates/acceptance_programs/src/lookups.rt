@@ -3,7 +3,7 @@
 use source::{Place, Span};
 use std::hash::{BuildHasher, Hasher};
 use std::test::Fail;
-use tables::{Seed, Table};
+use tables::{ScopedNames, Seed, Table};
 
 /// Returns the bytes of a text from `start` to `end`.
 fn span(start: u32, end: u32) -> Span {
@@ -32,32 +32,30 @@ fn first_indices_of_names(rt: HostRuntime) -> Result<(), Fail> {
 }
 
 #[test]
-fn names_come_and_go(rt: HostRuntime) -> Result<(), Fail> {
-    let alloc = rt.alloc();
-    let mut table = Table::new(alloc, Seed::of(b"a bb c"));
-    assert_eq!(rt; table.find(b"a"), None);
-    table.add(b"a")?;
-    table.add(b"bb")?;
+fn repeated_names_keep_their_first_index(rt: HostRuntime) -> Result<(), Fail> {
+    let text = b"a bb bb c";
+    let names = [span(0, 1), span(2, 4), span(5, 7), span(8, 9)];
+    let table = Table::of(rt.alloc(), Seed::of(text), text, &names)?;
     assert_eq!(rt; table.find(b"bb"), Some(1));
-    table.remove(b"bb");
-    assert_eq!(rt; table.find(b"bb"), None);
-    table.add(b"c")?;
-    assert_eq!(rt; table.find(b"c"), Some(1));
-    assert_eq!(rt; table.find(b"a"), Some(0));
-    assert!(rt; table.is_apart());
+    assert_eq!(rt; table.find(b"c"), Some(3));
+    assert!(rt; !table.is_apart());
     Ok(())
 }
 
 #[test]
-fn a_name_added_twice_keeps_its_first_index(rt: HostRuntime) -> Result<(), Fail> {
-    let mut table = Table::new(rt.alloc(), Seed::of(b"a bb bb c"));
-    table.add(b"a")?;
-    table.add(b"bb")?;
-    table.add(b"bb")?;
-    table.add(b"c")?;
-    assert_eq!(rt; table.find(b"bb"), Some(1));
-    assert_eq!(rt; table.find(b"c"), Some(3));
-    assert!(rt; !table.is_apart());
+fn names_enter_and_leave_a_scope(rt: HostRuntime) -> Result<(), Fail> {
+    let mut names = ScopedNames::new(rt.alloc(), Seed::of(b"a bb c"));
+    assert_eq!(rt; names.find(b"a"), None);
+    names.add(b"a", 7)?;
+    names.add(b"bb", 8)?;
+    assert_eq!(rt; names.len(), 2);
+    assert_eq!(rt; names.find(b"bb"), Some(8));
+    names.leave(1);
+    assert_eq!(rt; names.len(), 1);
+    assert_eq!(rt; names.find(b"bb"), None);
+    names.add(b"c", 9)?;
+    assert_eq!(rt; names.find(b"c"), Some(9));
+    assert_eq!(rt; names.find(b"a"), Some(7));
     Ok(())
 }
 

@@ -73,13 +73,11 @@ pub adds_before : {text : List ℕ} {old mid new : List Mistake} {w : ScopeVaria
 adds_before more t adds turned = record { found = adds_then adds turned.found; frame = turned.frame }
 
 -- a scope that is left
-pub leaves : {tokens text : List ℕ} {old new : List Mistake} {v w : ScopeVariables} {outer : ℕ} (f : NameFrame) (t : CheckedPiece) → tokens ≡ text → outer ≡ length f.variables
-    → ((g : NameFrame) → IsNameFrame tokens g v → IsNameFrame tokens (record { variables = take outer g.variables; heap = g.heap }) w)
+pub leaves : {text : List ℕ} {old new : List Mistake} {v w : ScopeVariables} {outer : ℕ} (f : NameFrame) (t : CheckedPiece) → outer ≡ length f.variables
+    → ((g : NameFrame) → IsNameFrame text g v → IsNameFrame text (record { variables = take outer g.variables; heap = g.heap }) w)
     → take (length f.variables) t.frame.variables ≡ f.variables → Turned text old new v t → Turned text old new w (after_block f t)
-leaves {tokens = tokens} {text = text} {v = v} {w = w} {outer = outer} f t same size left kept turned =
-    let here = subst (λ u. IsNameFrame u t.frame v) (sym same) turned.frame in
-    let there = subst (λ u. IsNameFrame u (record { variables = take outer t.frame.variables; heap = t.frame.heap }) w) same (left t.frame here) in
-    closes f t kept turned.found (subst (λ n. IsNameFrame text (record { variables = take n t.frame.variables; heap = t.frame.heap }) w) size there)
+leaves {text = text} {w = w} f t size left kept turned =
+    closes f t kept turned.found (subst (λ n. IsNameFrame text (record { variables = take n t.frame.variables; heap = t.frame.heap }) w) size (left t.frame turned.frame))
 
 -- the same of calls that may fail
 pub on_stays : {T E : Type 0} (r : Result T E) (text : List ℕ) (old new : List Mistake) (v : ScopeVariables) (more : List Mistake) (f : NameFrame) → IsNameFrame text f v → OnOk r (Adds old new more) → OnOk r (Turned text old new v (turn more f))

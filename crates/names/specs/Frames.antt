@@ -1,15 +1,13 @@
 -- The variables in scope, and the surroundings of a statement, as the code has them.
-use Rattle.std.specs.Prelude.{◌≡◌, ℕ, ◌+◌, min, List, map, Result, OnOk}
+use Rattle.std.specs.Prelude.{◌≡◌, ℕ, ◌+◌, min, List, Result, OnOk}
 use Rattle.declarations.specs.declared.mistake.Mistake.{Mistake}
 use Rattle.names.specs.Bodies as bodies
-use Rattle.tables.specs.Firsts.{IsApart}
 use Rattle.declarations.specs.Mistakes.{Adds}
 use Rattle.declarations.specs.Scopes.{IsScope, AreMethods}
-use Rattle.tables.specs.Tables.{IsTable}
+use Rattle.tables.specs.Scoped.{entries_of, declared_in}
 use Rattle.names.specs.Values.{Inside}
 use Rattle.names.specs.Variables as model
 use Rattle.names.specs.Variables.{NameFrame, CheckedPiece}
-use Rattle.tables.specs.Words.{words_at}
 use Rattle.declarations.specs.Program.{ProgramText}
 use Rattle.names.specs.declared.surroundings.NameContext.{NameContext}
 use Rattle.names.specs.declared.surroundings.Surroundings.{Surroundings}
@@ -21,16 +19,13 @@ use Rattle.names.specs.declared.variables.ScopeVariables.{ScopeVariables}
 abbrev pub variable_model : ScopeVariable → model.ScopeVariable
 variable_model v = record { name = v.name; ty = v.ty }
 
--- the names of the variables in scope, as they are written
-abbrev pub words_in : List ℕ → List model.ScopeVariable → List (List ℕ)
-words_in text variables = words_at text (map (λ v. v.name) variables)
+-- a variable with its memory
+abbrev pub variable_of : model.ScopeVariable → ScopeVariable
+variable_of v = record { name = v.name; ty = v.ty }
 
--- These are the variables in scope, with their table, and no two have the same name. Those of the exchange heap are
--- counted up to one past the limit.
+-- These are the variables in scope. Those of the exchange heap are counted up to one past the limit.
 pub record IsNameFrame (text : List ℕ) (f : NameFrame) (v : ScopeVariables) : Type 0 where
-  pub list : map variable_model v.list.items ≡ f.variables
-  pub names : IsTable (words_in text f.variables) v.names
-  pub apart : IsApart (words_in text f.variables)
+  pub names : entries_of v.names ≡ declared_in text (λ x. x.name) variable_of f.variables
   pub heap : v.heap ≡ min f.heap (MOST_VARIABLES + 1)
 
 -- the mistakes that a turn adds are added, and its frame is in scope now

@@ -85,7 +85,7 @@ pub(crate) fn judge_block<'a>(
 {
     let outer = variables.len();
     judge_statements(around, variables, &block.statements, found)?;
-    variables.leave(around.scope.text, outer);
+    variables.leave(outer);
     Ok(())
 }
 
@@ -203,9 +203,9 @@ fn judge_case<'a>(
 {
     let scope = around.scope;
     judge_head(&around.context(variables), heads, index, case, found)?;
-    let outer = variables.len();
+    let kept = variables.len();
     judge_binds(scope, variables, case, found)?;
     judge_statements(around, variables, &case.statements, found)?;
-    variables.leave(scope.text, outer);
+    variables.leave(kept);
     Ok(())
 }

@@ -1,13 +1,13 @@
 //! Mistakes in the names and types of targets.
 
 ghost use Rattle.std.specs.Prelude.{IfOk, OnOk};
-ghost use Rattle.tree.specs.ExpressionTrees.{target_tree};
+ghost use Rattle.tree.specs.ExpressionTrees.{expression_tree, target_tree};
 ghost use Rattle.names.specs.Expressions.{InScope};
 ghost use Rattle.declarations.specs.Mistakes.{Adds};
 ghost use Rattle.names.specs.Mentions.{GivesOperand};
 ghost use Rattle.declarations.specs.Scopes.{IsScope};
 ghost use Rattle.names.specs.Values.{target_type, target_mistakes, length_mistakes};
-ghost use Rattle.tree.specs.Expressions.{Field};
+ghost use Rattle.tree.specs.Expressions.{Element, Field};
 
 use crate::expressions::judge_operand;
 use crate::mentions::{is_length, judge_element_of, judge_field, judge_variable, owns};
@@ -15,7 +15,7 @@ use crate::operands::ask;
 use crate::variables::ScopeVariables;
 use declarations::{Mismatch, Mistake, Scope, ValueType};
 use source::{Memory, Span};
-use tree::Target;
+use tree::{Expression, Target};
 
 /// Returns the type that is asked of a value for this target; adds the mistakes in the target.
 pub(crate) fn judge_target(
@@ -33,11 +33,26 @@ pub(crate) fn judge_target(
             judge_field_target(scope, variables, part.variable, part.field, found)
         }
         Target::Element(part) => {
-            let index = judge_operand(scope, variables, &part.index, found)?;
-            let element = judge_element_of(scope, variables, part.variable, index, found)?;
-            Ok(element.ty)
+            judge_element_target(scope, variables, part.variable, &part.index, found)
         }
     }
+}
+
+/// Returns the same for an element.
+fn judge_element_target(
+    scope: &Scope<'_>,
+    variables: &ScopeVariables<'_>,
+    variable: Span,
+    index: &Expression,
+    found: &mut Vec<Mistake>,
+) -> Result<ValueType, Memory>
+    ensures { IfOk result (GivesOperand scope.now variables.now
+        (λ s. target_type s (Element variable (expression_tree index.now)))
+        (λ s. target_mistakes s (Element variable (expression_tree index.now))) found.old.items found.new.items) }
+{
+    let index = judge_operand(scope, variables, index, found)?;
+    let element = judge_element_of(scope, variables, variable, index, found)?;
+    Ok(element.ty)
 }
 
 /// Returns the same for a field. The length of an array can only be read, and an owning field can only be exchanged.

@@ -1,6 +1,6 @@
 //! The variables in scope.
 
-ghost use Rattle.std.specs.Prelude.{◌≡◌, ◌+◌, ◌-◌, ℕ, List, [], length, take, OnOk, option_map};
+ghost use Rattle.std.specs.Prelude.{◌≡◌, ◌+◌, ℕ, List, [], length, take, OnOk, option_map};
 ghost use Rattle.declarations.specs.Mistakes.{Adds};
 ghost use Rattle.names.specs.Frames.{IsNameFrame, Turned, variable_model};
 ghost use Rattle.names.specs.Variables.{NameFrame, variable_named, past_heap, entered_variable, declared_variable};
@@ -9,7 +9,7 @@ use declarations::{Limit, Mistake, ValueType, add_twice};
 use program::MOST_VARIABLES;
 use source::{Memory, Span};
 use std::alloc::Global;
-use tables::{Seed, Table};
+use tables::{ScopedNames, Seed};
 
 /// A variable: the name that declares it, and its type.
 #[derive(Clone, Copy, PartialEq, Eq)]
@@ -18,12 +18,11 @@ pub(crate) struct ScopeVariable {
     pub(crate) ty: ValueType,
 }
 
-/// The variables in scope, in order of declaration, and the number of variables of the exchange heap that the method
-/// has declared so far, counted up to one past the limit. No two variables in scope have the same name.
+/// The variables in scope, and the number of variables of the exchange heap that the method has declared so far,
+/// counted up to one past the limit. No two variables in scope have the same name.
 #[derive(Drop)]
 pub(crate) struct ScopeVariables<'a> {
-    names: Table<'a>,
-    list: Vec<ScopeVariable>,
+    names: ScopedNames<'a, ScopeVariable>,
     heap: usize,
 }
 
@@ -33,8 +32,7 @@ impl<'a> ScopeVariables<'a> {
         ensures { (text : List ℕ) → IsNameFrame text (record { variables = []; heap = 0 }) result }
     {
         ScopeVariables {
-            names: Table::new(alloc, seed),
-            list: Vec::new(alloc),
+            names: ScopedNames::new(alloc, seed),
             heap: 0,
         }
     }
@@ -43,7 +41,7 @@ impl<'a> ScopeVariables<'a> {
     pub(crate) fn len(&self) -> usize
         ensures { (text : List ℕ) (f : NameFrame) → IsNameFrame text f self.now → result ≡ length f.variables }
     {
-        self.list.len()
+        self.names.len()
     }
 
     /// Returns the variable of this name.
@@ -51,8 +49,7 @@ impl<'a> ScopeVariables<'a> {
         ensures { (f : NameFrame) → IsNameFrame text.now f self.now
             → option_map variable_model result ≡ variable_named text.now f.variables name }
     {
-        let place = self.names.find(name.slice(text))?;
-        self.list.get(place).copied()
+        self.names.find(name.slice(text))
     }
 
     /// Declares a variable unless one in scope has its name, and adds the mistakes in the declaration.
@@ -106,35 +103,21 @@ impl<'a> ScopeVariables<'a> {
         ensures { (f : NameFrame) → IsNameFrame text.now f self.old → OnOk result (Turned text.now found.old.items
             found.new.items self.new (entered_variable text.now variable.name variable.ty f)) }
     {
-        match self.find(text, variable.name) {
+        let word = variable.name.slice(text);
+        match self.names.find(word) {
             Some(known) => add_twice(variable.name, Some(known.name), found),
             None => {
-                self.names.add(variable.name.slice(text))?;
-                self.list.push(variable)?;
+                self.names.add(word, variable)?;
                 Ok(())
             }
         }
     }
 
     /// Leaves a scope: the first `outer` variables stay.
-    pub(crate) fn leave(&mut self, text: &'a [u8], outer: usize)
-        ensures { (f : NameFrame) → IsNameFrame text.now f self.old
-            → IsNameFrame text.now (record { variables = take outer f.variables; heap = f.heap }) self.new }
+    pub(crate) fn leave(&mut self, outer: usize)
+        ensures { (text : List ℕ) (f : NameFrame) → IsNameFrame text f self.old
+            → IsNameFrame text (record { variables = take outer f.variables; heap = f.heap }) self.new }
     {
-        while self.list.len() > outer {
-            self.drop_last(text);
-        }
-    }
-
-    /// Takes the last variable out of scope.
-    fn drop_last(&mut self, text: &'a [u8])
-        ensures frame { (f : NameFrame) → IsNameFrame text.now f self.old
-            → IsNameFrame text.now (record { variables = take (length f.variables - 1) f.variables; heap = f.heap }) self.new }
-        ensures shorter { length self.new.list.items ≡ length self.old.list.items - 1 }
-    {
-        match self.list.pop() {
-            Some(variable) => self.names.remove(variable.name.slice(text)),
-            None => {}
-        }
+        self.names.leave(outer);
     }
 }

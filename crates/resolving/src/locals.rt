@@ -1,10 +1,10 @@
 //! The variables in scope, and the numbers of those of the exchange heap.
 
-ghost use Rattle.std.specs.Prelude.{◌≡◌, ◌-◌, ℕ, List, length, map, take, OnOk, is_some, option_map};
+ghost use Rattle.std.specs.Prelude.{◌≡◌, ℕ, List, length, map, take, OnOk, is_some, option_map};
 ghost use Rattle.tree.specs.Trees.{ItemTree};
 ghost use Rattle.program.specs.Methods.{variable_model};
 ghost use Rattle.resolving.specs.Around.{program_in};
-ghost use Rattle.resolving.specs.Frames.{IsLocalFrame, local_model, number_model};
+ghost use Rattle.resolving.specs.Frames.{IsLocalFrame, local_of, number_model};
 ghost use Rattle.resolving.specs.Messages.{contract_of, end_contract};
 ghost use Rattle.resolving.specs.Methods.{no_variables};
 ghost use Rattle.resolving.specs.Locals.{LocalFrame, local_named, mention, next_number, number_of};
@@ -13,7 +13,7 @@ ghost use Rattle.resolving.specs.Locals.{with_local, with_variable, with_declara
 use program::{HeapType, Mention, Role, VarId, Variable};
 use source::Span;
 use std::alloc::{AllocError, Global};
-use tables::{Seed, Table};
+use tables::{ScopedNames, Seed};
 
 /// A variable that is declared: its name, its type, what it holds if it is of the exchange heap, and its role in its method.
 #[derive(Clone, Copy)]
@@ -24,20 +24,18 @@ pub(crate) struct Declaration {
     pub(crate) role: Role,
 }
 
-/// A variable in scope: the name that declares it, its type, and its number if it is of the exchange heap.
+/// What the name of a variable in scope means: its type, and its number if it is of the exchange heap.
 #[derive(Clone, Copy)]
 pub(crate) struct Local {
-    name: Span,
     ty: declarations::ValueType,
     number: Option<VarId>,
 }
 
-/// The variables in scope, in order of declaration, the last one of the exchange heap among them, and all variables of
-/// the exchange heap that the method has declared so far. No two variables in scope have the same name.
+/// The variables in scope, the last one of the exchange heap among them, and all variables of the exchange heap that
+/// the method has declared so far. No two variables in scope have the same name.
 #[derive(Drop)]
 pub(crate) struct Locals<'a> {
-    names: Table<'a>,
-    list: Vec<Local>,
+    names: ScopedNames<'a, Local>,
     last: Option<VarId>,
     variables: Vec<Variable>,
 }
@@ -48,8 +46,7 @@ impl<'a> Locals<'a> {
         ensures { (text : List ℕ) → IsLocalFrame text no_variables result }
     {
         Locals {
-            names: Table::new(alloc, seed),
-            list: Vec::new(alloc),
+            names: ScopedNames::new(alloc, seed),
             last: None,
             variables: Vec::new(alloc),
         }
@@ -59,7 +56,7 @@ impl<'a> Locals<'a> {
     pub(crate) fn len(&self) -> usize
         ensures { (text : List ℕ) (f : LocalFrame) → IsLocalFrame text f self.now → result ≡ length f.locals }
     {
-        self.list.len()
+        self.names.len()
     }
 
     /// Returns the last variable of the exchange heap in scope.
@@ -79,11 +76,9 @@ impl<'a> Locals<'a> {
     /// Returns the variable of this name.
     fn find(&self, text: &[u8], name: Span) -> Option<Local>
         ensures { (f : LocalFrame) → IsLocalFrame text.now f self.now
-            → option_map local_model result ≡ local_named text.now f.locals name }
+            → result ≡ option_map local_of (local_named text.now f.locals name) }
     {
-        let place = self.names.find(name.slice(text))?;
-        let local = self.list.get(place)?;
-        Some(*local)
+        self.names.find(name.slice(text))
     }
 
     /// Returns whether a variable in scope has this name.
@@ -181,15 +176,14 @@ impl<'a> Locals<'a> {
               variables = f.variables;
             }) self.new) }
     {
-        let name = declaration.name;
-        let ty = declaration.ty;
-        let word = name.slice(text);
-        if self.names.find(word).is_some() {
-            return Ok(());
+        let word = declaration.name.slice(text);
+        match self.names.find(word) {
+            Some(_) => Ok(()),
+            None => {
+                let ty = declaration.ty;
+                self.names.add(word, Local { ty, number })
+            }
         }
-        self.names.add(word)?;
-        self.list.push(Local { name, ty, number })?;
-        Ok(())
     }
 
     /// Counts one more variable of the exchange heap.
@@ -219,26 +213,12 @@ impl<'a> Locals<'a> {
     }
 
     /// Leaves a scope: the first `outer` variables stay, and `last` is the last one of the exchange heap among them.
-    pub(crate) fn leave(&mut self, text: &'a [u8], outer: usize, last: Option<VarId>)
-        ensures { (f : LocalFrame) → IsLocalFrame text.now f self.old → IsLocalFrame text.now
+    pub(crate) fn leave(&mut self, outer: usize, last: Option<VarId>)
+        ensures { (text : List ℕ) (f : LocalFrame) → IsLocalFrame text f self.old → IsLocalFrame text
             (record { locals = take outer f.locals; last = number_model last; variables = f.variables }) self.new }
     {
-        while self.list.len() > outer {
-            self.drop_last(text);
-        }
+        self.names.leave(outer);
         self.last = last;
-    }
-
-    /// Takes the last variable out of scope.
-    fn drop_last(&mut self, text: &'a [u8])
-        ensures frame { (f : LocalFrame) → IsLocalFrame text.now f self.old → IsLocalFrame text.now
-            (record { locals = take (length f.locals - 1) f.locals; last = f.last; variables = f.variables }) self.new }
-        ensures shorter { length self.new.list.items ≡ length self.old.list.items - 1 }
-    {
-        match self.list.pop() {
-            Some(local) => self.names.remove(local.name.slice(text)),
-            None => {}
-        }
     }
 }
 

@@ -128,7 +128,7 @@ fn tell_block<'a>(
     let last = locals.last();
     let statements = tell_statements(text, around, locals, stays, &block.statements)?;
     let forget = forget_past(block.close.place, last, locals.last());
-    locals.leave(text, outer, last);
+    locals.leave(outer, last);
     Ok(Block { statements, forget })
 }
 
@@ -271,7 +271,7 @@ fn tell_case<'a>(
     let targets = declare_binds(text, around, locals, params, &case.binds)?;
     let statements = tell_statements(text, around, locals, stays, &case.statements)?;
     let forget = forget_past(behind, last, locals.last());
-    locals.leave(text, kept, last);
+    locals.leave(kept, last);
     Ok(Case {
         endpoint,
         awaited: awaited_as(case.message, meant),

@@ -4,8 +4,9 @@ use Rattle.std.specs.Option.{option_map}
 use Rattle.std.proofs.lemmas.List.{length-map}
 use Rattle.tree.specs.ExpressionTrees.{expression_tree}
 use Rattle.tree.specs.StatementTrees.{statement_tree, statement_sequence, block_tree, if_tree, test_tree, other_sequence, case_tree, case_sequence, switch_tree, CaseTree, IfTree, SwitchTree}
+use Rattle.tree.specs.StatementTrees as trees
 use Rattle.tree.specs.declared.statement as made
-use Rattle.names.specs.Bodies.{scope_in, statement_turn, statements_turn, block_turn, test_turn, others_turn, case_turn, cases_turn, head_of}
+use Rattle.names.specs.Bodies.{scope_in, in_loop, statement_turn, statements_turn, block_turn, test_turn, others_turn, case_turn, cases_turn, head_of}
 use Rattle.names.specs.Cases.{binds_turn, awaited_message}
 use Rattle.declarations.specs.Declarations.{bound_params}
 use Rattle.names.specs.Expressions.{type_named, truth_mistakes}
@@ -15,7 +16,7 @@ use Rattle.names.specs.Shapes.{shape}
 use Rattle.names.specs.Variables.{NameFrame, CheckedPiece, after_block, follow}
 use Rattle.names.proofs.BranchLemmas.{last_branch, no_branch, no_statement, next_statement, next_test, next_case, case_there, last_case}
 use Rattle.names.proofs.KeepLemmas.{kept, statements_extend, case_extends}
-use Rattle.tree.proofs.StatementTwins.{block_is, case_is, if_is, test_is, switch_is, of_plain}
+use Rattle.tree.proofs.StatementTwins.{block_is, case_is, if_is, test_is, switch_is, of_plain, of_while}
 use Rattle.names.proofs.TurnLemmas.{Ongoing, goes_first, turned_then, adds_before, leaves, on_before, on_ends, goes_on, ends}
 use Rattle.names.proofs.statements.+bodies.Goals as goal
 
@@ -30,7 +31,7 @@ judge_block-returns t c = λ m f around frame.
     let whole = statements_turn m sequence f in
     let inner = subst (λ xs. Turned text old new v (statements_turn m (statement_sequence (map statement_tree xs)) f)) c.deref.ensures.value (c.in_ok-judge_statements.ensures m f around frame) in
     subst (λ b. Turned text old new c.leave.new.self (block_turn m b f)) (sym (block_is block))
-    (leaves f whole around.scope.text_is (c.len-outer.ensures text f frame) c.leave.ensures (kept f whole.frame (statements_extend m sequence f)) inner)
+    (leaves f whole (c.len-outer.ensures text f frame) (c.leave.ensures text) (kept f whole.frame (statements_extend m sequence f)) inner)
 
 pub judge_statements-loop-statement-preserved : goal.judge_statements-loop-statement-preserved
 judge_statements-loop-statement-preserved t c = λ m f around frame.
@@ -65,7 +66,7 @@ judge_case-returns t c = λ m f all around frame heads at.
     let second = subst (λ xs. Turned text bound new w (statements_turn m (statement_sequence (map statement_tree xs)) binding.frame)) c.deref.ensures.value (c.in_ok-judge_statements.ensures m binding.frame around first.frame) in
     let both = follow binding (statements_turn m sequence) in
     let earlier = take c.args.index all in
-    let inner = leaves f both around.scope.text_is (c.len-outer.ensures text f frame) c.leave.ensures (kept f both.frame (case_extends m params case.binds.items sequence f)) (turned_then binding (statements_turn m sequence) first second) in
+    let inner = leaves f both (c.len-kept.ensures text f frame) (c.leave.ensures text) (kept f both.frame (case_extends m params case.binds.items sequence f)) (turned_then binding (statements_turn m sequence) first second) in
     let here = c.in_ok-judge_head.ensures m.program f all (c.context.ensures m f around frame) heads in
     subst (λ k. Turned text old new c.leave.new.self (case_turn m all earlier k f)) (sym (case_is case))
     (adds_before _ (after_block f both) here inner)
@@ -128,6 +129,12 @@ pub judge_statement-returns-in-Plain : goal.judge_statement-returns-in-Plain
 judge_statement-returns-in-Plain t c = λ m f around frame.
     subst (λ x. OnOk c.judge_plain.result (Turned m.program.text c.args.found.now.items c.judge_plain.new.found.items c.judge_plain.new.variables (statement_turn m x f))) (sym (ap statement_tree c.in-Plain.is ∙ of_plain c.in-Plain.plain))
     (c.judge_plain.ensures m f around frame)
+
+pub judge_statement-returns-in-While : goal.judge_statement-returns-in-While
+judge_statement-returns-in-While t c = λ m f around frame.
+    let tree = ap statement_tree c.in-While.is ∙ of_while c.in-While.test ∙ ap (λ t. trees.While (test_tree t)) (sym c.deref-in-While.ensures) in
+    subst (λ x. OnOk c.judge_test.result (Turned m.program.text c.args.found.now.items c.judge_test.new.found.items c.judge_test.new.variables (statement_turn m x f)))
+    (sym tree) (c.judge_test.ensures (in_loop m) f (c.within_loop-inner.ensures m around) frame)
 
 pub judge_switch-loop-index-init : goal.judge_switch-loop-index-init
 judge_switch-loop-index-init t c = λ m f around frame.

@@ -83,7 +83,7 @@ tell_block-returns t c = λ items own f round h.
     subst (λ b. IsResolvedPiece text (block_told p own stays b f) whole after) (sym (block_is block))
     (subst (λ (b : BlockModel). IsResolvedPiece text (block_of block.close.place f t) b after) (sym (block_made told c.forget_past-forget.result))
     (block_ends text block.close.place f t _ inside after c.len-outer.result c.last-last.result c.last.result c.forget_past-forget.result (kept f t.frame (statements_extend p own stays sequence f))
-    (c.len-outer.ensures text f h) (c.last-last.ensures text f h) (c.last.ensures text t.frame inner.frame) c.forget_past-forget.ensures c.leave.ensures inner))
+    (c.len-outer.ensures text f h) (c.last-last.ensures text f h) (c.last.ensures text t.frame inner.frame) c.forget_past-forget.ensures (c.leave.ensures text) inner))
 
 pub tell_if-returns : goal.tell_if-returns
 tell_if-returns t c = λ items own f round h.
@@ -187,7 +187,7 @@ tell_case-returns t c = λ items own f round h.
     (c.case_endpoint-endpoint.ensures items f h) (c.awaited_as.ensures ∙ ap (awaited_as case.message) meant) binds.is
     (subst (λ (k : BlockModel). IsResolvedPiece text (block_of c.args.behind f t) k after) (sym (block_made told c.forget_past-forget.result))
     (block_ends text c.args.behind f t _ inside after c.len-kept.result c.last-last.result c.last.result c.forget_past-forget.result (kept f t.frame (case_extends p own stays (awaited_params m) case.binds.items sequence f))
-    (c.len-kept.ensures text f h) (c.last-last.ensures text f h) (c.last.ensures text t.frame inner.frame) c.forget_past-forget.ensures c.leave.ensures inner))
+    (c.len-kept.ensures text f h) (c.last-last.ensures text f h) (c.last.ensures text t.frame inner.frame) c.forget_past-forget.ensures (c.leave.ensures text) inner))
 
 pub tell_cases-tell_case-requires : goal.tell_cases-tell_case-requires
 tell_cases-tell_case-requires t c = let inside = c.loop-next.invariant.inside in (omega (arith, inside, c.decreases), tt)

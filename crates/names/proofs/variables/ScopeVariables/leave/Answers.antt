@@ -1,8 +1,9 @@
-use Rattle.std.proofs.Common.{arith}
-use Rattle.names.proofs.VariableLemmas.{left_more}
+use Rattle.std.proofs.Common.{take, ap, ◌∙◌}
+use Rattle.std.proofs.lemmas.List.{take-map}
 use Rattle.names.proofs.variables.ScopeVariables.leave.Goals as goal
 
-pub loop-self-preserved : goal.loop-self-preserved
-loop-self-preserved c = λ f h.
-    let before = (c.loop-self.invariant f h).0 in
-    left_more c.args.text.now f c.loop-self.self c.drop_last.new.self _ c.args.outer before c.drop_last.ensures.shorter (omega (arith, c.len.ensures)) (c.drop_last.ensures.frame _ before)
+pub returns : goal.returns
+returns c = λ text f h. record {
+  names = c.leave.ensures ∙ ap (take c.args.outer) h.names ∙ take-map _ c.args.outer f.variables;
+  heap = h.heap;
+}

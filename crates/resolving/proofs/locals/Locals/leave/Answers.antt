@@ -1,8 +1,10 @@
-use Rattle.std.proofs.Common.{arith}
-use Rattle.resolving.proofs.ScopeLemmas.{leaves_more}
+use Rattle.std.proofs.Common.{take, refl, ap, ◌∙◌}
+use Rattle.std.proofs.lemmas.List.{take-map}
 use Rattle.resolving.proofs.locals.Locals.leave.Goals as goal
 
-pub loop-self-preserved : goal.loop-self-preserved
-loop-self-preserved c = λ f h.
-    let before = c.loop-self.invariant f h in
-    leaves_more c.args.text.now c.args.outer f c.loop-self.self c.drop_last.new.self before c.drop_last.ensures.shorter (omega (arith, c.len.ensures)) (c.drop_last.ensures.frame _ before.frame)
+pub returns : goal.returns
+returns c = λ text f h. record {
+  names = c.leave.ensures ∙ ap (take c.args.outer) h.names ∙ take-map _ c.args.outer f.locals;
+  last = refl;
+  variables = h.variables;
+}
