@@ -2,7 +2,7 @@
 use Rattle.std.specs.Prelude.{ℕ, List, ◌++◌, codes}
 use Rattle.std.specs.Fmt.{decimal}
 use Rattle.source.specs.Findings.{FindingModel, code_name}
-use Rattle.traces.specs.Lines.{LineModel}
+use Rattle.explanations.specs.Lines.{LineModel}
 
 -- `LINE:COL CODE text`
 abbrev pub finding_line : FindingModel → List ℕ

@@ -3,12 +3,12 @@
 ghost use Rattle.std.specs.Prelude.{◌≡◌, ◌++◌, OnOk};
 ghost use Rattle.std.specs.Fmt.{decimal};
 ghost use Rattle.source.specs.Findings.{finding_model};
-ghost use Rattle.traces.specs.Lines.{line_model};
+ghost use Rattle.explanations.specs.Lines.{line_model};
 ghost use Rattle.singcheck.specs.Lines.{finding_line, trace_line, count_line, bounds_line, ok_line, clear_line};
 
+use explanations::Line;
 use itoa::Buffer;
 use source::{Finding, Memory};
-use traces::Line;
 
 /// Adds a text.
 fn add(answer: &mut Vec<u8>, text: &str) -> Result<(), Memory>
