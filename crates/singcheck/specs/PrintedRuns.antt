@@ -1,0 +1,109 @@
+-- What `run` and `explore` return for a text and an entry.
+use Rattle.std.specs.Prelude.{◌≡◌, ◌≢◌, ◌++◌, ℕ, List, [], length}
+use Rattle.source.specs.declared.place.Place.{Place}
+use Rattle.tree.specs.Trees.{ItemTree}
+use Rattle.program.specs.Programs.{ProgramModel}
+use Rattle.machine.specs.Outcomes.{QueueBounds}
+use Rattle.machine.specs.Runs.{AreBounds, start_of}
+use Rattle.machine.specs.World.{World}
+use Rattle.machine.specs.declared.halts.Event.{Event}
+use Rattle.machine.specs.declared.halts.Fault as made
+use Rattle.replays.specs.EventLines.{TraceWords}
+use Rattle.replays.specs.Journals.{HasLines}
+use Rattle.replays.specs.RunLines.{run_lines, seed_line}
+use Rattle.replays.specs.declared.detail.Detail.{Detail}
+use Rattle.replays.specs.declared.detail.Detail.TheVariants.{Notable}
+use Rattle.replays.specs.declared.end.End.{End}
+use Rattle.replays.specs.declared.end.End.TheVariants.{Ended, Deadlock, Fault, Running}
+use Rattle.machine.specs.Views.{world_model}
+use Rattle.runs.specs.Ends.{IsAnEnd}
+use Rattle.runs.specs.declared.ending.Run.{Run}
+use Rattle.deadlocks.specs.Deadlocks.{HasNoDeadlock, LeadsToDeadlock}
+use Rattle.deadlocks.specs.GraphDeadlocks.{ReachesWorlds}
+use Rattle.devices.specs.RunFaults.{IsBoundsFault}
+use Rattle.devices.specs.declared.fault.RunFault.{RunFault}
+use Rattle.devices.specs.declared.fault.RunFault.TheVariants.{Entry, Memory}
+use Rattle.devices.specs.declared.fault.Status.{Status}
+use Rattle.devices.specs.declared.fault.Status.TheVariants.{Empty, Found}
+use Rattle.singcheck.specs.Answers.{AreFindings}
+use Rattle.singcheck.specs.Lines.{none_line, unknown_line}
+use Rattle.singcheck.specs.Replays.{HasEntry, method_names, struct_names}
+use Rattle.singcheck.specs.Reports.{IsReportOf}
+
+-- where the names in the lines of a run come from: the items of the text
+abbrev pub run_words : (text : List ℕ) → List ItemTree → ProgramModel → Detail → TraceWords
+run_words text items p detail =
+    record { words = record { program = p; structs = struct_names text items }; methods = method_names text items; detail = detail }
+
+-- the lines of a run
+abbrev pub lines_of_run : TraceWords → Run → List ℕ
+lines_of_run t r =
+    run_lines t (world_model r.journal.world) (length r.journal.events.items) r.journal.lines.items r.journal.conditions r.end []
+
+-- the status of a run: `Found` if it ends in a deadlock or a fault
+abbrev pub end_status : End → Status
+end_status Ended = Empty
+end_status Deadlock = Found
+end_status (Fault e fault at) = Found
+end_status Running = Empty
+
+-- these are the lines of some run from the entry, with its end
+pub record IsRunOf (entry : List ℕ) (detail : Detail) (text : List ℕ) (end : End) (bytes : List ℕ) : Type 0 where
+  pub program : ProgramModel
+  pub n : ℕ
+  pub entered : HasEntry text entry program n
+  pub events : List Event
+  pub lines : List ℕ
+  pub conditions : ℕ
+  pub world : World
+  pub leads : (bound : QueueBounds) → AreBounds program bound
+      → HasLines (run_words text entered.has.resolved.items program detail) bound (start_of program n) events world lines conditions
+  pub ends : IsAnEnd program world end
+  pub are : bytes
+      ≡ run_lines (run_words text entered.has.resolved.items program detail) world (length events) lines conditions end []
+
+-- the lines of some run from the entry, and a seed
+pub record IsSeededRun (entry : List ℕ) (detail : Detail) (text bytes : List ℕ) (status : Status) : Type 0 where
+  pub end : End
+  pub lines : List ℕ
+  pub seed : ℕ
+  pub run : IsRunOf entry detail text end lines
+  pub are : bytes ≡ lines ++ seed_line seed
+  pub is : status ≡ end_status end
+
+-- what `run` returns: the findings before the methods, or a run
+pub data RunsAtRandom (entry : List ℕ) (detail : Detail) (text bytes : List ℕ) (status : Status) : Type 0 where
+  OfFindings : IsReportOf (AreFindings text) bytes → status ≡ Found → RunsAtRandom entry detail text bytes status
+  OfRun : IsSeededRun entry detail text bytes status → RunsAtRandom entry detail text bytes status
+
+-- a run that does not end in a fault
+pub record RunsFaultless (entry : List ℕ) (detail : Detail) (text bytes : List ℕ) (status : Status) : Type 0 where
+  pub run : IsSeededRun entry detail text bytes status
+  pub no_fault : (e : Event) (fault : made.Fault) (at : Place) → run.end ≢ Fault e fault at
+
+-- no run from the entry ever reaches a deadlock, and runs from it reach exactly so many worlds
+pub record NeverLocks (entry text : List ℕ) (worlds : ℕ) : Type 0 where
+  pub program : ProgramModel
+  pub n : ℕ
+  pub entered : HasEntry text entry program n
+  pub none : (bound : QueueBounds) → AreBounds program bound → HasNoDeadlock program bound n
+  pub reaches : (bound : QueueBounds) → AreBounds program bound → ReachesWorlds program bound n worlds
+
+-- what `explore` returns if it visits at most `most` worlds: the findings before the methods, a run into a deadlock, that there is none,
+-- or that none was found
+pub data Explores (entry : List ℕ) (most : ℕ) (text bytes : List ℕ) (status : Status) : Type 0 where
+  Refused : IsReportOf (AreFindings text) bytes → status ≡ Found → Explores entry most text bytes status
+  Locks : IsRunOf entry Notable text Deadlock bytes → status ≡ Found → Explores entry most text bytes status
+  Whole : (worlds : ℕ) → NeverLocks entry text worlds → bytes ≡ none_line worlds → status ≡ Empty → Explores entry most text bytes status
+  Unknown : bytes ≡ unknown_line most → status ≡ Empty → Explores entry most text bytes status
+
+-- the fault of `run` and `explore`: they cannot read the text or write, there is no entry, or memory runs out
+abbrev pub IsRunningFault : RunFault → Type 0
+IsRunningFault Entry = Unit {0}
+IsRunningFault fault = IsBoundsFault fault
+
+-- the fault of a run of a text that was read
+abbrev pub IsTextRunFault : RunFault → Type 0
+IsTextRunFault Entry = Unit {0}
+IsTextRunFault Memory = Unit {0}
+IsTextRunFault _ = ⊥
