@@ -10,10 +10,9 @@ use Rattle.clap.specs.declared.parser.matches.ArgMatches.TheViews.{out-ArgMatche
 use Rattle.clap.specs.declared.parser.matches.SubCommand.{SubCommand}
 use Rattle.clap.proofs.OnLiterals.{clap_on_literals}
 use Rattle.clap.proofs.WalkLemmas.{first_value-rows}
-use Rattle.command_line.specs.Asking.{Asks, AsksOf, Gives, GivesReplay, GivesRun, IsCheckOf, IsExploreOf, IsReplayOf, IsRunOf, IsWhyOf, NamesPlace}
-use Rattle.command_line.specs.Asking.{text_in, whole_command}
+use Rattle.command_line.specs.Asking.{Asks, AsksOf, Gives, GivesReplay, IsReplayOf, IsWhyOf, NamesPlace, whole_command}
 use Rattle.command_line.specs.declared.request.Ask.{Ask}
-use Rattle.command_line.specs.declared.request.Ask.TheVariants.{Bounds, Check, Explore, Replay, Run, Why}
+use Rattle.command_line.specs.declared.request.Ask.TheVariants.{Bounds, Check, Replay, Why}
 
 whole_is_simple : is_simple whole_command ≡ true
 unfolding clap_on_literals
@@ -42,8 +41,6 @@ asks_why words m inner command (Why file named) is has name rows holds = asks_of
 asks_why words m inner command (Bounds file) is has name rows holds = absurd holds
 asks_why words m inner command (Check file workers slots) is has name rows holds = absurd holds
 asks_why words m inner command (Replay file entry schedule) is has name rows holds = absurd holds
-asks_why words m inner command (Run file entry wanted) is has name rows holds = absurd holds
-asks_why words m inner command (Explore file entry worlds schedule) is has name rows holds = absurd holds
 
 -- a name that has no text
 pub gives_none : (inner : ArgMatches) (name : Text) → first_value (found_of inner) name ≡ None → first_of name (rows_of (found_of inner)) ≡ None
@@ -53,42 +50,6 @@ gives_none inner name none = sym (first_value-rows (found_of inner) name) ∙ no
 pub asks_replay : (words : List Text) (m inner : ArgMatches) (command : App) (asked : Ask) → command ≡ whole_command → HasMatchesOf command words m → subcommand_name_of m ≡ Some (codes "replay")
     → option_map (λ p. p.1) (subcommand_rows (out-ArgMatches m).subcommand) ≡ Some (rows_of (found_of inner)) → IsReplayOf (rows_of (found_of inner)) asked → Asks words asked
 asks_replay words m inner command (Replay file entry schedule) is has name rows holds = asks_of words m inner (codes "replay") command (GivesReplay file.now entry.now schedule.now) is has name rows holds
-asks_replay words m inner command (Why file named) is has name rows holds = absurd holds
 asks_replay words m inner command (Bounds file) is has name rows holds = absurd holds
 asks_replay words m inner command (Check file workers slots) is has name rows holds = absurd holds
-asks_replay words m inner command (Run file entry wanted) is has name rows holds = absurd holds
-asks_replay words m inner command (Explore file entry worlds schedule) is has name rows holds = absurd holds
-
--- a check that the arguments give is one that the words ask for
-pub asks_check : (words : List Text) (m inner : ArgMatches) (command : App) (asked : Ask) → command ≡ whole_command → HasMatchesOf command words m → subcommand_name_of m ≡ Some (codes "check")
-    → option_map (λ p. p.1) (subcommand_rows (out-ArgMatches m).subcommand) ≡ Some (rows_of (found_of inner)) → IsCheckOf (rows_of (found_of inner)) asked → Asks words asked
-asks_check words m inner command (Check file workers slots) is has name rows holds = asks_of words m inner (codes "check") command (λ rows. Gives rows (codes "FILE") file.now) is has name rows holds
-asks_check words m inner command (Why file named) is has name rows holds = absurd holds
-asks_check words m inner command (Bounds file) is has name rows holds = absurd holds
-asks_check words m inner command (Replay file entry schedule) is has name rows holds = absurd holds
-asks_check words m inner command (Run file entry wanted) is has name rows holds = absurd holds
-asks_check words m inner command (Explore file entry worlds schedule) is has name rows holds = absurd holds
-
--- a run that the arguments give is one that the words ask for
-pub asks_run : (words : List Text) (m inner : ArgMatches) (command : App) (asked : Ask) → command ≡ whole_command → HasMatchesOf command words m → subcommand_name_of m ≡ Some (codes "run")
-    → option_map (λ p. p.1) (subcommand_rows (out-ArgMatches m).subcommand) ≡ Some (rows_of (found_of inner)) → IsRunOf (rows_of (found_of inner)) asked → Asks words asked
-asks_run words m inner command (Run file entry wanted) is has name rows holds = asks_of words m inner (codes "run") command (GivesRun file.now entry.now (text_in wanted.schedule)) is has name rows holds
-asks_run words m inner command (Why file named) is has name rows holds = absurd holds
-asks_run words m inner command (Bounds file) is has name rows holds = absurd holds
-asks_run words m inner command (Check file workers slots) is has name rows holds = absurd holds
-asks_run words m inner command (Replay file entry schedule) is has name rows holds = absurd holds
-asks_run words m inner command (Explore file entry worlds schedule) is has name rows holds = absurd holds
-
--- a search that the arguments give is one that the words ask for
-pub asks_explore : (words : List Text) (m inner : ArgMatches) (command : App) (asked : Ask) → command ≡ whole_command → HasMatchesOf command words m → subcommand_name_of m ≡ Some (codes "explore")
-    → option_map (λ p. p.1) (subcommand_rows (out-ArgMatches m).subcommand) ≡ Some (rows_of (found_of inner)) → IsExploreOf (rows_of (found_of inner)) asked → Asks words asked
-asks_explore words m inner command (Explore file entry worlds schedule) is has name rows holds = asks_of words m inner (codes "explore") command (GivesRun file.now entry.now (text_in schedule)) is has name rows holds
-asks_explore words m inner command (Why file named) is has name rows holds = absurd holds
-asks_explore words m inner command (Bounds file) is has name rows holds = absurd holds
-asks_explore words m inner command (Check file workers slots) is has name rows holds = absurd holds
-asks_explore words m inner command (Replay file entry schedule) is has name rows holds = absurd holds
-asks_explore words m inner command (Run file entry wanted) is has name rows holds = absurd holds
-
--- the text that a name has, if it has one
-pub gives_in : (inner : ArgMatches) (name : Text) (text : Option Text) → text ≡ first_value (found_of inner) name → first_of name (rows_of (found_of inner)) ≡ text
-gives_in inner name text is = sym (first_value-rows (found_of inner) name) ∙ sym is
+asks_replay words m inner command (Why file named) is has name rows holds = absurd holds

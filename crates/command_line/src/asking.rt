@@ -2,10 +2,10 @@
 
 ghost use Rattle.std.specs.Prelude.{map, IfOk, IfSome};
 ghost use Rattle.clap.specs.Words.{found_of, rows_of};
-ghost use Rattle.command_line.specs.Asking.{Asks, IsCheckOf, IsExploreOf, IsPlaceText, IsReplayOf, IsRunOf, IsWhyOf, NamesPlace};
+ghost use Rattle.command_line.specs.Asking.{Asks, IsPlaceText, IsReplayOf, IsWhyOf, NamesPlace};
 
 use crate::commands::whole_of;
-use crate::request::{Ask, Wanted};
+use crate::request::Ask;
 use clap::error::ErrorKind;
 use clap::{ArgMatches, Error};
 use source::Place;
@@ -16,15 +16,6 @@ const WORKERS: usize = 4;
 
 /// The default number of slots.
 const SLOTS: usize = 65_536;
-
-/// The default seed of a random run.
-const SEED: usize = 1;
-
-/// The default number of events that a random run has at most.
-const STEPS: usize = 10_000;
-
-/// The default number of worlds that a search visits at most.
-const WORLDS: usize = 100_000;
 
 /// Returns what the words of a command line ask for. The first word is the program's name.
 ///
@@ -41,24 +32,13 @@ pub fn ask<'a>(alloc: Global, words: &'a [&'a str]) -> Result<Ask<'a>, Error>
         }
     }
     if let Some(("check", inner)) = matches.subcommand() {
-        if let Some(asked) = check_asked(inner) {
-            return Ok(asked);
+        if let Some(file) = inner.get_str("FILE") {
+            return Ok(Ask::Check {
+                file,
+                workers: inner.get_one("workers").unwrap_or(WORKERS),
+                slots: inner.get_one("slots").unwrap_or(SLOTS),
+            });
         }
-    }
-    if let Some(("run", inner)) = matches.subcommand() {
-        let Some(asked) = run_asked(inner) else {
-            return Err(command.error(
-                ErrorKind::InvalidValue,
-                "--steps and --runs are at least 1",
-            )?);
-        };
-        return Ok(asked);
-    }
-    if let Some(("explore", inner)) = matches.subcommand() {
-        let Some(asked) = explore_asked(inner) else {
-            return Err(command.error(ErrorKind::InvalidValue, "--worlds is at least 1")?);
-        };
-        return Ok(asked);
     }
     if let Some(("why", inner)) = matches.subcommand() {
         let Some(asked) = why_asked(inner) else {
@@ -72,60 +52,6 @@ pub fn ask<'a>(alloc: Global, words: &'a [&'a str]) -> Result<Ask<'a>, Error>
         }
     }
     Err(command.error(ErrorKind::MissingSubcommand, "a subcommand is required")?)
-}
-
-/// Returns what the arguments of `check` ask for.
-fn check_asked<'a>(inner: &ArgMatches<'a>) -> Option<Ask<'a>>
-    ensures { IfSome result (IsCheckOf (rows_of (found_of inner.now))) }
-{
-    let file = inner.get_str("FILE")?;
-    Some(Ask::Check {
-        file,
-        workers: inner.get_one("workers").unwrap_or(WORKERS),
-        slots: inner.get_one("slots").unwrap_or(SLOTS),
-    })
-}
-
-/// Returns what the arguments of `run` ask for. `None` if the number of events or of runs is 0.
-fn run_asked<'a>(inner: &ArgMatches<'a>) -> Option<Ask<'a>>
-    ensures { IfSome result (IsRunOf (rows_of (found_of inner.now))) }
-{
-    let file = inner.get_str("FILE")?;
-    let entry = inner.get_str("ENTRY")?;
-    let wanted = Wanted {
-        seed: inner.get_one("seed").unwrap_or(SEED),
-        steps: inner.get_one("steps").unwrap_or(STEPS),
-        runs: inner.get_one("runs").unwrap_or(1),
-        all: inner.get_flag("all"),
-        schedule: inner.get_str("schedule"),
-    };
-    if wanted.steps == 0 || wanted.runs == 0 {
-        return None;
-    }
-    Some(Ask::Run {
-        file,
-        entry,
-        wanted,
-    })
-}
-
-/// Returns what the arguments of `explore` ask for. `None` if the number of worlds is 0.
-fn explore_asked<'a>(inner: &ArgMatches<'a>) -> Option<Ask<'a>>
-    ensures { IfSome result (IsExploreOf (rows_of (found_of inner.now))) }
-{
-    let file = inner.get_str("FILE")?;
-    let entry = inner.get_str("ENTRY")?;
-    let worlds = inner.get_one("worlds").unwrap_or(WORLDS);
-    let schedule = inner.get_str("schedule");
-    if worlds == 0 {
-        return None;
-    }
-    Some(Ask::Explore {
-        file,
-        entry,
-        worlds,
-        schedule,
-    })
 }
 
 /// Returns what the arguments of `replay` ask for.

@@ -13,5 +13,6 @@ mod unknown;
 mod words;
 
 pub use faults::fault_remark;
+pub use line::Remark;
 pub use listing::MAX_NAME;
 pub use mistakes::remark;

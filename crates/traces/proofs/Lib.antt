@@ -1,3 +1,4 @@
 pub mod LineLemmas
 pub mod ManyLemmas
 pub mod NameLemmas
+pub mod ShownLemmas

@@ -1,4 +1,5 @@
 pub mod Explained
 pub mod Lines
+pub mod Shown
 pub mod Steps
 pub mod Watched

@@ -1,7 +1,9 @@
-use Rattle.std.proofs.Common.{map, subst, sym}
-use Rattle.std.specs.List.{All}
-use Rattle.program.specs.Parts.{contract_model}
-use Rattle.singcheck.specs.Broken.{IsBrokenIn}
+use Rattle.std.proofs.Common.{ap, length, map, subst, sym, arith}
+use Rattle.std.proofs.lemmas.List.{length-map}
+use Rattle.std.proofs.lemmas.List.Elements.{All-same}
+use Rattle.source.specs.Findings.{finding_model}
+use Rattle.program.specs.Parts.{IsWhole, contract_model}
+use Rattle.program.specs.Programs.{contracts_model}
 use Rattle.singcheck.specs.Fronts.{AreBrokenOf, AreMistaken, IsRefused}
 use Rattle.singcheck.specs.Remarked.{HasFault}
 use Rattle.singcheck.specs.Unexpected.{IsUnexpected}
@@ -34,12 +36,19 @@ explain_names-requires c = record {
 pub explain_contracts-requires : goal.explain_contracts-requires
 explain_contracts-requires c =
     let broken = subst (IsRefused c.args.text.now) c.in-Contracts.is c.requires.refused in
-    record { each = subst (λ l. All (IsBrokenIn l) c.in-Contracts.broken.items) (sym c.contracts.ensures) broken.are.each }
+    let resolved = c.contracts.result.now.contracts.items in
+    let size = length-map resolved contract_model in
+    let same = ap length c.contracts.ensures in
+    record {
+      whole = All-same (λ s. IsWhole s.parts) (map contract_model resolved) (contracts_model c.in-Contracts.methods) c.contracts.ensures broken.whole;
+      few = omega (arith, size, same, broken.room);
+    }
 
 pub returns-in-Contracts : goal.returns-in-Contracts
 returns-in-Contracts c =
     let text = c.args.text.now in
+    let found = map finding_model c.in-Contracts.field-1.items in
     let broken = subst (IsRefused text) c.in-Contracts.is c.requires.refused in
-    let same = subst (λ l. AreBrokenOf text l c.in-Contracts.broken.items) (sym c.contracts.ensures) broken in
-    contracts_explained_if c.args.named text (map contract_model c.contracts.result.now.contracts.items) c.in-Contracts.broken.items same c.explain_contracts.result
-    c.explain_contracts.ensures.same c.explain_contracts.ensures.each
+    let same = subst (λ l. AreBrokenOf text l found) (sym c.contracts.ensures) broken in
+    contracts_explained_if c.args.named text (map contract_model c.contracts.result.now.contracts.items) found same c.explain_contracts.result
+    c.explain_contracts.ensures.found c.explain_contracts.ensures.each

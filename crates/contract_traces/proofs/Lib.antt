@@ -1,3 +1,0 @@
-pub mod ConditionLemmas
-pub mod ShownLemmas
-pub mod TableLemmas

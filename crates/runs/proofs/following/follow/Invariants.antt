@@ -1,7 +1,0 @@
-use Rattle.replays.specs.Journals.{IsJournal}
-use Rattle.replays.specs.Telling.{tracer_words}
-use Rattle.runs.proofs.following.follow.Given as goal
-
--- the journal is one of a run of the method
-abbrev pub invariant-loop-event : goal.invariant-loop-event
-invariant-loop-event l = IsJournal (tracer_words l.tracer) l.fn.method.0 l.journal
