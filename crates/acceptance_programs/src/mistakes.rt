@@ -5,8 +5,9 @@ ghost use Rattle.tree.specs.Programs.{program};
 ghost use Rattle.tree.specs.Trees.{program_tree};
 
 use declarations::{Limit, Mistake, NameSort, add_twice, add_unknown, findings_of};
+use explanations::Line;
 use names::judge_names;
-use remarks::{Remark, fault_remark, remark};
+use remarks::{fault_remark, remark};
 use source::{Place, Span, TextFault, lex};
 use std::alloc::Global;
 use std::test::Fail;
@@ -14,7 +15,7 @@ use syntax::parse;
 use tree::Tree;
 
 /// Returns the line of a remark; a dash if there is none.
-fn line_of(alloc: Global, said: Option<Remark>) -> Result<String, Fail> {
+fn line_of(alloc: Global, said: Option<Line>) -> Result<String, Fail> {
     match said {
         Some(said) => {
             let Place { line, col } = said.place;

@@ -3,10 +3,11 @@ use Rattle.std.specs.Prelude.{codes, Option, None}
 use Rattle.source.specs.Places.{first_place}
 use Rattle.source.specs.declared.fault.TextFault.{TextFault}
 use Rattle.source.specs.declared.fault.TextFault.TheVariants.{Stray, OpenComment, TooLong, TooDeep, TooLarge, Memory}
-use Rattle.remarks.specs.Remarks.{RemarkModel, at}
+use Rattle.explanations.specs.Lines.{LineModel}
+use Rattle.remarks.specs.Remarks.{at}
 
 -- the remark on a fault; none for `Memory`, which is no fault of the text
-abbrev pub fault_remark : TextFault → Option RemarkModel
+abbrev pub fault_remark : TextFault → Option LineModel
 fault_remark (Stray place) = at place (codes "no blank, comment or token begins so")
 fault_remark (OpenComment place) = at place (codes "its end, */, is missing")
 fault_remark TooLong = at first_place (codes "a text has at most 4194304 bytes")

@@ -19,20 +19,13 @@ use Rattle.remarks.specs.Candidates.{candidates}
 use Rattle.source.specs.declared.token.Span.{Span}
 use Rattle.declarations.specs.declared.mistake.Mistake.TheVariants as mistake
 use Rattle.remarks.specs.TypeWords.{cut_name, demand_words, type_words}
-use Rattle.remarks.specs.declared.line.Remark.{Remark}
+use Rattle.explanations.specs.Lines.{LineModel, line}
 use Rattle.std.specs.Str.Lossy.{utf8_lossy}
 use Rattle.tables.specs.Words.{word_at}
 
--- a remark: its place and its text
-pub record RemarkModel : Type 0 where
-  pub place : Place
-  pub text : List ℕ
-
-abbrev pub remark_model : Remark → RemarkModel
-remark_model r = record { place = r.place; text = r.text.items }
-
-abbrev pub at : Place → List ℕ → Option RemarkModel
-at place text = Some (record { place = place; text = text })
+-- a remark with this text at the place
+abbrev pub at : Place → List ℕ → Option LineModel
+at place text = Some (line place text)
 
 abbrev pub side_words : Side → List ℕ
 side_words Imp = codes "the importer"
@@ -74,18 +67,18 @@ front_words (sort.Sent n) = codes "Send"
 front_words _ = []
 
 -- the nearest of the names that could be meant, if one is near
-abbrev pub near_remark : ProgramText → Span → NameSort → Option RemarkModel
+abbrev pub near_remark : ProgramText → Span → NameSort → Option LineModel
 near_remark p name s = option_and_then
     (λ near. at near.place (codes "the nearest name is " ++ (front_words s ++ cut_name (word_at p.text near))))
     (nearest_name p.text (word_sought p name s) (candidates p name.place s))
 
 -- the remark on a name of a sort that nothing declares
-abbrev pub unknown_remark : ProgramText → Span → NameSort → Option RemarkModel
+abbrev pub unknown_remark : ProgramText → Span → NameSort → Option LineModel
 unknown_remark p name sort.Length = at name.place (codes "an array has only its Length")
 unknown_remark p name s = near_remark p name s
 
 -- the remark on a mistake
-abbrev pub remark_of : ProgramText → Mistake → Option RemarkModel
+abbrev pub remark_of : ProgramText → Mistake → Option LineModel
 remark_of p (mistake.DeclaredTwice name first) = at first (codes "declared here first")
 remark_of p (mistake.Unknown name sort) = unknown_remark p name sort
 remark_of p (mistake.WrongType place why) = at place (mismatch_words p why)

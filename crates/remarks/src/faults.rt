@@ -2,9 +2,10 @@
 
 ghost use Rattle.std.specs.Prelude.{◌≡◌, IfOk, option_map};
 ghost use Rattle.remarks.specs.FaultRemarks.{fault_remark};
-ghost use Rattle.remarks.specs.Remarks.{remark_model};
+ghost use Rattle.explanations.specs.Lines.{line_model};
 
-use crate::line::{Remark, plain};
+use crate::line::plain;
+use explanations::Line;
 use source::{Memory, Place, TextFault};
 use std::alloc::Global;
 
@@ -13,8 +14,8 @@ const START: Place = Place { line: 1, col: 1 };
 
 /// Returns the remark on a fault of the text: what is missing, or how much is allowed. Returns `None` for
 /// `TextFault::Memory`, which is no fault of the text. Returns `Memory` if an allocation was refused.
-pub fn fault_remark(alloc: Global, fault: TextFault) -> Result<Option<Remark>, Memory>
-    ensures { IfOk result (λ said. option_map remark_model said ≡ fault_remark fault) }
+pub fn fault_remark(alloc: Global, fault: TextFault) -> Result<Option<Line>, Memory>
+    ensures { IfOk result (λ said. option_map line_model said ≡ fault_remark fault) }
 {
     match fault {
         TextFault::Stray(place) => plain(alloc, place, "no blank, comment or token begins so"),

@@ -13,6 +13,5 @@ mod unknown;
 mod words;
 
 pub use faults::fault_remark;
-pub use line::Remark;
 pub use listing::MAX_NAME;
 pub use mistakes::remark;

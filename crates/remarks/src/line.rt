@@ -1,32 +1,27 @@
-//! A remark, which is one more line about a finding, and the parts of its text.
+//! The line of a remark, and the parts of its text.
 
 ghost use Rattle.std.specs.Prelude.{◌≡◌, ◌++◌, IfOk, OnOk, option_map, string_bytes};
 ghost use Rattle.std.specs.Fmt.{decimal};
-ghost use Rattle.remarks.specs.Remarks.{at, remark_model};
+ghost use Rattle.explanations.specs.Lines.{line_model};
+ghost use Rattle.remarks.specs.Remarks.{at};
 
+use explanations::Line;
 use itoa::Buffer;
 use source::{Memory, Place};
 use std::alloc::Global;
 
-/// One more line about a finding, and the place that the line is about.
-#[derive(Drop)]
-pub struct Remark {
-    pub place: Place,
-    pub text: Vec<u8>,
-}
-
 /// Returns a remark with this text. Returns `Memory` if an allocation was refused.
-pub(crate) fn plain(alloc: Global, place: Place, text: &str) -> Result<Option<Remark>, Memory>
-    ensures { IfOk result (λ said. option_map remark_model said ≡ at place text.now) }
+pub(crate) fn plain(alloc: Global, place: Place, text: &str) -> Result<Option<Line>, Memory>
+    ensures { IfOk result (λ said. option_map line_model said ≡ at place text.now) }
 {
     Ok(remark_at(place, String::from_str(alloc, text)?))
 }
 
 /// Returns a remark that owns this text.
-pub(crate) fn remark_at(place: Place, text: String) -> Option<Remark>
-    ensures { option_map remark_model result ≡ at place (string_bytes text) }
+pub(crate) fn remark_at(place: Place, text: String) -> Option<Line>
+    ensures { option_map line_model result ≡ at place (string_bytes text) }
 {
-    Some(Remark {
+    Some(Line {
         place,
         text: text.into_bytes(),
     })

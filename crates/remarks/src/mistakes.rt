@@ -5,15 +5,17 @@ ghost use Rattle.std.specs.Fmt.{decimal};
 ghost use Rattle.declarations.specs.Mistakes.{most_of};
 ghost use Rattle.declarations.specs.Resolution.{printed_name};
 ghost use Rattle.remarks.specs.Listings.{program_model};
-ghost use Rattle.remarks.specs.Remarks.{limit_back, limit_front, mismatch_words, remark_of, remark_model};
+ghost use Rattle.explanations.specs.Lines.{line_model};
+ghost use Rattle.remarks.specs.Remarks.{limit_back, limit_front, mismatch_words, remark_of};
 ghost use Rattle.tree.specs.Trees.{item_tree};
 
-use crate::line::{Remark, add, add_number, plain, remark_at};
+use crate::line::{add, add_number, plain, remark_at};
 use crate::listing::ItemListing;
 use crate::mismatches::add_mismatch;
 use crate::unknown::unknown_remark;
 use crate::words::{limit_back, limit_front};
 use declarations::{Limit, Mismatch, Mistake};
+use explanations::Line;
 use source::{Memory, Span};
 use std::alloc::Global;
 use tree::Item;
@@ -26,8 +28,8 @@ pub fn remark(
     text: &[u8],
     items: &[Item],
     mistake: Mistake,
-) -> Result<Option<Remark>, Memory>
-    ensures { IfOk result (λ said. option_map remark_model said
+) -> Result<Option<Line>, Memory>
+    ensures { IfOk result (λ said. option_map line_model said
         ≡ remark_of (record { text = text.now; items = map item_tree items.now }) mistake) }
 {
     let listing = ItemListing { text, items };

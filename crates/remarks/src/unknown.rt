@@ -3,15 +3,18 @@
 ghost use Rattle.std.specs.Prelude.{◌≡◌, ◌++◌, IfOk, codes, option_map, string_bytes};
 ghost use Rattle.remarks.specs.TypeWords.{cut_name};
 ghost use Rattle.remarks.specs.Listings.{program_model};
-ghost use Rattle.remarks.specs.Remarks.{front_words, near_remark, remark_model, unknown_remark};
+ghost use Rattle.explanations.specs.Lines.{line_model};
+ghost use Rattle.remarks.specs.Remarks.{front_words, near_remark, unknown_remark};
+ghost use Rattle.explanations.specs.Lines.{line_model};
 ghost use Rattle.remarks.specs.Remarks.{word_sought};
 ghost use Rattle.tables.specs.Words.{word_at};
 
-use crate::line::{Remark, add, plain, remark_at};
+use crate::line::{add, plain, remark_at};
 use crate::listing::{ItemListing, add_cut};
 use crate::mismatches::after_send;
 use crate::words::front_words;
 use declarations::NameSort;
+use explanations::Line;
 use nearest::nearest;
 use source::{Memory, Span};
 use std::alloc::Global;
@@ -24,8 +27,8 @@ pub(crate) fn unknown_remark(
     listing: &ItemListing<'_>,
     name: Span,
     sort: NameSort,
-) -> Result<Option<Remark>, Memory>
-    ensures { IfOk result (λ said. option_map remark_model said
+) -> Result<Option<Line>, Memory>
+    ensures { IfOk result (λ said. option_map line_model said
         ≡ unknown_remark (program_model listing.now) name sort) }
 {
     match sort {
@@ -41,8 +44,8 @@ fn near_remark(
     listing: &ItemListing<'_>,
     name: Span,
     sort: NameSort,
-) -> Result<Option<Remark>, Memory>
-    ensures { IfOk result (λ said. option_map remark_model said
+) -> Result<Option<Line>, Memory>
+    ensures { IfOk result (λ said. option_map line_model said
         ≡ near_remark (program_model listing.now) name sort) }
 {
     let names = listing.candidates(alloc, name.place, sort)?;

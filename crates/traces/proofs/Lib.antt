@@ -1,4 +1,3 @@
 pub mod LineLemmas
 pub mod ManyLemmas
 pub mod NameLemmas
-pub mod ShownLemmas

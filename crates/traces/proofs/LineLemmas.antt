@@ -19,7 +19,8 @@ use Rattle.analyse.specs.Fronts.{Visit}
 use Rattle.analyse.specs.Trails.{AreTrails}
 use Rattle.analyse.specs.declared.trail.Trails.{Trails}
 use Rattle.analyse.proofs.SearchLemmas.{view_at}
-use Rattle.traces.specs.Lines.{LineModel, came_at, case_line, case_lines, changes, changes_with, choice, keeps, line, move_in, path_lines, step_lines, takes}
+use Rattle.explanations.specs.Lines.{LineModel, line}
+use Rattle.traces.specs.Lines.{came_at, case_line, case_lines, changes, changes_with, choice, keeps, move_in, path_lines, step_lines, takes}
 use Rattle.traces.specs.Steps.{first_place}
 
 module _ (p : ProgramModel) (m : MethodModel) where

@@ -7,8 +7,8 @@ use Rattle.source.specs.declared.finding.Code.TheVariants.{A14}
 use Rattle.source.specs.declared.place.Place.{Place}
 use Rattle.program.specs.Programs.{ProgramModel}
 use Rattle.analyse.specs.Verdicts.{HasTooMany, IsMethodVerdict, place_of_method, too_many_pairs}
-use Rattle.traces.specs.Lines.{line, line_model}
-use Rattle.traces.specs.declared.line.Line.{Line}
+use Rattle.explanations.specs.Lines.{line, line_model}
+use Rattle.explanations.specs.declared.line.Line.{Line}
 use Rattle.analyse.proofs.ListLemmas.{has_here, only_one}
 
 pub parts_of : (finding : Finding) (place : Place) → IsFinding place A14 (codes "too many pairs") finding → finding_model finding ≡ too_many_pairs place

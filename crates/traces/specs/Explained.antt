@@ -1,8 +1,6 @@
 -- Why a method has a finding.
-use Rattle.std.specs.Prelude.{◌≡◌, ◌++◌, ◌∷◌, [], ℕ, Bool, true, false, List, Option, Some, None, IsSomeAnd, map, slice_get, codes}
+use Rattle.std.specs.Prelude.{◌≡◌, ◌++◌, ◌∷◌, [], ℕ, true, false, List, Option, IsSomeAnd, slice_get, codes}
 use Rattle.std.specs.Fmt.{decimal}
-use Rattle.source.specs.Findings.{FindingModel, finding_model}
-use Rattle.source.specs.contracts.place.PlacePartialEq.TheImpl.{eq-value as same_place}
 use Rattle.source.specs.declared.place.Place.{Place}
 use Rattle.program.specs.Methods.{MethodModel}
 use Rattle.program.specs.Programs.{ProgramModel}
@@ -13,21 +11,10 @@ use Rattle.rules.specs.declared.breach.Breach.{Breach}
 use Rattle.analyse.specs.Traces.{IsTrace}
 use Rattle.analyse.specs.Verdicts.{HasTooMany, place_of_method, too_many_pairs}
 use Rattle.analyse.specs.declared.analysing.TheConstants.{MOST_PAIRS}
-use Rattle.traces.specs.Lines.{LineModel, line, line_model, path_lines, start_lines}
+use Rattle.explanations.specs.Explained.{ExplainedModel, is_asked}
+use Rattle.explanations.specs.Lines.{LineModel, line}
+use Rattle.traces.specs.Lines.{path_lines, start_lines}
 use Rattle.traces.specs.Watched.{variables_of_reason}
-use Rattle.traces.specs.declared.line.Explained.{Explained}
-use Rattle.traces.specs.declared.line.Line.{Line}
-
--- a finding and its lines
-pub record ExplainedModel : Type 0 where
-  pub finding : FindingModel
-  pub lines : List LineModel
-
-abbrev pub explained_as : FindingModel → List Line → ExplainedModel
-explained_as finding lines = record { finding = finding; lines = map line_model lines }
-
-abbrev pub explained_model : Explained → ExplainedModel
-explained_model e = explained_as (finding_model e.finding) e.lines.items
 
 -- the lines of a path from the first pair to a step of the method that fails with the breach
 abbrev pub trace_lines : ProgramModel → MethodModel → Breach → (first : Pair) → (steps : List Pair) → (at : Pair) → List LineModel
@@ -55,11 +42,6 @@ pub record HasNoTrace (p : ProgramModel) (method : ℕ) (e : ExplainedModel) : T
 pub data IsExplained (p : ProgramModel) (method : ℕ) (e : ExplainedModel) : Type 0 where
   ByTrace : HasTrace p method e → IsExplained p method e
   ByCount : HasNoTrace p method e → IsExplained p method e
-
--- whether lines are asked for at a place: everywhere, unless one place is named
-abbrev pub is_asked : Option Place → Place → Bool
-is_asked None place = true
-is_asked (Some named) place = same_place.it named place
 
 -- a finding is explained if that is asked for, and has no lines otherwise
 pub record IsExplainedIf (named : Option Place) (p : ProgramModel) (method : ℕ) (e : ExplainedModel) : Type 0 where

@@ -1,12 +1,12 @@
 -- The lines of a path through a method: one for each choice that it makes, and one for each change of a watched variable.
-use Rattle.std.specs.Prelude.{ℕ, ◌==◌, ◌-◌, Bool, ◌&&◌, ◌||◌, List, [], ◌∷◌, ◌++◌, Option, Some, None, filter, flat_map, map}
+use Rattle.std.specs.Prelude.{ℕ, ◌==◌, Bool, ◌&&◌, ◌||◌, List, [], ◌∷◌, ◌++◌, Option, Some, None, filter, flat_map, map}
 use Rattle.std.specs.Prelude.{slice_get, codes, if◌then◌else◌}
 use Rattle.std.specs.List.{list_all}
 use Rattle.std.specs.Option.{option_map_or}
 use Rattle.source.specs.declared.place.Place.{Place}
 use Rattle.program.specs.Methods.{MethodModel}
-use Rattle.program.specs.Parts.{Parts}
 use Rattle.program.specs.Programs.{ProgramModel}
+use Rattle.explanations.specs.Lines.{LineModel, line, name_of_state}
 use Rattle.program.specs.declared.types.HeapType.{HeapType}
 use Rattle.program.specs.declared.types.HeapType.TheVariants.{Endpoint}
 use Rattle.program.specs.declared.statement.Awaited.{Awaited}
@@ -26,18 +26,6 @@ use Rattle.rows.specs.Rows.{is_owned, leaf_at}
 use Rattle.rows.specs.contracts.row.LeafPartialEq.TheImpl.{eq-value as same_leaf}
 use Rattle.rows.specs.declared.row.Leaf.{Leaf}
 use Rattle.rows.specs.declared.row.Leaf.TheVariants.{Nothing, Block, CutOff, State}
-use Rattle.traces.specs.declared.line.Line.{Line}
-
--- a line: a place and a text
-pub record LineModel : Type 0 where
-  pub place : Place
-  pub text : List ℕ
-
-abbrev pub line_model : Line → LineModel
-line_model l = record { place = l.place; text = l.text.items }
-
-abbrev pub line : Place → List ℕ → LineModel
-line place text = record { place = place; text = text }
 
 abbrev pub takes : (who what : List ℕ) → List ℕ
 takes who what = who ++ (codes " takes " ++ what)
@@ -48,11 +36,7 @@ branch_lines place (Only point) next = []
 branch_lines place (Either inside past) next =
     if inside == past then [] else (line place (if next == inside then codes "condition true" else codes "condition false") ∷ [])
 
--- how a state of a contract is printed; states have consecutive numbers, from the first one on
-abbrev pub name_of_state : Parts → ℕ → List ℕ
-name_of_state parts q = option_map_or (λ s. s.name) (slice_get parts.states (q - parts.first.0)) []
-
--- the same for the contract of an endpoint
+-- how a state of the contract of an endpoint is printed
 abbrev pub state_name : ProgramModel → Option HeapType → ℕ → List ℕ
 state_name p (Some (Endpoint contract side state)) q =
     option_map_or (λ c. name_of_state c.parts q) (slice_get p.contracts contract.0) []

@@ -7,8 +7,9 @@ use Rattle.rules.specs.Outcomes.{Pair}
 use Rattle.rules.specs.Programs.{model_of}
 use Rattle.rows.specs.Rows.{row_model}
 use Rattle.source.specs.declared.place.Place.{Place}
-use Rattle.traces.specs.Lines.{LineModel, case_lines, line_model}
-use Rattle.traces.specs.declared.line.Line.{Line}
+use Rattle.explanations.specs.Lines.{LineModel, line_model}
+use Rattle.traces.specs.Lines.{case_lines}
+use Rattle.explanations.specs.declared.line.Line.{Line}
 use Rattle.traces.specs.declared.step.PathStep.{PathStep}
 use Rattle.traces.specs.declared.teller.Teller.{Teller}
 

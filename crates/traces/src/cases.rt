@@ -4,13 +4,13 @@ ghost use Rattle.std.specs.Prelude.{◌≡◌, ◌++◌, ◌∷◌, [], IfOk, Li
 ghost use Rattle.flow.specs.Cases.{EntranceModel, entrance_model};
 ghost use Rattle.flow.specs.Graphs.{cases_model, instruction_model};
 ghost use Rattle.traces.specs.Lines as told;
-ghost use Rattle.traces.specs.Lines.{LineModel};
+ghost use Rattle.explanations.specs.Lines.{LineModel};
 ghost use Rattle.traces.specs.Steps.{AddsLines, HasCases, method_of, program_of, step_after, step_before};
 
 use crate::changes::leaf_of;
-use crate::line::{Line, line_of};
 use crate::step::PathStep;
 use crate::teller::Teller;
+use explanations::{Line, line_of};
 use flow::{Branches, Cases, Entrance, Instr};
 use program::{Awaited, Mention, VarId};
 use source::{Memory, Place};

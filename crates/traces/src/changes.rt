@@ -6,12 +6,12 @@ ghost use Rattle.flow.specs.declared.graph.Instr.TheVariants as instr;
 ghost use Rattle.rows.specs.Rows.{leaf_at, row_model};
 ghost use Rattle.rows.specs.declared.row.Leaf.TheVariants.{Nothing};
 ghost use Rattle.traces.specs.Lines as told;
-ghost use Rattle.traces.specs.Lines.{line, line_model};
+ghost use Rattle.explanations.specs.Lines.{line, line_model};
 ghost use Rattle.traces.specs.Steps.{AddsLines, method_of, program_of, step_after, step_before};
 
-use crate::line::{Line, line_of};
 use crate::step::PathStep;
 use crate::teller::Teller;
+use explanations::{Line, line_of};
 use flow::{Instr, Sending};
 use program::{Action, Mention, VarId};
 use rules::{Leaf, Row};

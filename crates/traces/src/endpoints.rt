@@ -58,11 +58,7 @@ impl Teller<'_> {
         let Some(contract) = self.program.contracts().get(contract.0 as usize) else {
             return &[];
         };
-        let position = state.saturating_sub(contract.first.0);
-        match contract.states.get(position as usize) {
-            Some(state) => contract.state_name(*state),
-            None => &[],
-        }
+        explanations::state_name(contract, state)
     }
 
     /// Returns what an endpoint has once what is awaited there has arrived, from what it had before.

@@ -12,13 +12,14 @@ ghost use Rattle.analyse.specs.Reach.{Differ};
 ghost use Rattle.analyse.specs.Trails.{AreTrails, failures_of, says_all};
 ghost use Rattle.analyse.specs.Verdicts.{HasTooMany, IsMethodVerdict, place_of_method};
 ghost use Rattle.analyse.specs.Workers.{HasSeen, IsWorkerOf, own_of};
-ghost use Rattle.traces.specs.Explained.{HasTrace, IsExplainedIf, explained_as, explained_model, is_asked, many_lines};
-ghost use Rattle.traces.specs.Lines.{line_model};
+ghost use Rattle.explanations.specs.Explained.{explained_as, explained_model, is_asked};
+ghost use Rattle.traces.specs.Explained.{HasTrace, IsExplainedIf, many_lines};
+ghost use Rattle.explanations.specs.Lines.{line_model};
 
-use crate::line::{Explained, Line, is_asked, line_of};
 use crate::teller::Teller;
 use crate::watching::watched_variables;
 use analyse::{Failure, MOST_PAIRS, Trails, Worker, trails_of};
+use explanations::{Explained, Line, is_asked, line_of};
 use intern::Rows;
 use itoa::Buffer;
 use program::MethodId;

@@ -9,13 +9,13 @@ ghost use Rattle.analyse.specs.Noted.{pairs_of};
 ghost use Rattle.analyse.specs.Reach.{Differ};
 ghost use Rattle.analyse.specs.Workers.{HasSeen, IsWorkerOf, own_of};
 ghost use Rattle.traces.specs.Lines as told;
-ghost use Rattle.traces.specs.Lines.{line_model};
+ghost use Rattle.explanations.specs.Lines.{line_model};
 ghost use Rattle.traces.specs.Steps.{AddsLines, method_of, program_of, step_after, step_before};
 
-use crate::line::Line;
 use crate::step::PathStep;
 use crate::teller::Teller;
 use analyse::Worker;
+use explanations::Line;
 use flow::Instr;
 use intern::Rows;
 use program::VarId;

@@ -6,8 +6,9 @@ use Rattle.source.specs.Findings.{finding_model}
 use Rattle.rules.specs.Breaches.{breach_in}
 use Rattle.rules.specs.Programs.{model_of}
 use Rattle.analyse.specs.declared.trail.Failure.{Failure}
-use Rattle.traces.specs.Explained.{IsExplainedIf, explained_model}
-use Rattle.traces.specs.declared.line.Explained.{Explained}
+use Rattle.explanations.specs.Explained.{explained_model}
+use Rattle.traces.specs.Explained.{IsExplainedIf}
+use Rattle.explanations.specs.declared.line.Explained.{Explained}
 use Rattle.traces.proofs.explaining.ExplainingSite.explain_failures.Goals as goal
 
 pub loop-failure-preserved : goal.loop-failure-preserved

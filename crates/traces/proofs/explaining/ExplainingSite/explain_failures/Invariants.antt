@@ -6,7 +6,8 @@ use Rattle.rules.specs.Outcomes as outcomes
 use Rattle.rules.specs.Programs.{model_of}
 use Rattle.analyse.specs.Reach.{Differ}
 use Rattle.analyse.specs.Workers.{HasSeen, IsWorkerOf, own_of}
-use Rattle.traces.specs.Explained.{IsExplainedIf, explained_model}
+use Rattle.explanations.specs.Explained.{explained_model}
+use Rattle.traces.specs.Explained.{IsExplainedIf}
 use Rattle.traces.proofs.explaining.ExplainingSite.explain_failures.Given as goal
 
 abbrev pub invariant-loop-failure : goal.invariant-loop-failure

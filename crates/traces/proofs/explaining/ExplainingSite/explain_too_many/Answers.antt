@@ -3,9 +3,10 @@ use Rattle.rules.specs.Programs.{model_of}
 use Rattle.source.specs.Findings.{finding_model}
 use Rattle.source.specs.declared.place.Place.{Place}
 use Rattle.analyse.specs.Verdicts.{too_many_pairs}
-use Rattle.traces.specs.Explained.{ByCount, IsExplainedIf, explained_model, is_asked}
-use Rattle.traces.specs.Lines.{line_model}
-use Rattle.traces.specs.declared.line.Explained.{Explained}
+use Rattle.explanations.specs.Explained.{explained_model, is_asked}
+use Rattle.traces.specs.Explained.{ByCount, IsExplainedIf}
+use Rattle.explanations.specs.Lines.{line_model}
+use Rattle.explanations.specs.declared.line.Explained.{Explained}
 use Rattle.traces.proofs.ManyLemmas.{all_one, one_verdict, parts_of}
 use Rattle.traces.proofs.explaining.ExplainingSite.explain_too_many.Goals as goal
 

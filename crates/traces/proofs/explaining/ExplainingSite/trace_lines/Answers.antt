@@ -17,7 +17,8 @@ use Rattle.analyse.specs.Traces.{IsTrace}
 use Rattle.analyse.specs.Workers.{own_of, view_of}
 use Rattle.analyse.proofs.ZipLemmas.{zip_long}
 use Rattle.traces.specs.Explained.{trace_lines}
-use Rattle.traces.specs.Lines.{line_model, path_lines, start_lines}
+use Rattle.explanations.specs.Lines.{line_model}
+use Rattle.traces.specs.Lines.{path_lines, start_lines}
 use Rattle.traces.specs.Watched.{variables_of_reason}
 use Rattle.traces.proofs.LineLemmas.{all_inside, first_seen, one_pair}
 use Rattle.traces.proofs.NameLemmas.{method_at}

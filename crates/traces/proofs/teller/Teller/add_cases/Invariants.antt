@@ -3,7 +3,8 @@ use Rattle.flow.specs.Cases.{entrance_model, first_mentions}
 use Rattle.flow.specs.Graphs.{cases_model}
 use Rattle.program.specs.Methods.{method_model}
 use Rattle.rules.specs.Programs.{model_of}
-use Rattle.traces.specs.Lines.{came_by, line_model}
+use Rattle.explanations.specs.Lines.{line_model}
+use Rattle.traces.specs.Lines.{came_by}
 use Rattle.traces.specs.Steps.{HasCases, step_after, step_before}
 use Rattle.traces.proofs.teller.Teller.add_cases.Given as goal
 

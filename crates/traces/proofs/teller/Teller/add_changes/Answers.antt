@@ -9,7 +9,8 @@ use Rattle.rules.specs.Mentions.{name_of}
 use Rattle.rules.specs.Programs.{model_of}
 use Rattle.rows.specs.Rows.{leaf_at, row_model}
 use Rattle.traces.proofs.LineLemmas.{changes_of_move, no_move}
-use Rattle.traces.specs.Lines.{change, changes_with, keeps, line, line_model, takes}
+use Rattle.explanations.specs.Lines.{line, line_model}
+use Rattle.traces.specs.Lines.{change, changes_with, keeps, takes}
 use Rattle.traces.proofs.teller.Teller.add_changes.Goals as goal
 
 pub returns-in_ok-push : goal.returns-in_ok-push

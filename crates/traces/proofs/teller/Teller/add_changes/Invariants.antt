@@ -4,7 +4,8 @@ use Rattle.flow.specs.Graphs.{instruction_model}
 use Rattle.program.specs.Methods.{method_model}
 use Rattle.rules.specs.Programs.{model_of}
 use Rattle.rows.specs.Rows.{leaf_at, row_model}
-use Rattle.traces.specs.Lines.{change, keeps, line_model}
+use Rattle.explanations.specs.Lines.{line_model}
+use Rattle.traces.specs.Lines.{change, keeps}
 use Rattle.traces.proofs.teller.Teller.add_changes.Given as goal
 
 abbrev pub invariant-loop-variable : goal.invariant-loop-variable

@@ -6,7 +6,8 @@ use Rattle.program.specs.Methods.{method_model}
 use Rattle.program.specs.declared.number.VarId.{VarId}
 use Rattle.rules.specs.Programs.{model_of}
 use Rattle.rows.specs.Rows.{is_owned, leaf_at, row_model}
-use Rattle.traces.specs.Lines.{has, line, line_model}
+use Rattle.explanations.specs.Lines.{line, line_model}
+use Rattle.traces.specs.Lines.{has}
 use Rattle.traces.proofs.teller.Teller.add_start.Goals as goal
 
 pub returns : goal.returns

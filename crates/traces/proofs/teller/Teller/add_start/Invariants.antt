@@ -3,7 +3,8 @@ use Rattle.std.specs.List.{flat_map}
 use Rattle.program.specs.Methods.{method_model}
 use Rattle.rules.specs.Programs.{model_of}
 use Rattle.rows.specs.Rows.{is_owned, leaf_at, row_model}
-use Rattle.traces.specs.Lines.{has, line, line_model}
+use Rattle.explanations.specs.Lines.{line, line_model}
+use Rattle.traces.specs.Lines.{has}
 use Rattle.traces.proofs.teller.Teller.add_start.Given as goal
 
 abbrev pub invariant-loop-variable : goal.invariant-loop-variable

@@ -4,7 +4,8 @@ use Rattle.flow.specs.Graphs.{instruction_model}
 use Rattle.program.specs.Methods.{method_model}
 use Rattle.program.specs.declared.number.VarId.{VarId}
 use Rattle.rules.specs.Programs.{model_of}
-use Rattle.traces.specs.Lines.{line_model, step_lines}
+use Rattle.explanations.specs.Lines.{line_model}
+use Rattle.traces.specs.Lines.{step_lines}
 use Rattle.traces.specs.Steps.{step_after, step_before}
 use Rattle.traces.proofs.LineLemmas.{step_is}
 use Rattle.traces.proofs.teller.Teller.add_step.Goals as goal

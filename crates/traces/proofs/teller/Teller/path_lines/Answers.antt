@@ -5,7 +5,8 @@ use Rattle.program.specs.declared.number.VarId.{VarId}
 use Rattle.rules.specs.Outcomes.{Pair}
 use Rattle.rules.specs.Programs.{model_of}
 use Rattle.rows.specs.Rows.{row_model}
-use Rattle.traces.specs.Lines.{line_model, path_lines, step_lines}
+use Rattle.explanations.specs.Lines.{line_model}
+use Rattle.traces.specs.Lines.{path_lines, step_lines}
 use Rattle.traces.proofs.LineLemmas.{next_step, no_more_steps, one_pair, path_step}
 use Rattle.traces.proofs.teller.Teller.path_lines.Goals as goal
 

@@ -7,7 +7,8 @@ use Rattle.rows.specs.Rows.{row_model}
 use Rattle.analyse.specs.Noted.{pairs_of}
 use Rattle.analyse.specs.Reach.{Differ}
 use Rattle.analyse.specs.Workers.{HasSeen, IsWorkerOf, own_of}
-use Rattle.traces.specs.Lines.{line_model, path_lines, start_lines}
+use Rattle.explanations.specs.Lines.{line_model}
+use Rattle.traces.specs.Lines.{path_lines, start_lines}
 use Rattle.traces.proofs.teller.Teller.path_lines.Given as goal
 
 abbrev pub invariant-loop-index : goal.invariant-loop-index

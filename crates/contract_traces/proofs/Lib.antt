@@ -1,0 +1,3 @@
+pub mod ConditionLemmas
+pub mod ShownLemmas
+pub mod TableLemmas

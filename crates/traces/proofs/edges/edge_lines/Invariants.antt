@@ -1,8 +1,0 @@
-use Rattle.std.proofs.Common.{◌≡◌, map, take}
-use Rattle.program.specs.Parts.{contract_parts}
-use Rattle.traces.specs.Lines.{line_model}
-use Rattle.traces.specs.Shown.{edge_line}
-use Rattle.traces.proofs.edges.edge_lines.Given as goal
-
-abbrev pub invariant-loop-edge : goal.invariant-loop-edge
-invariant-loop-edge l = map line_model l.lines.items ≡ map (edge_line (contract_parts l.contract)) (take l.edge-index l.edges)
