@@ -14,6 +14,8 @@ mod interning;
 #[cfg(test)]
 mod leaves;
 #[cfg(test)]
+mod losses;
+#[cfg(test)]
 mod steps;
 #[cfg(test)]
 mod texts;

@@ -109,6 +109,19 @@ delete other; delete mine;
 }
 }";
 
+/// A page is in the queue of an end that is deleted.
+pub(crate) const LOSES_A_PAGE: &str = "rep struct Page { int words; }
+contract Box { in message Put(Page* in ExHeap page); state Open: Put? -> Shut; state Shut: ; }
+class K {
+static void Main() {
+Box.Imp i; Box.Exp e;
+Box.NewChannel(out i, out e);
+Page* in ExHeap page = new[ExHeap] Page();
+i.SendPut(page);
+delete i; delete e;
+}
+}";
+
 /// Returns the program of a text without contracts that has one method.
 pub(crate) fn only(alloc: Global, text: &str) -> Result<Program, Fail>
     ensures { IfOk result (λ p. length (model_of p).methods ≡ 1) }

@@ -32,6 +32,12 @@ mod variables;
 mod worlds;
 
 pub use halts::{Event, Fault, Halt};
+pub use mentions::type_at;
+pub use owning::is_imp;
+pub use payloads::payload_addresses;
+pub use placing::place_of;
+pub use reading::peer_of;
 pub use replaying::{Replayed, replay};
+pub use standing::instruction_at;
 pub use variables::Variables;
 pub use worlds::{Block, Frame, Held, Owner, Process, World};

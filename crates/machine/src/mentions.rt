@@ -20,14 +20,14 @@ use rules::Program;
 
 impl Frame {
     /// Returns the address that a variable has, if any.
-    pub(crate) fn has(&self, v: Mention) -> Option<usize>
+    pub fn has(&self, v: Mention) -> Option<usize>
         ensures { result ≡ read (frame_model self.now).variables v.variable.0 }
     {
         self.variables.has(v.variable)
     }
 
-    /// Returns the address that a variable has, 0 if it has none. A test has ruled that out.
-    pub(crate) fn address(&self, v: Mention) -> usize
+    /// Returns the address that a variable has, 0 if it has none, which no step of the machine reads.
+    pub fn address(&self, v: Mention) -> usize
         ensures { result ≡ address (read (frame_model self.now).variables v.variable.0) }
     {
         self.has(v).unwrap_or(0)
@@ -69,7 +69,7 @@ impl Frame {
 }
 
 /// Returns the type of a variable of a method, struct 0 if there is no such variable.
-pub(crate) fn type_at(program: &Program, method: MethodId, v: VarId) -> HeapType
+pub fn type_at(program: &Program, method: MethodId, v: VarId) -> HeapType
     ensures { result ≡ type_at (variables_of (model_of program.now) method.0) v.0 }
 {
     if let Some(method) = program.methods().get(method.0 as usize) {

@@ -80,8 +80,8 @@ fn new_alone(
     Ok(())
 }
 
-/// Whether a type is an importing end.
-fn is_imp(ty: HeapType) -> bool
+/// Returns whether a type is an importing end.
+pub fn is_imp(ty: HeapType) -> bool
     ensures { result ≡ is_imp ty }
 {
     match ty {

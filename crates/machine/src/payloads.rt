@@ -1,6 +1,6 @@
 //! The payload of a message, or what the fields of a new block are given.
 
-ghost use Rattle.std.specs.Prelude.{◌≡◌, [], IfErr, IfOk, IsFalse, IsTrue, Some};
+ghost use Rattle.std.specs.Prelude.{◌≡◌, [], IfOk, IsFalse, IsTrue, Some};
 ghost use Rattle.program.specs.Lists.{is_among};
 ghost use Rattle.machine.specs.Answers.{IsFirstFault, Pass, claimed_in};
 ghost use Rattle.machine.specs.Blocks.{argument_tests, is_own_still};
@@ -9,12 +9,11 @@ ghost use Rattle.machine.specs.Views.{StillTakes, blocks_model, frame_model, var
 ghost use Rattle.machine.specs.World.{let_go, read};
 ghost use Rattle.machine.specs.declared.halts.Fault.TheVariants.{F3};
 
-use crate::halts::Refusal;
 use crate::reading::own;
 use crate::variables::Variables;
 use crate::worlds::{Block, Frame};
 use program::Mention;
-use std::alloc::Global;
+use std::alloc::{AllocError, Global};
 
 /// Whether one of these payloads is the block at an address.
 fn is_sent(frame: &Frame, payloads: &[Mention], a: usize) -> bool
@@ -70,13 +69,15 @@ pub(crate) fn are_unsent(
 }
 
 /// Returns the addresses in the variables that are given with a message or for a new block, in order.
-pub(crate) fn payload_addresses(
+///
+/// # Errors
+/// If out of memory.
+pub fn payload_addresses(
     alloc: Global,
     frame: &Frame,
     payloads: &[Mention],
-) -> Result<Vec<usize>, Refusal>
+) -> Result<Vec<usize>, AllocError>
     ensures value { IfOk result (λ given. given.items ≡ addresses (frame_model frame.now).variables (payloads_claimed payloads.now)) }
-    ensures memory { IfErr result (λ refusal. refusal ≡ Refusal.Memory) }
 {
     let mut given = Vec::new(alloc);
     for mention in payloads {

@@ -28,7 +28,7 @@ fn action_place(action: &Action) -> Place
 }
 
 /// Returns the place of an instruction.
-pub(crate) fn place_of(instr: &Instr) -> Place
+pub fn place_of(instr: &Instr) -> Place
     ensures { result ≡ told.place_of (instruction_model instr.now) }
 {
     match instr {

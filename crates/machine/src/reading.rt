@@ -67,7 +67,7 @@ pub(crate) fn is_freed(blocks: &[Block], a: usize) -> bool
 }
 
 /// Returns the peer of an endpoint, 0 if there is no block.
-pub(crate) fn peer_of(blocks: &[Block], a: usize) -> usize
+pub fn peer_of(blocks: &[Block], a: usize) -> usize
     ensures { result ≡ (block_at (blocks_model blocks.now) a).peer }
 {
     match blocks.get(a) {

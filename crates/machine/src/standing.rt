@@ -13,7 +13,7 @@ use program::Mention;
 use rules::Program;
 
 /// Returns the current instruction of a frame. `None` if there is no such method or point.
-pub(crate) fn instruction_at<'a>(program: &'a Program, frame: &Frame) -> Option<&'a Instr>
+pub fn instruction_at<'a>(program: &'a Program, frame: &Frame) -> Option<&'a Instr>
     ensures { option_map (λ i. instruction_model i.now) result ≡ told.instruction_at (model_of program.now) (frame_model frame.now) }
 {
     if frame.method.0 as usize >= program.methods().len() {

@@ -105,7 +105,7 @@ impl Variables {
     }
 
     /// Returns the number of variables.
-    pub(crate) fn len(&self) -> usize
+    pub fn len(&self) -> usize
         ensures { result ≡ self.now.count }
     {
         self.count
@@ -135,7 +135,7 @@ impl Variables {
     }
 
     /// Returns the address that a variable has, if any.
-    pub(crate) fn has(&self, v: VarId) -> Option<usize>
+    pub fn has(&self, v: VarId) -> Option<usize>
         ensures { result ≡ read (variables_in self.now.count self.now.bindings.items) v.0 }
     {
         match self.search(v) {

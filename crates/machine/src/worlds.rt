@@ -50,8 +50,8 @@ pub struct Frame {
 /// A process: its innermost frame, `None` if it has ended, and those that wait for it, the innermost last.
 #[derive(Drop)]
 pub struct Process {
-    pub(crate) top: Option<Frame>,
-    pub(crate) waiting: Vec<Frame>,
+    pub top: Option<Frame>,
+    pub waiting: Vec<Frame>,
 }
 
 /// Processes by their numbers, and blocks by their addresses. Neither a number nor an address is used again.

@@ -10,6 +10,7 @@ use Rattle.machine.specs.Outcomes.{Moved}
 use Rattle.machine.specs.Views.{blocks_model, frame_model, variables_model}
 use Rattle.machine.specs.World.{Frame, let_go}
 use Rattle.machine.specs.declared.halts.Fault.TheVariants.{F3}
+use Rattle.machine.specs.declared.halts.Refusal.TheVariants as refusal
 use Rattle.machine.proofs.CallLemmas.{memory_tells, passed_on}
 use Rattle.machine.proofs.ChangeLemmas.{seen_length}
 use Rattle.machine.proofs.MakeLemmas.{blocks_with, given_once, given_owned, tests_fail, tests_pass, world_with}
@@ -33,9 +34,8 @@ returns-then-not-are_unsent-clause-tells c = λ bound w rest is.
 
 pub returns-in_err-given-clause-tells : goal.returns-in_err-given-clause-tells
 returns-in_err-given-clause-tells c = λ bound w rest is.
-    let x = c.in_err-given.field-0.0 in
     let r = c.from_residual.result in
-    memory_tells _ r x _ _ _ (passed_on _ r x c.from_residual.ensures.1) c.in_err-given.ensures.memory
+    memory_tells _ r refusal.Memory _ _ _ (passed_on _ r refusal.Memory c.from_residual.ensures.1) refl
     (tests_pass w.blocks (blocks_model c.blocks-2.result.now) c.args.turn.now.process (variables_model c.args.frame.now.variables)
     (is ∙ ap blocks_model (sym c.blocks-2.ensures)) (payloads_claimed c.args.arguments.now) _
     (c.are_unsent.ensures.pass c.if-not-are_unsent.false))
