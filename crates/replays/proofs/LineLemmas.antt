@@ -59,3 +59,9 @@ pub four_added : (a b c d x y z w : List ℕ) → x ≡ [] → y ≡ x ++ a → 
 four_added a b c d x y z w e f g h v k =
     k ∙ ap (λ l. l ++ d) (h ∙ ap (λ l. l ++ c) (g ∙ ap (λ l. l ++ b) (f ∙ ap (λ l. l ++ a) e)))
     ∙ append_assoc (a ++ b) c d ∙ append_assoc a b (c ++ d)
+
+-- five pieces appended in turn
+pub five_added : (a b c d e o x y z w v : List ℕ) → x ≡ o ++ a → y ≡ x ++ b → z ≡ y ++ c → w ≡ z ++ d → v ≡ w ++ e → v ≡ o ++ (a ++ (b ++ (c ++ (d ++ e))))
+five_added a b c d e o x y z w v f g h k m =
+    m ∙ ap (λ l. l ++ e) (k ∙ ap (λ l. l ++ d) (h ∙ ap (λ l. l ++ c) (g ∙ ap (λ l. l ++ b) f)))
+    ∙ append_assoc (((o ++ a) ++ b) ++ c) d e ∙ append_assoc ((o ++ a) ++ b) c (d ++ e) ∙ append_assoc (o ++ a) b (c ++ (d ++ e)) ∙ append_assoc o a (b ++ (c ++ (d ++ e)))

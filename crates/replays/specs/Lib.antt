@@ -1,6 +1,11 @@
+pub mod EventLines
 pub mod Fronts
+pub mod Journals
 pub mod Names
 pub mod Naming
 pub mod Placed
+pub mod Remains
+pub mod RunLines
 pub mod Schedules
+pub mod Telling
 pub mod WorldLines

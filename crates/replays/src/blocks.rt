@@ -15,7 +15,7 @@ use source::Memory;
 use std::collections::VecDeque;
 
 /// Adds who owns a block.
-fn add_owner(answer: &mut Vec<u8>, owner: Owner) -> Result<(), Memory>
+pub(crate) fn add_owner(answer: &mut Vec<u8>, owner: Owner) -> Result<(), Memory>
     ensures { OnOk result (answer.new.items ≡ answer.old.items ++ owner_text owner) }
 {
     match owner {
@@ -37,7 +37,7 @@ fn add_owner(answer: &mut Vec<u8>, owner: Owner) -> Result<(), Memory>
 }
 
 /// Adds addresses, separated by commas.
-fn add_addresses(answer: &mut Vec<u8>, addresses: &[usize]) -> Result<(), Memory>
+pub(crate) fn add_addresses(answer: &mut Vec<u8>, addresses: &[usize]) -> Result<(), Memory>
     ensures { OnOk result (answer.new.items ≡ answer.old.items ++ join_with_byte 44 (map decimal addresses.now)) }
 {
     for (index, address) in addresses.iter().enumerate() {
@@ -134,7 +134,11 @@ fn add_held(answer: &mut Vec<u8>, naming: &Naming<'_>, block: &Block) -> Result<
 }
 
 /// Adds what is printed of a block: `freed`, or its owner and what it holds, and of an endpoint its state too.
-fn add_told(answer: &mut Vec<u8>, naming: &Naming<'_>, block: &Block) -> Result<(), Memory>
+pub(crate) fn add_told(
+    answer: &mut Vec<u8>,
+    naming: &Naming<'_>,
+    block: &Block,
+) -> Result<(), Memory>
     ensures { OnOk result (answer.new.items ≡ answer.old.items
         ++ block_text (words_of naming.now) (block_model block.now) block.now.owner) }
 {

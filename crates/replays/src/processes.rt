@@ -35,7 +35,7 @@ fn fault_name(fault: Fault) -> &'static [u8]
 }
 
 /// Adds why an event was no step.
-fn add_halt(answer: &mut Vec<u8>, event: Event, halt: Halt) -> Result<(), Memory>
+pub(crate) fn add_halt(answer: &mut Vec<u8>, event: Event, halt: Halt) -> Result<(), Memory>
     ensures { OnOk result (answer.new.items ≡ answer.old.items ++ halt_text event halt) }
 {
     match halt {
