@@ -1,14 +1,15 @@
 -- What the words of a command line ask for, by what `clap` specifies of a simple command.
-use Rattle.std.specs.Prelude.{◌≡◌, ◌++◌, List, Option, Some, None, true, false, codes}
+use Rattle.std.specs.Prelude.{◌≡◌, ◌++◌, List, Option, Some, None, option_map, true, false, codes}
+use Rattle.std.specs.Borrow.{Bor}
 use Rattle.std.specs.Str.Parse.{digits_value, without_leading_plus}
 use Rattle.clap.specs.Words.{App, Row, Rule, Text, app_of, first_of, new_app, new_rule, subcommand_of, with_rule, with_subcommand}
-use Rattle.clap.specs.declared.builder.ArgAction.TheVariants.{Set}
+use Rattle.clap.specs.declared.builder.ArgAction.TheVariants.{Set, SetTrue}
 use Rattle.clap.specs.declared.builder.command.Command.{Command}
 use Rattle.clap.specs.declared.builder.value_parser.ValueParser.TheVariants.{Unsigned}
 use Rattle.clap.specs.declared.builder.command.Command.TheViews.{out-Command}
 use Rattle.source.specs.declared.place.Place.{Place}
 use Rattle.command_line.specs.declared.request.Ask.{Ask}
-use Rattle.command_line.specs.declared.request.Ask.TheVariants.{Bounds, Check, Replay, Why}
+use Rattle.command_line.specs.declared.request.Ask.TheVariants.{Bounds, Check, Explore, Replay, Run, Why}
 
 -- a required text
 abbrev pub text_rule : Text → Rule
@@ -26,6 +27,14 @@ number_rule name = record (new_rule name) {
   action = Some Set;
   parser = Some (Unsigned 0 18446744073709551615);
 }
+
+-- an option with a text
+abbrev pub option_rule : Text → Rule
+option_rule name = record (new_rule name) { long = Some name; value_names = 1; action = Some Set }
+
+-- a flag
+abbrev pub flag_rule : Text → Rule
+flag_rule name = record (new_rule name) { long = Some name; action = Some SetTrue }
 
 -- a subcommand with a file
 abbrev pub file_command : Text → App
@@ -47,17 +56,35 @@ replay_command = with_rule (with_rule (file_command (codes "replay")) (text_rule
 abbrev pub why_command : App
 why_command = with_rule (file_command (codes "why")) (optional_rule (codes "LINE:COL"))
 
+-- a subcommand with a file and an entry
+abbrev pub entry_command : Text → App
+entry_command name = with_rule (file_command name) (text_rule (codes "ENTRY"))
+
+-- `run FILE ENTRY [--seed N] [--steps N] [--runs N] [--all] [--schedule OUT]`
+abbrev pub run_command : App
+run_command =
+    with_rule (with_rule (with_rule (with_rule (with_rule (entry_command (codes "run")) (number_rule (codes "seed")))
+    (number_rule (codes "steps"))) (number_rule (codes "runs"))) (flag_rule (codes "all"))) (option_rule (codes "schedule"))
+
+-- `explore FILE ENTRY [--worlds N] [--schedule OUT]`
+abbrev pub explore_command : App
+explore_command = with_rule (with_rule (entry_command (codes "explore")) (number_rule (codes "worlds"))) (option_rule (codes "schedule"))
+
 -- `singcheck` without its subcommands, of which one is required; it has a version
 abbrev pub bare_command : App
 bare_command = record (new_app (codes "singcheck")) {
   top = record (new_app (codes "singcheck")).top { has_version = true; subcommand_required = true; arg_required_else_help = true };
 }
 
--- `singcheck bounds FILE`, `singcheck check FILE`, `singcheck replay FILE ENTRY SCHEDULE` and `singcheck why FILE [LINE:COL]`
-abbrev pub whole_command : App
-whole_command =
+-- `singcheck` with the four commands that judge a text or replay a schedule
+abbrev pub judging_command : App
+judging_command =
     with_subcommand (with_subcommand (with_subcommand (with_subcommand bare_command bounds_command.top)
     check_command.top) replay_command.top) why_command.top
+
+-- the same, and the two commands that choose runs
+abbrev pub whole_command : App
+whole_command = with_subcommand (with_subcommand judging_command run_command.top) explore_command.top
 
 -- a command in memory is this one, and has no arguments that its subcommands share
 pub record IsCommand (app : App) (c : Command) : Type 0 where
@@ -68,16 +95,16 @@ pub record IsCommand (app : App) (c : Command) : Type 0 where
 abbrev pub Gives : List Row → (name text : Text) → Type 0
 Gives rows name text = first_of name rows ≡ Some text
 
--- the words name this subcommand, and this holds of its arguments
-pub record AsksOf (words : List Text) (subcommand : Text) (Holds : List Row → Type 0) : Type 0 where
-  pub rows : List Row
-  pub named : subcommand_of whole_command words ≡ Some (subcommand, rows)
-  pub given : Holds rows
-
 -- the arguments give these three texts
 abbrev pub GivesReplay : (file entry schedule : Text) → List Row → Type 0
 GivesReplay file entry schedule rows =
     Gives rows (codes "FILE") file × Gives rows (codes "ENTRY") entry × Gives rows (codes "SCHEDULE") schedule
+
+-- the arguments give a file and an entry, and a file for a schedule if they name one
+pub record GivesRun (file entry : Text) (schedule : Option Text) (rows : List Row) : Type 0 where
+  pub its_file : Gives rows (codes "FILE") file
+  pub its_entry : Gives rows (codes "ENTRY") entry
+  pub its_schedule : first_of (codes "schedule") rows ≡ schedule
 
 -- the text spells this place: a line and a column with a colon between them
 pub record IsPlaceText (text : Text) (place : Place) : Type 0 where
@@ -92,19 +119,23 @@ abbrev pub NamesPlace : List Row → Option Place → Type 0
 NamesPlace rows None = first_of (codes "LINE:COL") rows ≡ None
 NamesPlace rows (Some place) = (text : Text) × Gives rows (codes "LINE:COL") text × IsPlaceText text place
 
--- this is what the words ask for; the numbers of workers and slots are not specified
-abbrev pub Asks : List Text → Ask → Type 0
-Asks words (Bounds file) = AsksOf words (codes "bounds") (λ rows. Gives rows (codes "FILE") file.now)
-Asks words (Check file workers slots) = AsksOf words (codes "check") (λ rows. Gives rows (codes "FILE") file.now)
-Asks words (Why file named) = AsksOf words (codes "why") (λ rows. Gives rows (codes "FILE") file.now × NamesPlace rows named)
-Asks words (Replay file entry schedule) = AsksOf words (codes "replay") (GivesReplay file.now entry.now schedule.now)
+-- a text that may be there
+abbrev pub text_in : Option (Bor Text) → Option Text
+text_in x = option_map (λ t. t.now) x
 
--- the arguments of `why` give what is asked for
-abbrev pub IsWhyOf : List Row → Ask → Type 0
-IsWhyOf rows (Why file named) = Gives rows (codes "FILE") file.now × NamesPlace rows named
-IsWhyOf rows _ = ⊥
+-- the arguments of this subcommand ask for this; the numbers of options and the flag are not specified
+abbrev pub IsAskOf : (subcommand : Text) → List Row → Ask → Type 0
+IsAskOf subcommand rows (Bounds file) = subcommand ≡ codes "bounds" × Gives rows (codes "FILE") file.now
+IsAskOf subcommand rows (Check file workers slots) = subcommand ≡ codes "check" × Gives rows (codes "FILE") file.now
+IsAskOf subcommand rows (Why file named) = subcommand ≡ codes "why" × Gives rows (codes "FILE") file.now × NamesPlace rows named
+IsAskOf subcommand rows (Replay file entry schedule) = subcommand ≡ codes "replay" × GivesReplay file.now entry.now schedule.now rows
+IsAskOf subcommand rows (Run file entry wanted) = subcommand ≡ codes "run" × GivesRun file.now entry.now (text_in wanted.schedule) rows
+IsAskOf subcommand rows (Explore file entry worlds schedule) =
+    subcommand ≡ codes "explore" × GivesRun file.now entry.now (text_in schedule) rows
 
--- the arguments of `replay` give what is asked for
-abbrev pub IsReplayOf : List Row → Ask → Type 0
-IsReplayOf rows (Replay file entry schedule) = GivesReplay file.now entry.now schedule.now rows
-IsReplayOf rows _ = ⊥
+-- the words name a subcommand, and its arguments ask for this
+pub record Asks (words : List Text) (asked : Ask) : Type 0 where
+  pub subcommand : Text
+  pub rows : List Row
+  pub named : subcommand_of whole_command words ≡ Some (subcommand, rows)
+  pub given : IsAskOf subcommand rows asked

@@ -2,8 +2,9 @@
 
 ghost use Rattle.std.specs.Prelude.{◌≡◌, codes, false, IfOk};
 ghost use Rattle.clap.specs.Words.{rule_of};
-ghost use Rattle.command_line.specs.Asking.{IsCommand, number_rule, optional_rule, text_rule};
-ghost use Rattle.command_line.specs.Asking.{bounds_command, check_command, replay_command, whole_command, why_command};
+ghost use Rattle.command_line.specs.Asking.{IsCommand, flag_rule, number_rule, option_rule, optional_rule, text_rule};
+ghost use Rattle.command_line.specs.Asking.{bounds_command, check_command, replay_command, why_command};
+ghost use Rattle.command_line.specs.Asking.{explore_command, run_command, whole_command};
 
 use clap::{Arg, ArgAction, Command, value_parser};
 use std::alloc::{AllocError, Global};
@@ -31,6 +32,12 @@ const CHECK_EXAMPLE: &str = "Example: singcheck check --workers 8 examples/shop.
 /// The help text after the arguments of `replay`.
 const REPLAY_EXAMPLE: &str =
     "Example: singcheck replay examples/shop.sg Street.Main examples/shop.schedule";
+
+/// The help text after the arguments of `run`.
+const RUN_EXAMPLE: &str = "Example: singcheck run examples/shop.sg Street.Main --seed 7";
+
+/// The help text after the arguments of `explore`.
+const EXPLORE_EXAMPLE: &str = "Example: singcheck explore examples/deadlock.sg Ring.Main";
 
 /// The help text after the arguments of `why`.
 const WHY_EXAMPLE: &str = "Example: singcheck why examples/note.sg 7:5";
@@ -75,6 +82,54 @@ fn number_of<'a>(alloc: Global, name: &'a str, help: &'a str) -> Arg<'a>
         .action(ArgAction::Set)
 }
 
+/// Returns an option with a text.
+fn option_of<'a>(alloc: Global, name: &'a str, value: &'a str, help: &'a str) -> Arg<'a>
+    ensures rule { rule_of result ≡ option_rule name.now }
+    ensures local { result.global ≡ false }
+{
+    Arg::new(alloc, name)
+        .long(name)
+        .value_name(value)
+        .help(help)
+        .action(ArgAction::Set)
+}
+
+/// Returns a flag.
+fn flag_of<'a>(alloc: Global, name: &'a str, help: &'a str) -> Arg<'a>
+    ensures rule { rule_of result ≡ flag_rule name.now }
+    ensures local { result.global ≡ false }
+{
+    Arg::new(alloc, name)
+        .long(name)
+        .help(help)
+        .action(ArgAction::SetTrue)
+}
+
+/// Returns the required argument `ENTRY`.
+fn entry_argument<'a>(alloc: Global) -> Arg<'a>
+    ensures rule { rule_of result ≡ text_rule (codes "ENTRY") }
+    ensures local { result.global ≡ false }
+{
+    text_of(
+        alloc,
+        "ENTRY",
+        "The method with which the run begins, as Class.Method",
+    )
+}
+
+/// Returns the option `--schedule OUT`.
+fn schedule_argument<'a>(alloc: Global) -> Arg<'a>
+    ensures rule { rule_of result ≡ option_rule (codes "schedule") }
+    ensures local { result.global ≡ false }
+{
+    option_of(
+        alloc,
+        "schedule",
+        "OUT",
+        "Writes the events to this file, as replay reads them",
+    )
+}
+
 /// Returns the subcommand `bounds FILE`.
 fn bounds_of<'a>(alloc: Global) -> Result<Command<'a>, AllocError>
     ensures { IfOk result (IsCommand bounds_command) }
@@ -113,16 +168,53 @@ fn replay_of<'a>(alloc: Global) -> Result<Command<'a>, AllocError>
         .about("Runs a method along a schedule and prints the final state")
         .after_help(REPLAY_EXAMPLE)
         .arg(file_of(alloc))?
-        .arg(text_of(
-            alloc,
-            "ENTRY",
-            "The method with which the run begins, as Class.Method",
-        ))?
+        .arg(entry_argument(alloc))?
         .arg(text_of(
             alloc,
             "SCHEDULE",
             "The file with the events, one a line: the number of a process and a choice",
         ))
+}
+
+/// Returns the subcommand `run FILE ENTRY [--seed N] [--steps N] [--runs N] [--all] [--schedule OUT]`.
+fn run_of<'a>(alloc: Global) -> Result<Command<'a>, AllocError>
+    ensures { IfOk result (IsCommand run_command) }
+{
+    Command::new(alloc, "run")
+        .about("Runs a method at random and prints what happens")
+        .after_help(RUN_EXAMPLE)
+        .arg(file_of(alloc))?
+        .arg(entry_argument(alloc))?
+        .arg(number_of(alloc, "seed", "The seed of the random choices, default 1"))?
+        .arg(number_of(alloc, "steps", "The most events of a run, default 10000"))?
+        .arg(number_of(
+            alloc,
+            "runs",
+            "The most runs, with seeds from --seed on, until one ends in a deadlock or a fault, default 1",
+        ))?
+        .arg(flag_of(
+            alloc,
+            "all",
+            "Prints uses, moves and the ends of scopes too",
+        ))?
+        .arg(schedule_argument(alloc))
+}
+
+/// Returns the subcommand `explore FILE ENTRY [--worlds N] [--schedule OUT]`.
+fn explore_of<'a>(alloc: Global) -> Result<Command<'a>, AllocError>
+    ensures { IfOk result (IsCommand explore_command) }
+{
+    Command::new(alloc, "explore")
+        .about("Searches all runs of a method for a deadlock")
+        .after_help(EXPLORE_EXAMPLE)
+        .arg(file_of(alloc))?
+        .arg(entry_argument(alloc))?
+        .arg(number_of(
+            alloc,
+            "worlds",
+            "The most worlds that are visited, default 100000",
+        ))?
+        .arg(schedule_argument(alloc))
 }
 
 /// Returns the subcommand `why FILE [LINE:COL]`.
@@ -154,5 +246,7 @@ pub(crate) fn whole_of<'a>(alloc: Global) -> Result<Command<'a>, AllocError>
         .subcommand(bounds_of(alloc)?)?
         .subcommand(check_of(alloc)?)?
         .subcommand(replay_of(alloc)?)?
-        .subcommand(why_of(alloc)?)
+        .subcommand(why_of(alloc)?)?
+        .subcommand(run_of(alloc)?)?
+        .subcommand(explore_of(alloc)?)
 }

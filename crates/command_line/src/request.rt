@@ -2,6 +2,17 @@
 
 use source::Place;
 
+/// Which random run a command line asks for: the seed of the first one that is tried, how many events each has at most, how many are
+/// tried until one ends in a deadlock or a fault, whether all events have lines, and the file to which the schedule goes, if it is named.
+#[derive(Clone, Copy, Debug, PartialEq, Eq)]
+pub struct Wanted<'a> {
+    pub seed: usize,
+    pub steps: usize,
+    pub runs: usize,
+    pub all: bool,
+    pub schedule: Option<&'a str>,
+}
+
 /// What a command line asks for.
 #[derive(Clone, Copy, Debug, PartialEq, Eq)]
 pub enum Ask<'a> {
@@ -19,6 +30,20 @@ pub enum Ask<'a> {
     Why {
         file: &'a str,
         named: Option<Place>,
+    },
+    /// A random run of this file from an entry, `Class.Method`.
+    Run {
+        file: &'a str,
+        entry: &'a str,
+        wanted: Wanted<'a>,
+    },
+    /// A search of the runs of this file from an entry, `Class.Method`, through at most this many worlds. A schedule that is found goes to
+    /// the file `schedule`, if it is named.
+    Explore {
+        file: &'a str,
+        entry: &'a str,
+        worlds: usize,
+        schedule: Option<&'a str>,
     },
     /// The replay of the events in the file `schedule`, for this file from an entry, `Class.Method`.
     Replay {

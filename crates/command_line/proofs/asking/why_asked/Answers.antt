@@ -1,6 +1,6 @@
-use Rattle.std.proofs.Common.{codes, sym}
+use Rattle.std.proofs.Common.{codes, refl, sym}
 use Rattle.command_line.proofs.AskLemmas.{gives}
 use Rattle.command_line.proofs.asking.why_asked.Goals as goal
 
 pub returns : goal.returns
-returns c = (gives c.args.inner.now (codes "FILE") c.in_ok-file.file.now (sym c.in_ok-file.ensures), c.in_ok-named.ensures)
+returns c = (refl, gives c.args.inner.now (codes "FILE") c.in_ok-file.file.now (sym c.in_ok-file.ensures), c.in_ok-named.ensures)

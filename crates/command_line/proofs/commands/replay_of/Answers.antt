@@ -15,5 +15,5 @@ returns c =
       local = ap (λ (f : Command-F Command). f.has_globals) c.after_help.ensures ∙ ap (λ (f : Command-F Command). f.has_globals) c.about.ensures ∙ c.new.ensures.local;
     } in
     let file = with_arg (new_app (codes "replay")) (text_rule (codes "FILE")) c.after_help.result c.in_ok-arg.field-0 c.file_of.result bare c.file_of.ensures.rule c.file_of.ensures.local c.in_ok-arg.ensures in
-    let entry = with_arg (file_command (codes "replay")) (text_rule (codes "ENTRY")) c.in_ok-arg.field-0 c.in_ok-arg-2.field-0 c.text_of.result file c.text_of.ensures.rule c.text_of.ensures.local c.in_ok-arg-2.ensures in
-    IfOk-weaker c.arg-3.result _ _ (λ r h. with_arg (with_rule (file_command (codes "replay")) (text_rule (codes "ENTRY"))) (text_rule (codes "SCHEDULE")) c.in_ok-arg-2.field-0 r c.text_of-2.result entry c.text_of-2.ensures.rule c.text_of-2.ensures.local h) c.arg-3.ensures
+    let entry = with_arg (file_command (codes "replay")) (text_rule (codes "ENTRY")) c.in_ok-arg.field-0 c.in_ok-arg-2.field-0 c.entry_argument.result file c.entry_argument.ensures.rule c.entry_argument.ensures.local c.in_ok-arg-2.ensures in
+    IfOk-weaker c.arg-3.result _ _ (λ r h. with_arg (with_rule (file_command (codes "replay")) (text_rule (codes "ENTRY"))) (text_rule (codes "SCHEDULE")) c.in_ok-arg-2.field-0 r c.text_of.result entry c.text_of.ensures.rule c.text_of.ensures.local h) c.arg-3.ensures

@@ -4,7 +4,8 @@ use Rattle.clap.specs.Words.{with_subcommand}
 use Rattle.clap.specs.Simple.{app_of_fields, on_top}
 use Rattle.clap.specs.declared.builder.command.Command.{Command}
 use Rattle.clap.specs.declared.builder.command.Command.TheOpen.{Command-F}
-use Rattle.command_line.specs.Asking.{IsCommand, bare_command, bounds_command, check_command, replay_command, why_command}
+use Rattle.command_line.specs.Asking.{IsCommand, bare_command, bounds_command, check_command, explore_command, judging_command, replay_command}
+use Rattle.command_line.specs.Asking.{run_command, why_command}
 use Rattle.command_line.proofs.CommandLemmas.{with_command}
 use Rattle.command_line.proofs.commands.whole_of.Goals as goal
 
@@ -24,4 +25,6 @@ returns c =
     let second = with_command (with_subcommand bare_command bounds_command.top) check_command c.in_ok-subcommand.field-0 c.in_ok-subcommand-2.field-0 c.in_ok-check_of.field-0 first c.in_ok-check_of.ensures c.in_ok-subcommand-2.ensures in
     let two = with_subcommand (with_subcommand bare_command bounds_command.top) check_command.top in
     let third = with_command two replay_command c.in_ok-subcommand-2.field-0 c.in_ok-subcommand-3.field-0 c.in_ok-replay_of.field-0 second c.in_ok-replay_of.ensures c.in_ok-subcommand-3.ensures in
-    IfOk-weaker c.subcommand-4.result _ _ (λ r h. with_command (with_subcommand two replay_command.top) why_command c.in_ok-subcommand-3.field-0 r c.in_ok-why_of.field-0 third c.in_ok-why_of.ensures h) c.subcommand-4.ensures
+    let fourth = with_command (with_subcommand two replay_command.top) why_command c.in_ok-subcommand-3.field-0 c.in_ok-subcommand-4.field-0 c.in_ok-why_of.field-0 third c.in_ok-why_of.ensures c.in_ok-subcommand-4.ensures in
+    let fifth = with_command judging_command run_command c.in_ok-subcommand-4.field-0 c.in_ok-subcommand-5.field-0 c.in_ok-run_of.field-0 fourth c.in_ok-run_of.ensures c.in_ok-subcommand-5.ensures in
+    IfOk-weaker c.subcommand-6.result _ _ (λ r h. with_command (with_subcommand judging_command run_command.top) explore_command c.in_ok-subcommand-5.field-0 r c.in_ok-explore_of.field-0 fifth c.in_ok-explore_of.ensures h) c.subcommand-6.ensures

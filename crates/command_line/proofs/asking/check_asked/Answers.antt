@@ -1,0 +1,6 @@
+use Rattle.std.proofs.Common.{codes, refl, sym}
+use Rattle.command_line.proofs.AskLemmas.{gives}
+use Rattle.command_line.proofs.asking.check_asked.Goals as goal
+
+pub returns : goal.returns
+returns c = (refl, gives c.args.inner.now (codes "FILE") c.in_ok-file.file.now (sym c.in_ok-file.ensures))
