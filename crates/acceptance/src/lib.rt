@@ -18,6 +18,8 @@ mod reading;
 #[cfg(test)]
 mod reasons;
 #[cfg(test)]
+mod runs_and_searches;
+#[cfg(test)]
 mod schedules;
 #[cfg(test)]
 mod sharing;

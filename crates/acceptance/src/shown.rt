@@ -1,12 +1,13 @@
 //! What is expected at a wrong token, and the edges that show what is wrong with a contract.
 
+use contract_traces::show_faults;
 use expected::{expectation, expected_kinds, open_brace, word_of};
+use explanations::Explained;
 use names::resolve;
 use source::{Code, Finding, Kind, Place, Span, lex};
 use std::alloc::Global;
 use std::test::Fail;
 use syntax::parse;
-use traces::{Explained, show_faults};
 
 #[test]
 fn kinds_behind_a_front(rt: HostRuntime) -> Result<(), Fail> {
@@ -45,10 +46,11 @@ fn lines_of(alloc: Global, explained: &Explained) -> Result<String, Fail> {
     Ok(lines)
 }
 
-/// Returns what is shown of a finding in each of a text's contracts: a state with edges of both signs at this place.
+/// Returns what is shown of a finding with this code at this place, in each of a text's contracts.
 fn lines_for(
     alloc: Global,
     text: &str,
+    code: Code,
     place: Place,
     named: Option<Place>,
 ) -> Result<String, Fail> {
@@ -58,8 +60,7 @@ fn lines_for(
     let mut lines = String::new(alloc);
     for contract in &resolved.contracts {
         let mut found = Vec::new(alloc);
-        let text = String::from_str(alloc, "both directions in S")?;
-        let code = Code::C03;
+        let text = String::from_str(alloc, "found")?;
         found.push(Finding { place, code, text })?;
         for explained in &show_faults(alloc, contract, found, named)? {
             lines.push_str(&lines_of(alloc, explained)?)?;
@@ -75,14 +76,36 @@ state S: one { A! -> T; B? -> T; } state T: one { } }";
     let place = Place { line: 2, col: 7 };
     let other = Place { line: 1, col: 1 };
     let all = "2:7\n  2:16 A! -> T\n  2:25 B? -> T\n";
-    assert_eq!(rt; lines_for(rt.alloc(), text, place, None)?.as_str(), all);
     assert_eq!(rt;
-        lines_for(rt.alloc(), text, place, Some(place))?.as_str(),
+        lines_for(rt.alloc(), text, Code::C03, place, None)?.as_str(),
         all
     );
     assert_eq!(rt;
-        lines_for(rt.alloc(), text, place, Some(other))?.as_str(),
+        lines_for(rt.alloc(), text, Code::C03, place, Some(place))?.as_str(),
+        all
+    );
+    assert_eq!(rt;
+        lines_for(rt.alloc(), text, Code::C03, place, Some(other))?.as_str(),
         "2:7\n"
     );
+    Ok(())
+}
+
+#[test]
+fn a_sign_an_earlier_edge_and_a_ring(rt: HostRuntime) -> Result<(), Fail> {
+    let text = "contract M { out message A();
+state S: one { A? -> S; A! -> S; } }";
+    let rows = [
+        (Code::C01, 16, "2:16\n  2:16 an out message takes !\n"),
+        (Code::C02, 25, "2:25\n  2:16 A? -> S\n"),
+        (Code::C04, 7, "2:7\n  2:25 A! -> S\n"),
+        (Code::C02, 16, "2:16\n"),
+        (Code::A01, 16, "2:16\n"),
+    ];
+    for (code, col, wanted) in rows.iter() {
+        let place = Place { line: 2, col: *col };
+        let lines = lines_for(rt.alloc(), text, *code, place, None)?;
+        assert!(rt; lines.as_str() == *wanted, "{wanted}");
+    }
     Ok(())
 }

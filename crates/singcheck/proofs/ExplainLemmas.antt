@@ -15,13 +15,13 @@ use Rattle.source.specs.declared.place.Place.{Place}
 use Rattle.contracts.specs.Conditions.{AreExactly}
 use Rattle.program.specs.Programs.{ProgramModel}
 use Rattle.reports.specs.Orders.{report_cmp}
-use Rattle.traces.specs.Explained.{ExplainedModel, explained_model}
-use Rattle.traces.specs.Lines.{line_model}
-use Rattle.traces.specs.declared.line.Explained.{Explained}
-use Rattle.traces.specs.declared.line.Line.{Line}
+use Rattle.explanations.specs.Explained.{ExplainedModel, explained_model}
+use Rattle.explanations.specs.Lines.{line_model}
+use Rattle.explanations.specs.declared.line.Explained.{Explained}
+use Rattle.explanations.specs.declared.line.Line.{Line}
 use Rattle.program.specs.Parts.{ContractModel}
 use Rattle.devices.specs.declared.fault.Status.TheVariants.{Empty, Found}
-use Rattle.singcheck.specs.Answers.{AreFindings, IsBroken, IsProgram, OfNames, OfSyntax, OfText}
+use Rattle.singcheck.specs.Answers.{AreFindings, IsProgram, OfNames, OfSyntax, OfText}
 use Rattle.declarations.specs.Mistakes.{finding_in}
 use Rattle.declarations.specs.declared.mistake.Mistake.{Mistake}
 use Rattle.names.specs.Findings.{program_findings, program_mistakes}
@@ -30,7 +30,9 @@ use Rattle.singcheck.specs.Remarked.{HasFault, IsMistake}
 use Rattle.singcheck.specs.Checks.{HasProgram, IsWrong}
 use Rattle.singcheck.specs.Explains.{AreExplained, ByContract, ByFault, ByMistake, ByTokens, Explains, IsExplainedIn, IsExplainedFinding, IsShownIn, explained_bytes, explained_lines}
 use Rattle.singcheck.specs.Lines.{clear_line, count_line, trace_line}
+use Rattle.singcheck.specs.Broken.{found_of}
 use Rattle.singcheck.specs.Fronts.{AreBrokenOf}
+use Rattle.singcheck.specs.declared.soundness.BrokenContract.{BrokenContract}
 use Rattle.singcheck.specs.Unexpected.{IsUnexpected}
 use Rattle.singcheck.specs.declared.report.Report.{Report}
 use Rattle.contracts.proofs.PartLemmas.{contains_map}
@@ -90,16 +92,12 @@ names_explained named text items found parsed some all each = record {
     no_mistakes (m ∷ ms) none = absurd (cc)
 
 -- the findings of contracts, with the edges that show them
-pub contracts_explained : (named : Option Place) (text : List ℕ) (contracts : List ContractModel) (some : List FindingModel) (found : List Explained) → AreBrokenOf text contracts some → AreExactly (IsBroken contracts) (map (λ e. finding_model e.finding) found)
+pub contracts_explained : (named : Option Place) (text : List ℕ) (contracts : List ContractModel) (broken : List BrokenContract) (found : List Explained) → AreBrokenOf text contracts broken → map (λ e. finding_model e.finding) found ≡ found_of broken
     → All (λ e. IsShownIn named contracts (explained_model e)) found → AreExplained named text (map explained_model found)
-contracts_explained named text contracts some found is are each = record {
-  are = subst (AreFindings text) (sym (explained_view found)) (unsound text contracts (map (λ e. finding_model e.finding) found) is.resolved (record { some = some_found some found is.broken.some is.broken.are are; are = are }));
+contracts_explained named text contracts broken found is same each = record {
+  are = subst (AreFindings text) (sym (explained_view found ∙ same)) (unsound text contracts (found_of broken) is.resolved is.are.found);
   each = All-map (IsExplainedFinding named text) explained_model found (All-weaker (λ (e : Explained). IsShownIn named contracts (explained_model e)) (λ (e : Explained). IsExplainedFinding named text (explained_model e)) (λ e h. ByContract contracts is.resolved h) found each);
 }
-  where
-    some_found : (fs : List FindingModel) (es : List Explained) → fs ≢ [] → AreExactly (IsBroken contracts) fs → AreExactly (IsBroken contracts) (map (λ (e : Explained). finding_model e.finding) es) → map (λ (e : Explained). finding_model e.finding) es ≢ []
-    some_found [] es none left right = absurd (none refl)
-    some_found (f ∷ fs) es none left right = λ e. none_of f (subst (λ l. Contains l f) e (right.all f (left.right f (Contains-append_left (f ∷ []) fs f (Contains-push [] f)))))
 
 -- nothing is found
 pub explains_clear : (named : Option Place) (p : ProgramModel) (found : List Explained) → found ≡ [] → AreExactly (IsWrong p) (map (λ e. finding_model e.finding) found) → (result : Result Report Memory) → IfOk result (λ r. r.bytes.items ≡ clear_line (length p.contracts) (length p.methods)) → IfOk result (λ r. r.status ≡ Empty)
@@ -164,12 +162,12 @@ report_end all n answer new over is counted =
     ∙ ap (λ k. flat_map explained_lines (map explained_model all) ++ count_line k) (sym (length-map all explained_model))
 
 -- contracts in a result
-pub contracts_explained_if : (named : Option Place) (text : List ℕ) (contracts : List ContractModel) (some : List FindingModel) → AreBrokenOf text contracts some → (result : Result (Vec Explained Global) Memory)
-    → IfOk result (λ found. AreExactly (IsBroken contracts) (map (λ e. finding_model e.finding) found.items))
+pub contracts_explained_if : (named : Option Place) (text : List ℕ) (contracts : List ContractModel) (broken : List BrokenContract) → AreBrokenOf text contracts broken → (result : Result (Vec Explained Global) Memory)
+    → IfOk result (λ found. map (λ e. finding_model e.finding) found.items ≡ found_of broken)
     → IfOk result (λ found. All (λ e. IsShownIn named contracts (explained_model e)) found.items)
     → IfOk result (λ found. AreExplained named text (map explained_model found.items))
-contracts_explained_if named text contracts some is (Ok found) are each = contracts_explained named text contracts some found.items is are each
-contracts_explained_if named text contracts some is (Err m) are each = tt
+contracts_explained_if named text contracts broken is (Ok found) same each = contracts_explained named text contracts broken found.items is same each
+contracts_explained_if named text contracts broken is (Err m) same each = tt
 
 -- one finding with its lines
 pub explained_alone : {named : Option Place} {text : List ℕ} (Is : ExplainedModel → Type 0)

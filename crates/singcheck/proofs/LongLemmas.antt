@@ -17,7 +17,7 @@ use Rattle.devices.specs.declared.fault.Status.TheVariants.{Empty, Found}
 use Rattle.devices.specs.declared.reading.TheConstants.{MAX_READ}
 use Rattle.singcheck.specs.Answers.{AreFindings, OfText, OfSyntax, OfNames, OfContracts, Answers}
 use Rattle.singcheck.specs.Checks.{AreCheckFindings, Before, OfMethods, Checks}
-use Rattle.traces.specs.Explained.{ExplainedModel}
+use Rattle.explanations.specs.Explained.{ExplainedModel}
 use Rattle.singcheck.specs.Explains.{ByContract, ByFault, ByMistake, ByTokens, Explains, IsExplainedFinding}
 
 -- both texts are too long

@@ -16,11 +16,10 @@ use Rattle.declarations.specs.Program.{ProgramText}
 use Rattle.declarations.specs.declared.mistake.Mistake.{Mistake}
 use Rattle.names.specs.Findings.{program_findings, program_mistakes}
 use Rattle.remarks.specs.FaultRemarks.{fault_remark}
-use Rattle.remarks.specs.Remarks.{remark_model}
-use Rattle.remarks.specs.declared.line.Remark.{Remark}
-use Rattle.traces.specs.Explained.{explained_model}
-use Rattle.traces.specs.Lines.{line_model}
-use Rattle.traces.specs.declared.line.Explained.{Explained}
+use Rattle.explanations.specs.Explained.{explained_model}
+use Rattle.explanations.specs.Lines.{line_model}
+use Rattle.explanations.specs.declared.line.Explained.{Explained}
+use Rattle.explanations.specs.declared.line.Line.{Line}
 use Rattle.singcheck.specs.Remarked.{HasFault, IsMistake, most_searched, remark_lines, remark_within}
 
 -- this many of the first mistakes are explained
@@ -60,10 +59,10 @@ pub remarked_all : (named : Option Place) (p : ProgramText) (mistakes : List Mis
 remarked_all named p mistakes n found le all so = so.view ∙ ap (map (finding_in p.text)) (take_all n mistakes le ∙ all)
 
 -- the first fault of a text, with its remark
-pub faulty : (named : Option Place) (text : List ℕ) (fault : TextFault) (finding : Finding) (said : Option Remark) → IsFault text fault
-    → finding_model finding ∷ [] ≡ fault_findings fault → option_map remark_model said ≡ fault_remark fault → (result : Result Explained Memory)
+pub faulty : (named : Option Place) (text : List ℕ) (fault : TextFault) (finding : Finding) (said : Option Line) → IsFault text fault
+    → finding_model finding ∷ [] ≡ fault_findings fault → option_map line_model said ≡ fault_remark fault → (result : Result Explained Memory)
     → IfOk result (λ e. e.finding ≡ finding)
-    → IfOk result (λ e. map line_model e.lines.items ≡ remark_lines named e.finding.place (option_map remark_model said))
+    → IfOk result (λ e. map line_model e.lines.items ≡ remark_lines named e.finding.place (option_map line_model said))
     → IfOk result (λ e. HasFault named text (explained_model e))
 faulty named text fault finding said first told is (Ok e) same lines = record {
   fault = fault;

@@ -148,7 +148,7 @@ some_always None P all = tt
 some_always (Some x) P all = all x
 
 -- a world to which events lead is that of a run
-run_of : (p : ProgramModel) (bound : QueueBounds) (n : ℕ) (events : List Event) (w : World) → RunsTo p bound (start_of p n) events w
+pub run_of : (p : ProgramModel) (bound : QueueBounds) (n : ℕ) (events : List Event) (w : World) → RunsTo p bound (start_of p n) events w
     → Run p bound n w
 run_of p bound n events w stays = begins
 run_of p bound n events w (moves before v u e led moved) = goes_on v u e (run_of p bound n before v led) moved
@@ -202,7 +202,7 @@ pub record KnownOf (text : List ℕ) : Type 0 where
   pub bounded : AreBoundedAlways
 
 -- if `check` finds nothing, nothing is found in the methods
-none_found : (text : List ℕ) (p : ProgramModel) → KnownOf text → HasProgram text p → HasEmptyReport text → NothingIsFound p
+pub none_found : (text : List ℕ) (p : ProgramModel) → KnownOf text → HasProgram text p → HasEmptyReport text → NothingIsFound p
 none_found text p known has empty =
     let none = subst (λ (q : ProgramModel). (f : FindingModel) → IsWrong q f → ⊥)
     (known.one empty.1.program p empty.1.has has) empty.1.none in

@@ -11,7 +11,7 @@ use Rattle.sound.specs.Safe.{IsSafe}
 use Rattle.devices.specs.declared.fault.Input.TheVariants as input
 use Rattle.devices.specs.declared.fault.RunFault.{RunFault}
 use Rattle.devices.specs.declared.fault.RunFault.TheVariants.{Read, Entry, Schedule, Memory}
-use Rattle.singcheck.specs.Replays.{HasEntry, LacksEntry, struct_names}
+use Rattle.singcheck.specs.Replays.{HasEntry, LacksEntry, method_names, struct_names}
 use Rattle.singcheck.specs.declared.entering.Begun.{Begun}
 
 -- a run may begin with this method of a program
@@ -27,6 +27,7 @@ AreCleanSafe p =
 pub record IsBegun (text entry : List ℕ) (b : Begun) : Type 0 where
   pub entered : HasEntry text entry (model_of b.program) b.method.0
   pub structs : map string_bytes b.structs.items ≡ struct_names text entered.has.resolved.items
+  pub methods : map (λ name. name.items) b.methods.items ≡ method_names text entered.has.resolved.items
 
 -- the run may begin; or the text has no such entry
 abbrev pub ComesIn : List ℕ → List ℕ → Option Begun → Type 0

@@ -2,14 +2,15 @@
 use Rattle.std.specs.Prelude.{◌≡◌, ◌≢◌, ◌<◌, ◌⊎◌, ◌++◌, ℕ, List, [], Option, length, map, All, Contains}
 use Rattle.std.specs.List.{flat_map}
 use Rattle.std.specs.List.Sorted.{IsStrictlySortedBy}
-use Rattle.contracts.specs.Conditions.{AreExactly}
+use Rattle.contracts.specs.Conditions.{AreExactly, IsFlaw}
 use Rattle.program.specs.Parts.{ContractModel}
 use Rattle.program.specs.Programs.{ProgramModel}
 use Rattle.reports.specs.Orders.{report_cmp}
 use Rattle.source.specs.Findings.{FindingModel}
 use Rattle.source.specs.declared.place.Place.{Place}
-use Rattle.traces.specs.Explained.{ExplainedModel, IsExplainedIf}
-use Rattle.traces.specs.Shown.{IsShown}
+use Rattle.contract_traces.specs.Shown.{IsShown}
+use Rattle.explanations.specs.Explained.{ExplainedModel}
+use Rattle.traces.specs.Explained.{IsExplainedIf}
 use Rattle.devices.specs.declared.fault.Status.{Status}
 use Rattle.devices.specs.declared.fault.Status.TheVariants.{Empty, Found}
 use Rattle.singcheck.specs.Answers.{AreFindings, IsResolved}
@@ -42,12 +43,15 @@ pub record AreReasons (named : Option Place) (text bytes : List ℕ) : Type 0 wh
   pub ordered : IsStrictlySortedBy report_cmp (map (λ e. e.finding) listed)
   pub is : bytes ≡ explained_bytes listed
 
--- the finding has no lines, or those of edges of one of the contracts that show it
-abbrev pub IsShownIn : Option Place → List ContractModel → ExplainedModel → Type 0
-IsShownIn named contracts e = (c : ContractModel) × Contains contracts c × IsShown named c.parts e
+-- it is a finding of one of the contracts, and its lines are what is shown of it
+pub record IsShownIn (named : Option Place) (contracts : List ContractModel) (e : ExplainedModel) : Type 0 where
+  pub contract : ContractModel
+  pub there : Contains contracts contract
+  pub flaw : IsFlaw contract.parts e.finding
+  pub shown : IsShown named contract.parts e
 
 -- A finding before the methods: an unexpected token with the tokens that could have been there, a fault of the text or a mistake
--- in its names with its remark, or a finding of a contract with edges that show it.
+-- in its names with its remark, or a finding of a contract with what shows it.
 pub data IsExplainedFinding (named : Option Place) (text : List ℕ) (e : ExplainedModel) : Type 0 where
   ByTokens : IsUnexpected named text e → IsExplainedFinding named text e
   ByFault : HasFault named text e → IsExplainedFinding named text e

@@ -1,7 +1,7 @@
 -- For proofs within the crate: what a text becomes before its methods are analysed, or why it has no program.
-use Rattle.std.specs.Prelude.{◌≡◌, ◌≢◌, ◌<◌, ◌≤◌, ◌^◌, ℕ, List, [], length, map, All}
+use Rattle.std.specs.Prelude.{◌≡◌, ◌≢◌, ◌<◌, ◌≤◌, ◌^◌, ℕ, List, [], length, All}
 use Rattle.source.specs.Faults.{IsFault}
-use Rattle.source.specs.Findings.{FindingModel, finding_model}
+use Rattle.source.specs.Findings.{FindingModel}
 use Rattle.source.specs.Marks.{body_of}
 use Rattle.source.specs.Places.{place_of}
 use Rattle.source.specs.Tokens.{AreTokens}
@@ -24,9 +24,11 @@ use Rattle.wellformed.specs.Told.{program_told}
 use Rattle.rules.specs.Programs.{model_of}
 use Rattle.rules.specs.declared.lowered.Program.{Program}
 use Rattle.singcheck.specs.Answers.{IsBroken, IsProgram, IsResolved}
+use Rattle.singcheck.specs.Broken.{IsBrokenIn, found_of}
 use Rattle.singcheck.specs.Checks.{HasProgram}
 use Rattle.singcheck.specs.Entered.{AreCleanSafe}
 use Rattle.singcheck.specs.declared.front.Refused.{Refused}
+use Rattle.singcheck.specs.declared.soundness.BrokenContract.{BrokenContract}
 use Rattle.singcheck.specs.declared.front.Refused.TheVariants as refused
 
 -- the text is a program of this tree, which fewer than 2^32 symbols spell
@@ -68,12 +70,15 @@ pub record AreBroken (contracts : List ContractModel) (found : List FindingModel
   pub some : found ≢ []
   pub are : AreExactly (IsBroken contracts) found
 
--- the names of the text are resolved, and these are the findings of its contracts
-pub record AreBrokenOf (text : List ℕ) (contracts : List ContractModel) (found : List FindingModel) : Type 0 where
+-- these are those of these contracts that have findings, with all findings, and there are some
+pub record AreBrokenContracts (contracts : List ContractModel) (broken : List BrokenContract) : Type 0 where
+  pub found : AreBroken contracts (found_of broken)
+  pub each : All (IsBrokenIn contracts) broken
+
+-- the names of the text are resolved, and these are its contracts with findings
+pub record AreBrokenOf (text : List ℕ) (contracts : List ContractModel) (broken : List BrokenContract) : Type 0 where
   pub resolved : IsResolved text contracts
-  pub whole : All (λ c. IsWhole c.parts) contracts
-  pub room : length contracts < 2 ^ 32
-  pub broken : AreBroken contracts found
+  pub are : AreBrokenContracts contracts broken
 
 -- these are the tokens of the text, and the one of this number is the first wrong one
 pub record IsWrongAt (text : List ℕ) (tokens : Tokens) (number : ℕ) : Type 0 where
@@ -91,5 +96,5 @@ abbrev pub IsRefused : List ℕ → Refused → Type 0
 IsRefused text (refused.Text f) = f ≢ fault.Memory → IsFault text f
 IsRefused text (refused.Syntax tokens number) = IsWrongAt text tokens number
 IsRefused text (refused.Names tree mistakes) = AreMistaken text tree mistakes.items
-IsRefused text (refused.Contracts methods found) = AreBrokenOf text (contracts_model methods) (map finding_model found.items)
+IsRefused text (refused.Contracts methods broken) = AreBrokenOf text (contracts_model methods) broken.items
 IsRefused text refused.Memory = Unit {0}

@@ -2,7 +2,7 @@
 use Rattle.std.specs.Prelude.{ℕ, List, ◌++◌, codes}
 use Rattle.std.specs.Fmt.{decimal}
 use Rattle.source.specs.Findings.{FindingModel, code_name}
-use Rattle.traces.specs.Lines.{LineModel}
+use Rattle.explanations.specs.Lines.{LineModel}
 
 -- `LINE:COL CODE text`
 abbrev pub finding_line : FindingModel → List ℕ
@@ -28,3 +28,11 @@ ok_line contracts = codes "ok: " ++ decimal contracts ++ codes " contracts\n"
 -- `ok: C contracts, M methods`
 abbrev pub clear_line : ℕ → ℕ → List ℕ
 clear_line contracts methods = codes "ok: " ++ decimal contracts ++ codes " contracts, " ++ decimal methods ++ codes " methods\n"
+
+-- `no deadlock in all 31 worlds`, with its end
+abbrev pub none_line : ℕ → List ℕ
+none_line worlds = codes "no deadlock in all " ++ (decimal worlds ++ codes " worlds\n")
+
+-- `no deadlock within 100000 worlds`, with its end
+abbrev pub unknown_line : ℕ → List ℕ
+unknown_line worlds = codes "no deadlock within " ++ (decimal worlds ++ codes " worlds\n")

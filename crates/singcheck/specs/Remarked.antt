@@ -13,21 +13,21 @@ use Rattle.declarations.specs.declared.mistake.Mistake.{Mistake}
 use Rattle.declarations.specs.declared.mistake.Mistake.TheVariants as mistake
 use Rattle.names.specs.Findings.{program_mistakes}
 use Rattle.remarks.specs.FaultRemarks.{fault_remark}
-use Rattle.remarks.specs.Remarks.{RemarkModel, remark_of}
-use Rattle.traces.specs.Explained.{ExplainedModel, is_asked}
-use Rattle.traces.specs.Lines.{LineModel, line}
+use Rattle.remarks.specs.Remarks.{remark_of}
+use Rattle.explanations.specs.Explained.{ExplainedModel, is_asked}
+use Rattle.explanations.specs.Lines.{LineModel}
 use Rattle.singcheck.specs.Answers.{IsProgram}
 use Rattle.singcheck.specs.declared.limits.TheConstants.{MOST_LOOKED_THROUGH}
 
 -- the line of a remark, if there is one
-abbrev pub said_lines : Option RemarkModel → List LineModel
-said_lines r = option_map_or (λ said. line said.place said.text ∷ []) r []
+abbrev pub said_lines : Option LineModel → List LineModel
+said_lines r = option_map_or (λ said. said ∷ []) r []
 
-abbrev pub remark_lines : Option Place → Place → Option RemarkModel → List LineModel
+abbrev pub remark_lines : Option Place → Place → Option LineModel → List LineModel
 remark_lines named place r = if is_asked named place then said_lines r else []
 
 -- the remark of a mistake; a name that nothing declares has one only if its nearest name is searched
-abbrev pub remark_within : Bool → ProgramText → Mistake → Option RemarkModel
+abbrev pub remark_within : Bool → ProgramText → Mistake → Option LineModel
 remark_within false p (mistake.Unknown name sort) = None
 remark_within within p m = remark_of p m
 

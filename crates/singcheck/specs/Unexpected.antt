@@ -16,8 +16,8 @@ use Rattle.expected.specs.Expectations.{expectation_of}
 use Rattle.expected.specs.Expected.{IsExpected, IsSublist}
 use Rattle.expected.specs.OpenBraces.{open_braces}
 use Rattle.source.specs.declared.kinds.TheConstants.{ALL_KINDS}
-use Rattle.traces.specs.Explained.{ExplainedModel, is_asked}
-use Rattle.traces.specs.Lines.{LineModel, line}
+use Rattle.explanations.specs.Explained.{ExplainedModel, is_asked}
+use Rattle.explanations.specs.Lines.{LineModel, line}
 use Rattle.singcheck.specs.Answers.{wrong_token}
 
 -- the span of a wrong token, or the end of the text

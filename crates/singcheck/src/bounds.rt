@@ -13,7 +13,7 @@ use crate::front::resolved_of;
 use crate::lines::{add_bounds, add_contracts};
 use crate::refusals::refused_report;
 use crate::report::{Report, finding_report};
-use crate::soundness::{Judgement, judge_contracts};
+use crate::soundness::{Judgement, findings_in, judge_contracts};
 use contracts::Sound;
 use devices::{Input, MAX_READ, RunFault, Sink, Source, Status, read_text, write_all};
 use program::{Contract, Resolved, Side};
@@ -80,9 +80,9 @@ fn contracts_report(alloc: Global, resolved: Resolved) -> Result<Report, Memory>
         → Answers text answer.bytes.items answer.status) }
 {
     match judge_contracts(alloc, &resolved)? {
-        Judgement::Broken(findings) => {
+        Judgement::Broken(broken) => {
             drop(resolved);
-            finding_report(alloc, findings)
+            finding_report(alloc, findings_in(alloc, broken)?)
         }
         Judgement::Sound(sounds) => Ok(Report {
             bytes: bounds_lines(alloc, &Clean { resolved, sounds })?,

@@ -8,7 +8,7 @@ ghost use Rattle.rules.specs.Programs.{model_of};
 ghost use Rattle.singcheck.specs.Entered.{MayBegin, ComesIn};
 ghost use Rattle.singcheck.specs.Fronts.{HasCleanNames, IsRefused};
 
-use crate::entries::{entry_index, struct_names};
+use crate::entries::{entry_index, method_names, struct_names};
 use crate::front::{Refused, judged_program, methods_of};
 use program::MethodId;
 use rules::Program;
@@ -16,12 +16,14 @@ use source::Memory;
 use std::alloc::Global;
 use tree::Tree;
 
-/// A run that may begin: its program, the method with which it begins, and the names of the structs, in order of the text.
+/// A run that may begin: its program, the method with which it begins, and the names of the structs and of the methods (`Class.Method`),
+/// in order of the text.
 #[derive(Drop)]
 pub(crate) struct Begun {
     pub(crate) program: Program,
     pub(crate) method: MethodId,
     pub(crate) structs: Vec<String>,
+    pub(crate) methods: Vec<Vec<u8>>,
 }
 
 /// Returns the run of a text that begins with the entry. `None` if the text has no such method, or a run may not
@@ -54,10 +56,12 @@ fn enter_method(
         return Ok(None);
     };
     let structs = struct_names(alloc, text, tree)?;
+    let methods = method_names(alloc, text, tree)?;
     Ok(Some(Begun {
         program,
         method,
         structs,
+        methods,
     }))
 }
 

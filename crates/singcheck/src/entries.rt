@@ -7,7 +7,7 @@ ghost use Rattle.singcheck.specs.Replays.{IsFirstAt, full_name, method_names, na
 
 use source::{Memory, Span};
 use std::alloc::Global;
-use tree::{Definition, Method, Tree};
+use tree::{Class, Definition, Method, Tree};
 
 /// Whether the entry is the name of a class, a dot and the name of a method of it.
 fn is_named(text: &[u8], class: Span, method: &Method, entry: &[u8]) -> bool
@@ -71,6 +71,60 @@ pub(crate) fn entry_index(text: &[u8], tree: &Tree, entry: &[u8]) -> Option<usiz
         before += methods_of(&item.definition);
     }
     None
+}
+
+/// Returns the name of a method with that of its class: `Class.Method`.
+fn method_name(alloc: Global, text: &[u8], class: Span, method: &Method) -> Result<Vec<u8>, Memory>
+    ensures { IfOk result (λ name. name.items ≡ full_name text.now class (method_tree method.now)) }
+{
+    let mut name = Vec::new(alloc);
+    name.extend_from_slice(class.slice(text))?;
+    name.extend_from_slice(b".")?;
+    name.extend_from_slice(method.name.slice(text))?;
+    Ok(name)
+}
+
+/// Adds the names of the methods of a class.
+fn add_methods_of(
+    alloc: Global,
+    text: &[u8],
+    class: &Class,
+    names: &mut Vec<Vec<u8>>,
+) -> Result<(), Memory>
+    ensures { OnOk result (map (λ name. name.items) names.new.items
+        ≡ map (λ name. name.items) names.old.items ++ map (full_name text.now class.now.name) (map method_tree class.now.methods.items)) }
+{
+    for method in &class.methods {
+        names.push(method_name(alloc, text, class.name, method)?)?;
+    }
+    Ok(())
+}
+
+/// Adds the names of the methods of an item, if it is a class.
+fn add_methods(
+    alloc: Global,
+    text: &[u8],
+    definition: &Definition,
+    names: &mut Vec<Vec<u8>>,
+) -> Result<(), Memory>
+    ensures { OnOk result (map (λ name. name.items) names.new.items
+        ≡ map (λ name. name.items) names.old.items ++ names_in text.now (definition_tree definition.now)) }
+{
+    match definition {
+        Definition::Class(class) => add_methods_of(alloc, text, class, names),
+        Definition::Contract(_) | Definition::Struct(_) => Ok(()),
+    }
+}
+
+/// Returns the names of the methods of a text, `Class.Method`, in order.
+pub(crate) fn method_names(alloc: Global, text: &[u8], tree: &Tree) -> Result<Vec<Vec<u8>>, Memory>
+    ensures { IfOk result (λ names. map (λ name. name.items) names.items ≡ method_names text.now (program_tree tree.now)) }
+{
+    let mut names = Vec::new(alloc);
+    for item in &tree.items {
+        add_methods(alloc, text, &item.definition, &mut names)?;
+    }
+    Ok(names)
 }
 
 /// Adds the printed name of an item, if it is a struct.

@@ -6,16 +6,16 @@ ghost use Rattle.source.specs.Places.{place_of};
 ghost use Rattle.source.specs.Tokens.{AreTokens};
 ghost use Rattle.syntax.specs.Parsing.{IsFirstWrong};
 ghost use Rattle.tree.specs.Programs.{program};
-ghost use Rattle.traces.specs.Explained.{explained_model};
+ghost use Rattle.explanations.specs.Explained.{explained_model};
 ghost use Rattle.expected.specs.Expectations.{expectation_of};
-ghost use Rattle.traces.specs.Lines.{line, line_model};
+ghost use Rattle.explanations.specs.Lines.{line, line_model};
 ghost use Rattle.singcheck.specs.Unexpected.{AreExpectedLines, IsUnexpected, begins_item, brace_lines, likely_brace, wrong_span};
 
 use crate::refusals::{finding_at, token_at};
 use expected::{expectation, expected_kinds, fault_is_within, open_brace};
+use explanations::{Explained, Line, is_asked};
 use source::{Kind, Memory, Place, Span, Token, Tokens};
 use std::alloc::Global;
-use traces::{Explained, Line, is_asked};
 
 /// Explains the first wrong token, which has this number, or the end: lists the tokens that could have been there,
 /// and a brace that is likely not closed. If another place is named, there are no lines.

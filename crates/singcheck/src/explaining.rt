@@ -1,27 +1,30 @@
 //! The report with a trace under each finding.
 
-ghost use Rattle.std.specs.Prelude.{◌≡◌, ◌<◌, ◌^◌, ◌↔◌, ◌++◌, All, Contains, IfOk, OnOk, length, map};
+ghost use Rattle.std.specs.Prelude.{◌≡◌, ◌↔◌, ◌++◌, All, Contains, IfOk, OnOk, map};
 ghost use Rattle.std.specs.List.Sorted.{IsStrictlySortedBy};
 ghost use Rattle.contracts.specs.Conditions.{AreExactly};
-ghost use Rattle.program.specs.Parts.{IsWhole, contract_model};
+ghost use Rattle.program.specs.Parts.{contract_model};
 ghost use Rattle.reports.specs.Orders.{report_cmp};
 ghost use Rattle.rules.specs.Programs.{model_of};
 ghost use Rattle.source.specs.Findings.{FindingModel, finding_model};
-ghost use Rattle.traces.specs.Explained.{explained_model};
-ghost use Rattle.traces.specs.declared.line.Explained.{Explained as ExplainedModel};
+ghost use Rattle.explanations.specs.Explained.{explained_model};
+ghost use Rattle.explanations.specs.declared.line.Explained.{Explained as ExplainedModel};
 ghost use Rattle.singcheck.specs.Checks.{IsWrong};
-ghost use Rattle.singcheck.specs.Answers.{IsBroken};
+ghost use Rattle.singcheck.specs.Broken.{IsBrokenIn, found_of};
 ghost use Rattle.singcheck.specs.Explains.{IsExplainedIn, IsShownIn, explained_bytes, explained_lines};
 
 use crate::lines::{add_count, add_finding, add_line};
 use crate::seats::table;
+use crate::soundness::BrokenContract;
 use analyse::Worker;
-use contracts::{edges, faults};
-use program::{ContractId, MethodId, Resolved};
+use contract_traces::show_faults;
+use contracts::edges;
+use explanations::Explained;
+use program::{MethodId, Resolved};
 use rules::Program;
 use source::{Memory, Place, compare};
 use std::alloc::Global;
-use traces::{Explained, explain, show_faults};
+use traces::explain;
 
 /// The number of slots of the table of rows.
 const SLOTS: usize = 65_536;
@@ -50,27 +53,25 @@ pub(crate) fn explain_methods(
     Ok(found)
 }
 
-/// Returns the findings of all contracts with edges that show them. If a place is named, only findings there have lines.
+/// Returns the findings of these contracts with edges that show them. If a place is named, only findings there have lines.
 ///
 /// # Errors
 /// `Memory` if out of memory.
 pub(crate) fn explain_contracts(
     alloc: Global,
     resolved: &Resolved,
+    broken: Vec<BrokenContract>,
     named: Option<Place>,
 ) -> Result<Vec<Explained>, Memory>
-    requires whole { All (λ c. IsWhole c.parts) (map contract_model resolved.now.contracts.items) }
-    requires few { length resolved.now.contracts.items < 2 ^ 32 }
-    ensures found { IfOk result (λ found. AreExactly (IsBroken (map contract_model resolved.now.contracts.items))
-        (map (λ e. finding_model e.finding) found.items)) }
+    requires each { All (IsBrokenIn (map contract_model resolved.now.contracts.items)) broken.items }
+    ensures same { IfOk result (λ found. map (λ e. finding_model e.finding) found.items ≡ found_of broken.items) }
     ensures each { IfOk result (λ found.
         All (λ e. IsShownIn named (map contract_model resolved.now.contracts.items) (explained_model e)) found.items) }
 {
     let mut found = Vec::new(alloc);
-    for number in 0..resolved.contracts.len() as u32 {
-        let contract = edges(resolved, ContractId(number));
-        let broken = faults(alloc, contract)?;
-        let mut more = show_faults(alloc, contract, broken, named)?;
+    for one in broken {
+        let contract = edges(resolved, one.contract);
+        let mut more = show_faults(alloc, contract, one.findings, named)?;
         found.append(&mut more)?;
     }
     Ok(found)

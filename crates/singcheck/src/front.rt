@@ -9,12 +9,12 @@ ghost use Rattle.program.specs.Parts.{IsWhole};
 ghost use Rattle.program.specs.Programs.{contracts_model, program_model};
 ghost use Rattle.singcheck.specs.Fronts.{AreNamed, IsProgramBefore, IsProgramOf, IsRefused, IsResolvedAs, IsSoundOne};
 
-use crate::soundness::{Judgement, judge_contracts};
+use crate::soundness::{BrokenContract, Judgement, judge_contracts};
 use names::{Mistake, judge_names};
 use program::{Methods, Resolved};
 use rules::Program;
 use sound::laws::clean_methods_are_safe;
-use source::{Finding, Memory, TextFault, Tokens, lex};
+use source::{Memory, TextFault, Tokens, lex};
 use std::alloc::Global;
 use syntax::{SyntaxFault, parse};
 use tree::Tree;
@@ -29,8 +29,8 @@ pub(crate) enum Refused {
     Syntax(Tokens, usize),
     /// The tree of the text, and all mistakes in its names and types.
     Names(Tree, Vec<Mistake>),
-    /// The methods of the text, and the findings of its contracts.
-    Contracts(Methods, Vec<Finding>),
+    /// The methods of the text, and its contracts with findings.
+    Contracts(Methods, Vec<BrokenContract>),
     /// An allocation failed.
     Memory,
 }
@@ -102,7 +102,7 @@ pub(crate) fn judged_program(alloc: Global, methods: Methods) -> Result<Program,
         → IfErr result (IsRefused text) }
 {
     match judge_contracts(alloc, methods.contracts())? {
-        Judgement::Broken(findings) => Err(Refused::Contracts(methods, findings)),
+        Judgement::Broken(broken) => Err(Refused::Contracts(methods, broken)),
         Judgement::Sound(sounds) => {
             clean_methods_are_safe(&methods, &sounds);
             Ok(Program::new(alloc, methods, sounds)?)

@@ -7,11 +7,14 @@ mod entering;
 mod entries;
 mod expecting;
 mod explaining;
+mod explorations;
 mod front;
 mod judging;
 pub mod laws;
 mod limits;
 mod lines;
+mod printed_runs;
+mod random_runs;
 mod refusals;
 mod remarking;
 mod replaying;
@@ -25,13 +28,16 @@ mod why;
 
 pub use bounds::run_bounds;
 pub use checking::{check, check_onto};
-pub use command_line::{Ask, ask};
+pub use command_line::{Ask, Wanted, ask};
 pub use devices::{
     CheckFault, Counted, Failed, Input, MAX_READ, RunFault, Sink, Source, Status, ending,
 };
+pub use explorations::run_explore;
 pub use limits::{MAX_SCHEDULE_READ, MOST_SLOTS, MOST_WORKERS};
 pub use pool::{Gate, Open};
+pub use random_runs::{RunOptions, run_random};
 pub use replaying::run_replay;
+pub use replays::Detail;
 pub use report::Report;
 pub use running::run_check;
 pub use source::Place;

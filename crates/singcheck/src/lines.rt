@@ -3,12 +3,13 @@
 ghost use Rattle.std.specs.Prelude.{◌≡◌, ◌++◌, OnOk};
 ghost use Rattle.std.specs.Fmt.{decimal};
 ghost use Rattle.source.specs.Findings.{finding_model};
-ghost use Rattle.traces.specs.Lines.{line_model};
+ghost use Rattle.explanations.specs.Lines.{line_model};
 ghost use Rattle.singcheck.specs.Lines.{finding_line, trace_line, count_line, bounds_line, ok_line, clear_line};
+ghost use Rattle.singcheck.specs.Lines.{none_line, unknown_line};
 
+use explanations::Line;
 use itoa::Buffer;
 use source::{Finding, Memory};
-use traces::Line;
 
 /// Adds a text.
 fn add(answer: &mut Vec<u8>, text: &str) -> Result<(), Memory>
@@ -77,6 +78,24 @@ pub(crate) fn add_bounds(
     add(answer, ", to Imp ")?;
     add_number(answer, to_imp as usize)?;
     add(answer, "\n")
+}
+
+/// Adds `no deadlock in all N worlds`.
+pub(crate) fn add_all_worlds(answer: &mut Vec<u8>, worlds: usize) -> Result<(), Memory>
+    ensures { OnOk result (answer.new.items ≡ answer.old.items ++ none_line worlds) }
+{
+    add(answer, "no deadlock in all ")?;
+    add_number(answer, worlds)?;
+    add(answer, " worlds\n")
+}
+
+/// Adds `no deadlock within N worlds`.
+pub(crate) fn add_some_worlds(answer: &mut Vec<u8>, worlds: usize) -> Result<(), Memory>
+    ensures { OnOk result (answer.new.items ≡ answer.old.items ++ unknown_line worlds) }
+{
+    add(answer, "no deadlock within ")?;
+    add_number(answer, worlds)?;
+    add(answer, " worlds\n")
 }
 
 /// Adds `ok: C contracts`.

@@ -10,6 +10,7 @@ ghost use Rattle.singcheck.specs.Reports.{IsReportOf};
 
 use crate::front::Refused;
 use crate::report::{Report, finding_report};
+use crate::soundness::findings_in;
 use devices::Status;
 use source::{Finding, Memory, TextFault, Token, Tokens, texts};
 use std::alloc::Global;
@@ -40,9 +41,9 @@ fn findings_of(alloc: Global, text: &[u8], refused: Refused) -> Result<Vec<Findi
             drop(tree);
             Ok(declarations::findings_of(alloc, text, &mistakes)?)
         }
-        Refused::Contracts(methods, found) => {
+        Refused::Contracts(methods, broken) => {
             drop(methods);
-            Ok(found)
+            findings_in(alloc, broken)
         }
         Refused::Memory => Err(Memory),
     }

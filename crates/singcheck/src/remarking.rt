@@ -5,9 +5,8 @@ ghost use Rattle.source.specs.Faults.{IsFault};
 ghost use Rattle.source.specs.Findings.{finding_model};
 ghost use Rattle.declarations.specs.Mistakes.{finding_in};
 ghost use Rattle.declarations.specs.Program.{program_of};
-ghost use Rattle.remarks.specs.Remarks.{remark_model};
-ghost use Rattle.traces.specs.Explained.{explained_model};
-ghost use Rattle.traces.specs.Lines.{line_model};
+ghost use Rattle.explanations.specs.Explained.{explained_model};
+ghost use Rattle.explanations.specs.Lines.{line_model};
 ghost use Rattle.singcheck.specs.Explains.{AreExplained};
 ghost use Rattle.singcheck.specs.Fronts.{AreMistaken, IsRefused};
 ghost use Rattle.singcheck.specs.Remarked.{HasFault, most_searched, remark_lines, remark_within, said_lines};
@@ -17,11 +16,11 @@ use crate::explaining::explain_contracts;
 use crate::front::Refused;
 use crate::limits::MOST_LOOKED_THROUGH;
 use crate::refusals::fault_finding;
+use explanations::{Explained, Line, is_asked};
 use names::Mistake;
-use remarks::{Remark, fault_remark, remark};
+use remarks::{fault_remark, remark};
 use source::{Finding, Memory, Place, TextFault};
 use std::alloc::Global;
-use traces::{Explained, Line, is_asked};
 use tree::Tree;
 
 /// Returns the findings of a text that has no program, in no order. If a place is named, only findings there have lines.
@@ -41,7 +40,9 @@ pub(crate) fn explain_refused(
         Refused::Text(fault) => alone(alloc, explain_fault(alloc, fault, named)?),
         Refused::Syntax(tokens, number) => alone(alloc, explain_at(alloc, &tokens, number, named)?),
         Refused::Names(tree, mistakes) => explain_names(alloc, text, &tree, &mistakes, named),
-        Refused::Contracts(methods, _) => explain_contracts(alloc, methods.contracts(), named),
+        Refused::Contracts(methods, broken) => {
+            explain_contracts(alloc, methods.contracts(), broken, named)
+        }
         Refused::Memory => Err(Memory),
     }
 }
@@ -123,8 +124,8 @@ fn remark_within(
     tree: &Tree,
     mistake: Mistake,
     within: bool,
-) -> Result<Option<Remark>, Memory>
-    ensures { IfOk result (λ said. option_map remark_model said
+) -> Result<Option<Line>, Memory>
+    ensures { IfOk result (λ said. option_map line_model said
         ≡ remark_within within (program_of text.now tree.now) mistake) }
 {
     match mistake {
@@ -147,12 +148,12 @@ fn explain_fault(alloc: Global, fault: TextFault, named: Option<Place>) -> Resul
 fn explained_by(
     alloc: Global,
     finding: Finding,
-    said: Option<Remark>,
+    said: Option<Line>,
     named: Option<Place>,
 ) -> Result<Explained, Memory>
     ensures finding { IfOk result (λ e. e.finding ≡ finding) }
     ensures lines { IfOk result (λ e. map line_model e.lines.items
-        ≡ remark_lines named e.finding.place (option_map remark_model said)) }
+        ≡ remark_lines named e.finding.place (option_map line_model said)) }
 {
     let mut lines = Vec::new(alloc);
     if is_asked(named, finding.place) {
@@ -162,15 +163,12 @@ fn explained_by(
 }
 
 /// Adds the line of a remark, if there is one.
-fn add_remark(said: Option<Remark>, lines: &mut Vec<Line>) -> Result<(), Memory>
+fn add_remark(said: Option<Line>, lines: &mut Vec<Line>) -> Result<(), Memory>
     ensures { OnOk result (map line_model lines.new.items
-        ≡ map line_model lines.old.items ++ said_lines (option_map remark_model said)) }
+        ≡ map line_model lines.old.items ++ said_lines (option_map line_model said)) }
 {
     match said {
-        Some(remark) => lines.push(Line {
-            place: remark.place,
-            text: remark.text,
-        })?,
+        Some(remark) => lines.push(remark)?,
         None => {}
     }
     Ok(())

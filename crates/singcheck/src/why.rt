@@ -22,7 +22,7 @@ use std::alloc::Global;
 ///
 /// A finding in a method has a trace: the choices of a shortest path through the method to the finding, and what the
 /// path does to the variables that the finding is about. A finding in a contract has edges that show it
-/// (`traces::show_faults`), one of names or types has its remark (`remarks::remark`), such as what was asked for and
+/// (`contract_traces::show_faults`), one of names or types has its remark (`remarks::remark`), such as what was asked for and
 /// what was given. If a place is named, only the findings at that place have lines. The lines are `  LINE:COL text`,
 /// and the status is that of `check`. The calling thread analyses the methods one by one. At most `MAX_READ` bytes
 /// are read, and the rest is left unread.

@@ -8,8 +8,8 @@ use crate::numbers::fault_of;
 use crate::with_error::WithError;
 use clap::error::{Error, ErrorKind};
 use singcheck::{
-    Ask, Counted, Input, Open, Place, RunFault, Sink, Status, ask, ending, run_bounds, run_check,
-    run_replay, run_why,
+    Ask, Counted, Detail, Input, Open, Place, RunFault, RunOptions, Sink, Status, Wanted, ask,
+    ending, run_bounds, run_check, run_explore, run_random, run_replay, run_why,
 };
 use std::alloc::{AllocError, Global};
 use std::io::Write;
@@ -73,22 +73,7 @@ fn answer<R: AllocGlobal + Files + Print + Eprint + Threads + Wait + Sync, O: Wr
     errors: &mut E,
 ) -> u8 {
     match ask(rt.alloc(), words) {
-        Ok(Ask::Bounds { file }) => answer_bounds(rt, file, output, errors),
-        Ok(
-            Ask::Check {
-                file,
-                workers,
-                slots,
-            },
-        ) => answer_check(rt, file, workers, slots, output, errors),
-        Ok(
-            Ask::Replay {
-                file,
-                entry,
-                schedule,
-            },
-        ) => answer_replay(rt, file, entry, schedule, output, errors),
-        Ok(Ask::Why { file, named }) => answer_why(rt, file, named, output, errors),
+        Ok(asked) => answer_asked(rt, asked, output, errors),
         Err(refusal) if refusal.kind() == ErrorKind::OutOfMemory => {
             ending(&RunFault::Memory, "", errors)
         }
@@ -97,6 +82,43 @@ fn answer<R: AllocGlobal + Files + Print + Eprint + Threads + Wait + Sync, O: Wr
             None => refuse(rt, &refusal, errors),
         },
         Err(refusal) => refuse(rt, &refusal, errors),
+    }
+}
+
+/// Does what was asked for and returns the exit status.
+fn answer_asked<R: AllocGlobal + Files + Eprint + Threads + Wait + Sync, O: Write, E: Sink>(
+    rt: &R,
+    asked: Ask<'_>,
+    output: &mut Output<O>,
+    errors: &mut E,
+) -> u8 {
+    match asked {
+        Ask::Bounds { file } => answer_bounds(rt, file, output, errors),
+        Ask::Check {
+            file,
+            workers,
+            slots,
+        } => answer_check(rt, file, workers, slots, output, errors),
+        Ask::Replay {
+            file,
+            entry,
+            schedule,
+        } => answer_replay(rt, file, entry, schedule, output, errors),
+        Ask::Why { file, named } => answer_why(rt, file, named, output, errors),
+        Ask::Run {
+            file,
+            entry,
+            wanted,
+        } => answer_run(rt, file, entry, &wanted, output, errors),
+        Ask::Explore {
+            file,
+            entry,
+            worlds,
+            schedule,
+        } => {
+            let options = SearchOptions { worlds, schedule };
+            answer_explore(rt, file, entry, &options, output, errors)
+        }
     }
 }
 
@@ -178,6 +200,113 @@ fn answer_why<R: AllocGlobal + Files + Eprint, O: Write, E: Sink>(
     };
     let answered = run_why(rt.alloc(), &mut text, output, named);
     status(rt, answered, file, text.device.error, output, errors)
+}
+
+/// What a search is asked for: the most worlds that it visits, and the file to which a schedule goes, if it is named.
+#[derive(Clone, Copy)]
+struct SearchOptions<'a> {
+    worlds: usize,
+    schedule: Option<&'a str>,
+}
+
+fn answer_run<R: AllocGlobal + Files + Eprint, O: Write, E: Sink>(
+    rt: &R,
+    file: &str,
+    entry: &str,
+    wanted: &Wanted<'_>,
+    output: &mut Output<O>,
+    errors: &mut E,
+) -> u8 {
+    let mut text = match fs::open(rt, file) {
+        Ok(text) => Counted::new(WithError::new(text)),
+        Err(error) => return unread(rt, Input::Text, file, error, errors),
+    };
+    let options = options_of(wanted);
+    let ran = run_random(rt.alloc(), &mut text, entry.as_bytes(), &options, output);
+    let (answered, schedule) = parts_of(ran);
+    let (name, error) = match answered {
+        Err(RunFault::Entry) => (entry, None),
+        _ => (file, text.device.error),
+    };
+    let status = status(rt, answered, name, error, output, errors);
+    // A text with findings has status 1, so with status 0 a run was printed.
+    if status == 0 && schedule.is_none() && wanted.schedule.is_some() {
+        let _ = rt.eprintln("singcheck: no schedule has that many events");
+    }
+    write_schedule(rt, wanted.schedule, schedule, status)
+}
+
+fn answer_explore<R: AllocGlobal + Files + Eprint, O: Write, E: Sink>(
+    rt: &R,
+    file: &str,
+    entry: &str,
+    options: &SearchOptions<'_>,
+    output: &mut Output<O>,
+    errors: &mut E,
+) -> u8 {
+    let mut text = match fs::open(rt, file) {
+        Ok(text) => Counted::new(WithError::new(text)),
+        Err(error) => return unread(rt, Input::Text, file, error, errors),
+    };
+    let ran = run_explore(
+        rt.alloc(),
+        &mut text,
+        entry.as_bytes(),
+        options.worlds,
+        output,
+    );
+    let (answered, schedule) = parts_of(ran);
+    let (name, error) = match answered {
+        Err(RunFault::Entry) => (entry, None),
+        _ => (file, text.device.error),
+    };
+    let status = status(rt, answered, name, error, output, errors);
+    write_schedule(rt, options.schedule, schedule, status)
+}
+
+/// Returns the status of a run, or its fault, and its schedule, if it has one.
+fn parts_of(
+    ran: Result<(Status, Option<Vec<u8>>), RunFault>,
+) -> (Result<Status, RunFault>, Option<Vec<u8>>) {
+    match ran {
+        Ok((status, schedule)) => (Ok(status), schedule),
+        Err(fault) => (Err(fault), None),
+    }
+}
+
+/// Returns the options of a random run.
+fn options_of(wanted: &Wanted<'_>) -> RunOptions {
+    RunOptions {
+        seed: wanted.seed as u64,
+        runs: wanted.runs as u64,
+        steps: wanted.steps as u64,
+        detail: if wanted.all {
+            Detail::Everything
+        } else {
+            Detail::Notable
+        },
+    }
+}
+
+/// Writes the schedule of a run to a file, if there is one and a file is named. Returns the status of the run, or 3 after two lines that
+/// say why the file cannot be written.
+fn write_schedule<R: AllocGlobal + Files + Eprint>(
+    rt: &R,
+    name: Option<&str>,
+    schedule: Option<Vec<u8>>,
+    status: u8,
+) -> u8 {
+    let (Some(name), Some(schedule)) = (name, schedule) else {
+        return status;
+    };
+    match fs::write(rt, name, &schedule) {
+        Ok(()) => status,
+        Err(error) => {
+            let _ = rt.eprintln(format_args!("singcheck: cannot write {name}"));
+            let _ = rt.eprintln(error);
+            3
+        }
+    }
 }
 
 /// Returns the exit status of a run, after writing the line of its fault, if it failed. If an input failed, `error` says why. A closed

@@ -42,4 +42,5 @@ returns c =
         at = record { named = looked_at names c.args.entry.now c.entry_index.result c.in-Some.method.0 look c.in-Some.ensures.some.0; begins = c.in-Some.ensures.some.1 };
       };
       structs = c.in_ok-structs.ensures;
+      methods = c.in_ok-methods.ensures;
     }

@@ -3,7 +3,7 @@ use Rattle.std.specs.Prelude.{◌↔◌, Contains}
 use Rattle.source.specs.declared.kind.Kind.{Kind}
 use Rattle.expected.specs.Expectations.{expectation_of}
 use Rattle.expected.specs.Expected.{IsExpected}
-use Rattle.traces.specs.Lines.{line, line_model}
+use Rattle.explanations.specs.Lines.{line, line_model}
 use Rattle.singcheck.specs.Unexpected.{brace_lines}
 use Rattle.singcheck.proofs.expecting.expected_lines.Goals as goal
 

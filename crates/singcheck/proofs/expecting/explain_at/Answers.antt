@@ -2,7 +2,7 @@ use Rattle.std.proofs.Common.{◌≡◌, ◌∙◌, ap, map, subst, sym, true, f
 use Rattle.std.specs.Prelude.{IfOk, slice_get}
 use Rattle.source.specs.Findings.{finding_model}
 use Rattle.source.specs.declared.place.Place.{Place}
-use Rattle.traces.specs.Lines.{line_model}
+use Rattle.explanations.specs.Lines.{line_model}
 use Rattle.singcheck.specs.Answers.{wrong_token}
 use Rattle.singcheck.specs.Unexpected.{AreExpectedLines}
 use Rattle.singcheck.proofs.expecting.explain_at.Goals as goal

@@ -1,7 +1,7 @@
 use Rattle.std.proofs.Common.{◌≡◌, ◌++◌, take}
 use Rattle.std.specs.List.{flat_map}
 use Rattle.source.specs.Findings.{finding_model}
-use Rattle.traces.specs.Lines.{line_model}
+use Rattle.explanations.specs.Lines.{line_model}
 use Rattle.singcheck.specs.Lines.{finding_line, trace_line}
 use Rattle.singcheck.proofs.explaining.add_explained.Given as goal
 

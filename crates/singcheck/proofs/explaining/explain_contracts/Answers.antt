@@ -1,43 +1,49 @@
-use Rattle.std.proofs.Common.{◌<◌, map, length, sym, ap, subst, ◌∙◌, arith}
-use Rattle.std.specs.List.{All}
-use Rattle.std.proofs.lemmas.List.{length-map, map-append}
-use Rattle.std.proofs.lemmas.List.Elements.{All-append, All-weaker}
-use Rattle.analyse.proofs.FrontLemmas.{contains_at}
+use Rattle.std.proofs.Common.{◌∷◌, ◌++◌, [], map, sym, ap, ◌∙◌}
+use Rattle.std.proofs.lemmas.List.{map-append}
+use Rattle.std.proofs.lemmas.List.Elements.{All-append, All-head, All-nil, All-same, All-tail}
+use Rattle.program.specs.Parts.{contract_model, contract_parts}
 use Rattle.source.specs.Findings.{finding_model}
-use Rattle.program.specs.Parts.{Parts, contract_parts, contract_model}
-use Rattle.contracts.specs.Conditions.{AreExactly, IsFlaw}
-use Rattle.traces.specs.Explained.{explained_model}
-use Rattle.traces.specs.Shown.{IsShown}
-use Rattle.traces.specs.declared.line.Explained.{Explained}
+use Rattle.explanations.specs.Explained.{explained_model}
+use Rattle.explanations.specs.declared.line.Explained.{Explained}
+use Rattle.singcheck.specs.Broken.{IsBrokenIn, found_of}
 use Rattle.singcheck.specs.Explains.{IsShownIn}
-use Rattle.singcheck.proofs.JudgeLemmas.{at_turn, broken_turn, parts_at}
-use Rattle.singcheck.proofs.WholeLemmas.{whole_at}
+use Rattle.singcheck.proofs.JudgeLemmas.{contract_within, found_push, shown_in}
 use Rattle.singcheck.proofs.explaining.explain_contracts.Goals as goal
 
-pub faults-requires : goal.faults-requires
-faults-requires c = record { whole = whole_at c.args.resolved.now.contracts.items c.loop-number.number _ c.requires.whole c.edges-contract.ensures }
+pub loop-one-init : goal.loop-one-init
+loop-one-init c =
+    let contracts = map contract_model c.args.resolved.now.contracts.items in
+    let holds = λ (e : Explained). IsShownIn c.args.named contracts (explained_model e) in
+    let none = c.new-found.ensures.items in
+    record {
+      same = ap (map (λ (e : Explained). finding_model e.finding)) none;
+      each = All-same holds c.new-found.result.items [] none (All-nil holds);
+      left = All-same (IsBrokenIn contracts) c.into_iter-one-iterator.result.rest.items c.args.broken.items c.into_iter-one-iterator.ensures.into_iter_gives.0 c.requires.each;
+    }
 
-pub loop-number-preserved : goal.loop-number-preserved
-loop-number-preserved c =
-    let resolved = c.args.resolved.now.contracts.items in
-    let all = map contract_model resolved in
-    let n = c.loop-number.number in
-    let i = c.loop-number.invariant in
+pub edges-contract-requires : goal.edges-contract-requires
+edges-contract-requires c =
+    let contracts = c.args.resolved.now.contracts.items in
+    contract_within contracts c.in-Some.one
+    (All-head (IsBrokenIn (map contract_model contracts)) c.in-Some.one c.next.new.self.rest.items
+    (All-same (IsBrokenIn (map contract_model contracts)) _ c.loop-one.one-iterator.rest.items (sym c.in-Some.ensures.steps.0) c.loop-one.invariant.left))
+
+pub loop-one-preserved : goal.loop-one-preserved
+loop-one-preserved c =
+    let contracts = c.args.resolved.now.contracts.items in
+    let all = map contract_model contracts in
     let finding = λ (e : Explained). finding_model e.finding in
     let holds = λ (e : Explained). IsShownIn c.args.named all (explained_model e) in
-    let old = c.loop-number.found.items in
+    let one = c.in-Some.one in
+    let old = c.loop-one.found.items in
     let more = c.in_ok-more.more.items in
-    let parts = contract_parts c.edges-contract.result.now in
-    let items = c.in_ok-append.ensures.items in
-    let size = length-map resolved contract_model in
-    let lt : n < length all = let t = c.loop-number-test.true in let end = c.loop-number.auto.number-end in let len = c.len-number-end.ensures in omega (arith, size, t, end, len) in
-    let turn = at_turn all n lt in
+    let i = c.loop-one.invariant in
+    let left = All-same (IsBrokenIn all) (one ∷ c.next.new.self.rest.items) c.loop-one.one-iterator.rest.items (sym c.in-Some.ensures.steps.0) i.left in
+    let here = All-head (IsBrokenIn all) one c.next.new.self.rest.items left in
     record {
-      found = broken_turn all n (map finding old) (map finding more) (map finding c.append.new.self.items) lt i.found
-          (λ s at. subst (λ (p : Parts). AreExactly (IsFlaw p) (map finding more)) (sym (parts_at resolved n parts s c.edges-contract.ensures at))
-          (subst (AreExactly (IsFlaw parts)) (sym c.in_ok-more.ensures.same) c.in_ok-broken.ensures.exactly))
-          (ap (map finding) items ∙ map-append finding old more);
-      each = subst (All holds) (sym items) (All-append holds old more i.each
-          (All-weaker (λ (e : Explained). IsShown c.args.named parts (explained_model e)) holds
-          (λ e h. (turn.0, contains_at all n turn.0 turn.1, subst (λ (p : Parts). IsShown c.args.named p (explained_model e)) (sym (parts_at resolved n parts turn.0 c.edges-contract.ensures turn.1)) h)) more c.in_ok-more.ensures.shown));
+      same = ap (map finding) c.in_ok-append.ensures.items ∙ map-append finding old more ∙ ap (λ l. l ++ map finding more) i.same
+          ∙ ap (λ l. found_of c.loop-one.yielded ++ l) c.in_ok-more.ensures.same ∙ sym (found_push c.loop-one.yielded one);
+      each = All-same holds c.append.new.self.items (old ++ more) c.in_ok-append.ensures.items
+          (All-append holds old more i.each (shown_in c.args.named contracts one (contract_parts c.edges-contract.result.now) more here c.edges-contract.ensures c.in_ok-more.ensures.same c.in_ok-more.ensures.shown));
+      left = All-tail (IsBrokenIn all) one c.next.new.self.rest.items left;
     }

@@ -7,8 +7,9 @@ use Rattle.program.specs.Methods.{method_model}
 use Rattle.pool.specs.Counts.{times}
 use Rattle.rules.specs.Programs.{model_of}
 use Rattle.tasks.specs.Tasks.{numbers_below}
-use Rattle.traces.specs.Explained.{IsExplainedIf, explained_model}
-use Rattle.traces.specs.declared.line.Explained.{Explained}
+use Rattle.explanations.specs.Explained.{explained_model}
+use Rattle.traces.specs.Explained.{IsExplainedIf}
+use Rattle.explanations.specs.declared.line.Explained.{Explained}
 use Rattle.singcheck.specs.Explains.{IsExplainedIn}
 use Rattle.singcheck.specs.Verdicts.{AreOfMethods}
 use Rattle.singcheck.proofs.VerdictLemmas.{of_all_methods, of_methods_then, of_no_methods, verdict_exactly}

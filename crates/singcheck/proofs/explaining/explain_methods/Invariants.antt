@@ -4,7 +4,7 @@ use Rattle.source.specs.Findings.{finding_model}
 use Rattle.rules.specs.Programs.{model_of}
 use Rattle.tasks.specs.Tasks.{numbers_below}
 use Rattle.analyse.specs.Workers.{IsWorkerOf}
-use Rattle.traces.specs.Explained.{explained_model}
+use Rattle.explanations.specs.Explained.{explained_model}
 use Rattle.singcheck.specs.Explains.{IsExplainedIn}
 use Rattle.singcheck.specs.Verdicts.{AreOfMethods}
 use Rattle.singcheck.proofs.explaining.explain_methods.Given as goal

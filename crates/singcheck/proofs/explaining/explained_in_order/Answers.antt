@@ -5,7 +5,7 @@ use Rattle.std.proofs.lemmas.List.Sorted.{ranks_by}
 use Rattle.reports.specs.Orders.{report_cmp}
 use Rattle.reports.proofs.SortLemmas.{item_cmp, item_total, once_among, once_ordered, once_same}
 use Rattle.source.specs.Findings.{finding_model}
-use Rattle.traces.specs.declared.line.Explained.{Explained}
+use Rattle.explanations.specs.declared.line.Explained.{Explained}
 use Rattle.singcheck.proofs.explaining.explained_in_order.Goals as goal
 
 pub returns-clause-same : goal.returns-clause-same

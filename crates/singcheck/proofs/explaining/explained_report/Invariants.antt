@@ -1,6 +1,6 @@
 use Rattle.std.proofs.Common.{◌≡◌, take}
 use Rattle.std.specs.List.{flat_map}
-use Rattle.traces.specs.Explained.{explained_model}
+use Rattle.explanations.specs.Explained.{explained_model}
 use Rattle.singcheck.specs.Explains.{explained_lines}
 use Rattle.singcheck.proofs.explaining.explained_report.Given as goal
 

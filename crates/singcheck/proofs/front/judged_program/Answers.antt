@@ -2,13 +2,12 @@ use Rattle.std.proofs.Common.{◌∙◌, map, ap, sym, subst, length, arith}
 use Rattle.std.specs.Prelude.{All}
 use Rattle.std.proofs.lemmas.List.{length-map}
 use Rattle.std.proofs.lemmas.List.Elements.{All-same}
-use Rattle.source.specs.Findings.{finding_model}
 use Rattle.program.specs.Parts.{ContractModel, IsWhole, contract_model}
 use Rattle.program.specs.Programs.{ProgramModel, contracts_model}
 use Rattle.contracts.specs.Conditions.{IsSound}
 use Rattle.contracts.specs.Sounds.{sound_parts}
 use Rattle.singcheck.specs.Entered.{AreCleanSafe}
-use Rattle.singcheck.specs.Fronts.{AreBroken}
+use Rattle.singcheck.specs.Fronts.{AreBrokenContracts}
 use Rattle.singcheck.specs.Judgements.{IsJudgement}
 use Rattle.singcheck.proofs.front.judged_program.Goals as goal
 
@@ -24,12 +23,12 @@ judge_contracts-requires c =
 
 pub clean_methods_are_safe-requires : goal.clean_methods_are_safe-requires
 clean_methods_are_safe-requires c =
-    let sounds = subst (IsJudgement (map contract_model c.contracts.result.now.contracts.items)) c.in-Sound.is c.in_ok-findings.ensures in
+    let sounds = subst (IsJudgement (map contract_model c.contracts.result.now.contracts.items)) c.in-Sound.is c.in_ok-broken.ensures in
     record { sound = ap (map sound_parts) c.deref.ensures.value ∙ sounds.kept ∙ ap (map (λ (x : ContractModel). x.parts)) c.contracts.ensures }
 
 pub new-requires : goal.new-requires
 new-requires c =
-    let sounds = subst (IsJudgement (map contract_model c.contracts.result.now.contracts.items)) c.in-Sound.is c.in_ok-findings.ensures in
+    let sounds = subst (IsJudgement (map contract_model c.contracts.result.now.contracts.items)) c.in-Sound.is c.in_ok-broken.ensures in
     record { sound = sounds.kept ∙ ap (map (λ (x : ContractModel). x.parts)) c.contracts.ensures }
 
 pub returns-in-Broken-clause-refused : goal.returns-in-Broken-clause-refused
@@ -37,16 +36,14 @@ returns-in-Broken-clause-refused c = λ text items named.
     let contracts = map contract_model c.contracts.result.now.contracts.items in
     record {
       resolved = record { items = items; parsed = named.names.parsed; clean = named.names.clean; are = ap (λ (q : ProgramModel). q.contracts) named.names.is };
-      whole = named.whole;
-      room = named.room;
-      broken = subst (λ l. AreBroken l (map finding_model c.in-Broken.findings.items)) c.contracts.ensures
-          (subst (IsJudgement contracts) c.in-Broken.is c.in_ok-findings.ensures);
+      are = subst (λ l. AreBrokenContracts l c.in-Broken.broken.items) c.contracts.ensures
+          (subst (IsJudgement contracts) c.in-Broken.is c.in_ok-broken.ensures);
     }
 
 pub returns-in_ok-new-in-Sound-clause-program : goal.returns-in_ok-new-in-Sound-clause-program
 returns-in_ok-new-in-Sound-clause-program c =
     let contracts = map contract_model c.contracts.result.now.contracts.items in
-    let sounds = subst (IsJudgement contracts) c.in-Sound.is c.in_ok-findings.ensures in
+    let sounds = subst (IsJudgement contracts) c.in-Sound.is c.in_ok-broken.ensures in
     let same = c.in_ok-new-in-Sound.ensures in
     record {
       same = same;

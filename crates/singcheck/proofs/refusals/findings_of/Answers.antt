@@ -1,10 +1,11 @@
-use Rattle.std.proofs.Common.{◌≡◌, ◌∙◌, [], ◌∷◌, ap, map, subst}
+use Rattle.std.proofs.Common.{◌≡◌, ◌∙◌, [], ◌∷◌, ap, map, subst, sym}
 use Rattle.std.specs.Prelude.{IfOk, slice_get}
 use Rattle.std.proofs.lemmas.Result.{IfOk-weaker}
 use Rattle.source.specs.Findings.{finding_model}
 use Rattle.tree.specs.Trees.{program_tree}
 use Rattle.declarations.specs.Mistakes.{finding_in}
-use Rattle.singcheck.specs.Answers.{OfSyntax, OfText, wrong_token}
+use Rattle.singcheck.specs.Answers.{AreFindings, OfSyntax, OfText, wrong_token}
+use Rattle.singcheck.specs.Broken.{found_of}
 use Rattle.singcheck.specs.Fronts.{IsRefused}
 use Rattle.singcheck.proofs.StageLemmas.{misnamed, unsound}
 use Rattle.singcheck.proofs.refusals.findings_of.Goals as goal
@@ -45,5 +46,6 @@ returns-in_ok-findings_of-in-Names c =
 
 pub returns-in-Contracts : goal.returns-in-Contracts
 returns-in-Contracts c =
-    let broken = subst (IsRefused c.args.text.now) c.in-Contracts.is c.requires.refused in
-    unsound c.args.text.now _ (map finding_model c.in-Contracts.found.items) broken.resolved broken.broken
+    let text = c.args.text.now in
+    let broken = subst (IsRefused text) c.in-Contracts.is c.requires.refused in
+    IfOk-weaker c.findings_in.result _ _ (λ found is. subst (AreFindings text) (sym is) (unsound text _ (found_of c.in-Contracts.broken.items) broken.resolved broken.are.found)) c.findings_in.ensures

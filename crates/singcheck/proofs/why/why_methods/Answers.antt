@@ -2,7 +2,7 @@ use Rattle.std.proofs.Common.{◌∙◌, map, length, ap, sym, arith}
 use Rattle.std.specs.Prelude.{◌≢◌, []}
 use Rattle.std.proofs.lemmas.Bool.{eqb-true, eqb-false}
 use Rattle.rules.specs.Programs.{model_of}
-use Rattle.traces.specs.Explained.{explained_model}
+use Rattle.explanations.specs.Explained.{explained_model}
 use Rattle.singcheck.specs.Explains.{explained_bytes}
 use Rattle.singcheck.proofs.ExplainLemmas.{explains_clear, explains_reasons, no_explained}
 use Rattle.singcheck.proofs.why.why_methods.Goals as goal

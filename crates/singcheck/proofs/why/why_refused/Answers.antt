@@ -1,5 +1,5 @@
 use Rattle.std.proofs.Common.{◌∙◌, ap, map}
-use Rattle.traces.specs.Explained.{explained_model}
+use Rattle.explanations.specs.Explained.{explained_model}
 use Rattle.singcheck.specs.Explains.{explained_bytes}
 use Rattle.singcheck.proofs.ExplainLemmas.{explains_noted}
 use Rattle.singcheck.proofs.why.why_refused.Goals as goal
