@@ -12,6 +12,7 @@ PING = HERE / 'bounds' / 'ping' / 'input.sg'
 ANSWER = b'Ping: to Exp 1, to Imp 1\nok: 1 contracts\n'
 WHY = HERE / 'why' / 'two_findings_in_a_method' / 'input.sg'
 SERVER = HERE / 'replays' / 'server_waits'
+DEADLOCK = HERE.parent / 'examples' / 'deadlock.sg'
 # The answers to a replay of the server along no events, and along its schedule.
 STARTED = b'steps 0\nstop: end of schedule\nprocess 0 at 5:6, frames 1\n'
 WAITS = (SERVER / 'stdout').read_bytes()
@@ -23,6 +24,8 @@ WORDS = {
     'check': ['check', PING],
     'why': ['why', WHY],
     'replay': ['replay', SERVER / 'input.sg', 'K.Main', SERVER / 'schedule'],
+    'run': ['run', DEADLOCK, 'Ring.Main'],
+    'explore': ['explore', DEADLOCK, 'Ring.Main'],
     'help': ['--help'],
     'version': ['--version'],
 }
@@ -146,7 +149,7 @@ def unreadable(program):
         return found + compared(run(program, *WORDS['replay'][:3], path), b'', cannot_read(path, errno.EACCES), 3)
 
 
-READERS = ('bounds', 'check', 'why', 'replay')
+READERS = ('bounds', 'check', 'why', 'replay', 'run', 'explore')
 EACH = {full_device: WORDS, closed_pipe: WORDS, closed_output: WORDS, closed_error: READERS, folder: READERS}
 TESTS = [('devices/%s/%s' % (test.__name__, command), functools.partial(test, command))
          for test, commands in EACH.items() for command in commands]

@@ -94,7 +94,7 @@ def theorem_page_is_made(_):
 
 def times_are_on_one_page(_):
     """How long a build or a gate takes is said on the page of performance. Whatever else speaks of a build gives no minutes or hours."""
-    others = [page for page in PAGES if page.name not in ('PERFORMANCE.md', 'CHANGELOG.md', 'HISTORY.md', 'RELIABILITY.md')]
+    others = [page for page in PAGES if page.name not in ('PERFORMANCE.md', 'CHANGELOG.md', 'RELIABILITY.md')]
     others += [TOP / name for name in ('build', 'singcheck', 'test', 'edits', 'tools/check', 'tools/lsp', 'tools/reports.py')]
     time = re.compile(r'(?i)\b([\d.]+|an?|one|two|three|four|ten|half an) (minute|hour)s?\b')
     lines = [(path, line) for path in others for line in path.read_text().splitlines() if time.search(line)]

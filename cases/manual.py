@@ -38,12 +38,16 @@ def commands_and_options_of_the_help(program):
 
 
 def what_the_help_says(program):
-    said = {command: helped(program, *command.split()) for command in ('', 'bounds', 'check', 'replay', 'why')}
+    said = {command: helped(program, *command.split()) for command in ('', 'bounds', 'check', 'replay', 'why', 'run', 'explore')}
     asked = [(command, word) for command in said for word in ('Usage: singcheck %s' % command, 'Example: singcheck %s' % command)]
     asked += [('', word) for word in ['Exit status:'] + ['\n  %d  ' % status for status in range(5)]]
     asked += [('why', '<FILE> [LINE:COL]')]
     asked += [('replay', '<FILE> <ENTRY> <SCHEDULE>'), ('replay', 'Class.Method'), ('check', '--workers <N>'), ('check', '--slots <N>')]
     asked += [('check', '1 to 64, default 4'), ('check', '1 to 16777216, default 65536')]
+    asked += [(command, word) for command in ('run', 'explore') for word in ('<FILE> <ENTRY>', '--schedule <OUT>')]
+    asked += [('run', '--all'), ('run', '--seed <N>'), ('run', '--steps <N>'), ('run', '--runs <N>'), ('explore', '--worlds <N>')]
+    asked += [('run', 'choices, default 1\n'), ('run', 'a run, default 10000\n'), ('run', 'a fault, default 1\n')]
+    asked += [('explore', 'visited, default 100000\n')]
     return ['help of %r lacks %r' % (command, word) for command, word in asked if word not in said[command]]
 
 

@@ -1,6 +1,6 @@
 """Refuses each growth of memory in turn. A small library, loaded before the C library, refuses the Nth growth, for N = 1, 2, .. until
 runs meet no refusal. Starting a thread counts as a growth. Each run has to give the right answer, or report that memory is out and print
-nothing else."""
+nothing else. One test refuses only new lists of the length of a shelf, and the report has to be the same without the shelf."""
 import functools
 import itertools
 import os
@@ -13,6 +13,7 @@ import threading
 HERE = pathlib.Path(__file__).resolve().parent
 BUILT = HERE.parent / 'crates' / 'singcheck_cli' / 'out' / 'singcheck_cli'
 OUT_OF_MEMORY = (b'', b'singcheck: out of memory\n', 4)
+ROOM_OF_A_SHELF = 32 * 48  # a new shelf has no room; the first `put` makes some for 32 verdicts of 48 bytes
 MOST = 5000
 SECONDS = 60
 QUIET = 3  # workers share the tasks differently in each run, so the number of growths varies a little
@@ -29,17 +30,17 @@ extern void *__libc_malloc(size_t);
 extern void *__libc_realloc(void *, size_t);
 typedef int maker(pthread_t *, const pthread_attr_t *, void *(*)(void *), void *);
 static long asked;
-static int refused(void) {
-    const char *nth = getenv("REFUSE_NTH"), *mark = getenv("REFUSE_MARK");
-    if (!nth || !mark || __atomic_add_fetch(&asked, 1, __ATOMIC_SEQ_CST) != atol(nth)) return 0;
+static int refused(size_t size) {
+    const char *nth = getenv("REFUSE_NTH"), *mark = getenv("REFUSE_MARK"), *only = getenv("REFUSE_SIZE");
+    if (!nth || !mark || (only && size != (size_t)atol(only)) || __atomic_add_fetch(&asked, 1, __ATOMIC_SEQ_CST) != atol(nth)) return 0;
     close(open(mark, O_CREAT | O_WRONLY, 0600));
     errno = ENOMEM;
     return 1;
 }
-void *malloc(size_t size) { return refused() ? NULL : __libc_malloc(size); }
-void *realloc(void *old, size_t size) { return refused() ? NULL : __libc_realloc(old, size); }
+void *malloc(size_t size) { return refused(size) ? NULL : __libc_malloc(size); }
+void *realloc(void *old, size_t size) { return refused(0) ? NULL : __libc_realloc(old, size); }
 int pthread_create(pthread_t *thread, const pthread_attr_t *with, void *(*run)(void *), void *on) {
-    return refused() ? EAGAIN : ((maker *)dlsym(RTLD_NEXT, "pthread_create"))(thread, with, run, on);
+    return refused(0) ? EAGAIN : ((maker *)dlsym(RTLD_NEXT, "pthread_create"))(thread, with, run, on);
 }
 '''
 
@@ -55,10 +56,10 @@ def refuser():
     return folder, library
 
 
-def run(program, words, folder, nth, mark):
+def run(program, words, folder, nth, mark, **more):
     with ONCE:
         library = refuser()[1]
-    more = dict(os.environ, LD_PRELOAD=str(library), REFUSE_NTH=str(nth), REFUSE_MARK=str(mark))
+    more = dict(os.environ, LD_PRELOAD=str(library), REFUSE_NTH=str(nth), REFUSE_MARK=str(mark), **more)
     try:
         ran = subprocess.run([program, *words], cwd=folder, stdin=subprocess.DEVNULL, capture_output=True, timeout=SECONDS, env=more)
     except subprocess.TimeoutExpired:
@@ -71,14 +72,14 @@ def itself(program):
     return program if pathlib.Path(program).read_bytes()[:2] != b'#!' else str(BUILT)
 
 
-def refused_runs(program, words, folder):
+def refused_runs(program, words, folder, **more):
     """Runs the program for N = 1, 2, .. and yields N, whether there was an Nth growth to refuse, and the answer."""
     quiet = 0
     with tempfile.TemporaryDirectory() as made:
         mark = pathlib.Path(made) / 'refused'
         for nth in itertools.count(1):
             mark.unlink(missing_ok=True)
-            given = run(program, words, folder, nth, mark)
+            given = run(program, words, folder, nth, mark, **more)
             refused = mark.exists()
             yield nth, refused, given
             quiet = 0 if refused else quiet + 1
@@ -109,6 +110,17 @@ def stored(name, more, program):
     return each_refused(program, words + more, folder, answer)
 
 
+def verdict_without_a_place(program):
+    """Refuses each new list of the length of a shelf in turn. If `put` has no room, the verdict that it gives back has to go into the
+    report. A refusal of another list of that length ends the run, so exactly one leaves the report as it is."""
+    folder = HERE / 'ownership/a_finding_in_each_of_two_methods'
+    words = (folder / 'command').read_text().split() + ['--workers', '1']
+    answer = ((folder / 'stdout').read_bytes(), b'', 1)
+    runs = refused_runs(itself(program), words, folder, REFUSE_SIZE=str(ROOM_OF_A_SHELF))
+    same = [nth for nth, refused, given in runs if refused and given == answer]
+    return [] if len(same) == 1 else ['the report is the same after %d refusals: %s' % (len(same), same)]
+
+
 def branching(methods, branches):
     """Returns methods that free each of their blocks on one branch of an `if`, and their report. Each block may be the first that is left
     at the end. A method has 2 to the power of `branches` rows there."""
@@ -137,8 +149,10 @@ CASES = ('bounds/ping', 'bounds/burst', 'bounds/two_contracts', 'conditions/one_
          'replays/message_taken_of_a_freed_peer', 'replays/server_and_client_to_the_end', 'replays/finding_of_names',
          'fields/owning_field_outside_exchange', 'fields/endpoint_in_a_wrong_state_for_an_exchange',
          'fields/struct_sent_with_what_is_in_it', 'fields/replay_of_blocks_in_blocks', 'fields/replay_of_a_queue_deleted_with_its_block',
-         'why/second_finding_named', 'why/end_expected_to_be_a_brace', 'why/ring_of_two_edges', 'why/both_directions')
+         'runs/process_that_waits_for_a_lost_end', 'runs/lost_end_of_the_shortest_deadlock', 'why/second_finding_named',
+         'why/end_expected_to_be_a_brace', 'why/ring_of_two_edges', 'why/both_directions')
 TESTS = [('refusals/' + name, functools.partial(stored, name, [])) for name in CASES]
 TESTS += [('refusals/%s by 2 workers' % name, functools.partial(stored, name, ['--workers', '2']))
           for name in ('channels/blocks_between_two_processes',)]
 TESTS += [('refusals/%d methods of %d branches' % shape, functools.partial(branches_in_a_full_table, *shape)) for shape in ((1, 8), (3, 5))]
+TESTS += [('refusals/a verdict that the shelf has no room for', verdict_without_a_place)]
