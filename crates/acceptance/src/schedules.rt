@@ -73,6 +73,45 @@ fn entries_and_schedules_are_refused(rt: HostRuntime) -> Result<(), Fail> {
     Ok(())
 }
 
+#[test]
+fn comments_are_skipped(rt: HostRuntime) -> Result<(), Fail> {
+    let alloc = rt.alloc();
+    let rows = [
+        "# one process\n0 0\n0 0 # sends\n0 0   #\n0 0# the last line",
+        "#\n  #\n#0 1\n0 0\r\n0 0 # a # b\r\n00  0 ## c\n\n0 0 # d\r",
+    ];
+    for schedule in rows.iter() {
+        let (status, bytes) = answer_to(alloc, SENDS_AN_END, schedule)?;
+        assert!(rt; status == Status::Empty, "{schedule}");
+        assert!(rt;
+            bytes.as_slice() == SENDS_AN_END_ANSWER.as_bytes(),
+            "{schedule}"
+        );
+    }
+    Ok(())
+}
+
+/// The number of a malformed line counts comments, and what comes before a comment has to be an event or nothing.
+#[test]
+fn lines_with_comments_are_refused(rt: HostRuntime) -> Result<(), Fail> {
+    let rows = [
+        ("# one process\n\n0 0 # sends\n0 1 x # more\n0 x", 4),
+        ("0 # 0", 1),
+        ("0 0 # sends\n0#0\n", 2),
+        ("0 0\n 0 0 # sends", 2),
+        ("0 0\t# sends", 1),
+        ("0 0\r# sends\n", 1),
+        ("# a space at the end\n0 0 ", 2),
+        ("# a line of spaces\n  \n0 0", 2),
+    ];
+    for (schedule, line) in rows.iter() {
+        let fault = fault_of(rt.alloc(), "K.Main", schedule)?;
+        assert!(rt; fault == Some(RunFault::Schedule(*line)), "{schedule}");
+    }
+    assert!(rt; fault_of(rt.alloc(), "K.Main", "# 0 x\n0 0 # 0 x")? == None);
+    Ok(())
+}
+
 /// Runs with each allocation refused in turn.
 #[test]
 fn replays_or_wants_memory(rt: HostRuntime) {

@@ -1,5 +1,5 @@
 -- The front of bytes: digits, spaces, numbers and lines.
-use Rattle.std.proofs.Common.{◌≡◌, ◌<◌, ◌≤◌, ◌+◌, ◌-◌, ◌*◌, ◌^◌, ℕ, zero, suc, Bool, true, false, cond, List, [], ◌∷◌, ◌++◌, length, take, drop, replicate, get_or, min, refl, ap, sym, ◌∙◌, subst, ap₂, ◌⊎◌, inl, inr, arith, one-add, length-drop, drop-drop}
+use Rattle.std.proofs.Common.{◌≡◌, ◌<◌, ◌≤◌, ◌+◌, ◌-◌, ◌*◌, ◌^◌, ℕ, zero, suc, Bool, true, false, cond, not, ◌||◌, ◌==◌, if◌then◌else◌, List, [], ◌∷◌, ◌++◌, length, take, drop, replicate, get_or, min, refl, ap, sym, ◌∙◌, subst, ap₂, ◌⊎◌, inl, inr, arith, one-add, length-drop, drop-drop}
 use Rattle.std.proofs.Math.Seq.{take-append_seam, drop-append_seam}
 use Rattle.std.proofs.lemmas.Bool.Decides.{nat_tests}
 use Rattle.std.proofs.lemmas.Int.Digits.{digits_value_push}
@@ -7,11 +7,12 @@ use Rattle.std.proofs.lemmas.List.{take-append-drop, take_more}
 use Rattle.std.proofs.lemmas.Str.Parse.{digit_at, digit_from_value}
 use Rattle.std.specs.Char.{digit_value, is_ascii_digit}
 use Rattle.std.proofs.lemmas.List.Splits.{slice_split_first, slice_split_none}
-use Rattle.std.proofs.lemmas.List.Sums.{fails_before_first}
-use Rattle.std.specs.List.{after_first, before_first, position_or_len, prefix_len, slice_split}
+use Rattle.std.proofs.lemmas.List.Folds.{list_any_at}
+use Rattle.std.proofs.lemmas.List.Sums.{fails_before_first, passes_at_first}
+use Rattle.std.specs.List.{after_first, before_first, list_any, position_or_len, prefix_len, slice_split}
 use Rattle.std.specs.Str.Parse.{AllDigits, digits_value}
 use Rattle.replays.specs.Fronts.{BeginsWith, StopsAt, is_space}
-use Rattle.replays.specs.Schedules.{IsNumber}
+use Rattle.replays.specs.Schedules.{IsNumber, without_comment, without_spaces_at_end}
 use Rattle.replays.specs.declared.limits.TheConstants.{MOST_NUMBER}
 
 digit_small : (c : ℕ) → is_ascii_digit c ≡ true → digit_value c < 10
@@ -130,3 +131,28 @@ a_number bytes digits rest value are left is some small = record {
   are = sym (ap₂ (λ a b. a ++ b) are left ∙ take-append-drop (prefix_len is_ascii_digit bytes) bytes);
   stops = subst (StopsAt is_ascii_digit) (sym left) (front_stops is_ascii_digit bytes);
 }
+
+-- whether a byte passes, by where the first one that passes is
+some_passes : (p : ℕ → Bool) (bytes : List ℕ) → position_or_len p bytes < length bytes → list_any p bytes ≡ true
+some_passes p bytes lt = list_any_at p bytes (position_or_len p bytes) 0 lt (passes_at_first p bytes 0 lt)
+
+none_passes : (p : ℕ → Bool) (bytes : List ℕ) → length bytes ≤ position_or_len p bytes → list_any p bytes ≡ false
+none_passes p [] le = refl
+none_passes p (c ∷ cs) le = by (p c) refl (none_passes p cs) le
+  where
+    by : (b : Bool) → p c ≡ b → (length cs ≤ position_or_len p cs → list_any p cs ≡ false) → length (c ∷ cs) ≤ cond (not b) (1 + position_or_len p cs) 0 → (b || list_any p cs) ≡ false
+    by true e rest h = absurd (omega (arith, h))
+    by false e rest h = rest (omega (arith, h))
+
+-- a line, if it has a `#` or not
+with_comment : (line : List ℕ) (b : Bool) → list_any (λ c. c == 35) line ≡ b → (if b then without_spaces_at_end (before_first (λ c. c == 35) line) else line) ≡ without_comment line
+with_comment line b e = ap (λ d. if d then without_spaces_at_end (before_first (λ c. c == 35) line) else line) (sym e)
+
+-- the comment begins at the first `#`
+pub some_comment : (line text : List ℕ) (n : ℕ) → n ≡ position_or_len (λ b. b == 35) line → n < length line → text ≡ without_spaces_at_end (take n line) → text ≡ without_comment line
+some_comment line text n e lt h =
+    h ∙ ap (λ k. without_spaces_at_end (take k line)) e ∙ with_comment line true (some_passes (λ b. b == 35) line (omega (arith, e, lt)))
+
+-- without a `#` the whole line counts
+pub no_comment : (line : List ℕ) (n : ℕ) → n ≡ position_or_len (λ b. b == 35) line → length line ≤ n → line ≡ without_comment line
+no_comment line n e le = with_comment line false (none_passes (λ b. b == 35) line (omega (arith, e, le)))

@@ -6,22 +6,22 @@ use Rattle.std.specs.List.{slice_split}
 use Rattle.std.specs.Str.Lines.{strip_carriage_return}
 use Rattle.machine.specs.declared.halts.Event.{Event}
 use Rattle.replays.specs.Fronts.{AddsTold, IsFaultOf}
-use Rattle.replays.specs.Schedules.{IsFirstMalformed, IsMalformed, IsSchedule, ReadsSchedule, Tell, line_texts, lines_of}
+use Rattle.replays.specs.Schedules.{IsFirstMalformed, IsMalformed, IsSchedule, ReadsSchedule, Tell, line_texts, lines_of, without_comment}
 use Rattle.std.specs.Prelude.{Err}
 use Rattle.replays.specs.declared.fault.ScheduleFault.{ScheduleFault}
 use Rattle.replays.specs.declared.fault.ScheduleFault.TheVariants.{Malformed, Memory}
 use Rattle.replays.specs.declared.limits.TheConstants.{MOST_SCHEDULE}
 
-ended_more : (line : List ℕ) (lines : List (List ℕ)) → 0 < length lines → line_texts (line ∷ lines) ≡ strip_carriage_return line ∷ line_texts lines
+ended_more : (line : List ℕ) (lines : List (List ℕ)) → 0 < length lines → line_texts (line ∷ lines) ≡ without_comment (strip_carriage_return line) ∷ line_texts lines
 ended_more line [] h = absurd (omega arith)
 ended_more line (next ∷ lines) h = refl
 
 -- a line with its end, and the lines after it
-pub lines_more : (bytes line behind : List ℕ) → slice_split (λ b. b == 10) bytes ≡ line ∷ slice_split (λ b. b == 10) behind → lines_of bytes ≡ strip_carriage_return line ∷ lines_of behind
+pub lines_more : (bytes line behind : List ℕ) → slice_split (λ b. b == 10) bytes ≡ line ∷ slice_split (λ b. b == 10) behind → lines_of bytes ≡ without_comment (strip_carriage_return line) ∷ lines_of behind
 lines_more bytes line behind e = ap line_texts e ∙ ended_more line (slice_split (λ b. b == 10) behind) (omega (arith, length-slice_split (λ b. b == 10) behind))
 
 -- the last line
-pub lines_last : (bytes : List ℕ) → slice_split (λ b. b == 10) bytes ≡ bytes ∷ [] → lines_of bytes ≡ bytes ∷ []
+pub lines_last : (bytes : List ℕ) → slice_split (λ b. b == 10) bytes ≡ bytes ∷ [] → lines_of bytes ≡ without_comment bytes ∷ []
 lines_last bytes e = ap line_texts e
 
 -- the events of lines after others come after the events of those
@@ -44,9 +44,9 @@ at_first bytes events e = record { before = []; lines = refl; counted = refl; to
 
 -- one more line
 pub goes_on : (bytes rest line behind : List ℕ) (number : ℕ) (old new : List Event) → IsSoFar bytes rest number old → slice_split (λ b. b == 10) rest ≡ line ∷ slice_split (λ b. b == 10) behind
-    → AddsTold (strip_carriage_return line) old new → IsSoFar bytes behind (number + 1) new
+    → AddsTold (without_comment (strip_carriage_return line)) old new → IsSoFar bytes behind (number + 1) new
 goes_on bytes rest line behind number old new s e a =
-    let here = strip_carriage_return line in
+    let here = without_comment (strip_carriage_return line) in
     record {
       before = s.before ++ here ∷ [];
       lines = s.lines ∙ ap (λ l. s.before ++ l) (lines_more rest line behind e) ∙ sym (append_assoc s.before (here ∷ []) (lines_of behind));
@@ -76,11 +76,12 @@ refused bytes rest line behind number events Memory s e f = tt
 
 -- all lines are read
 pub is_schedule : (bytes rest : List ℕ) (number : ℕ) (old new : List Event) → length bytes ≤ MOST_SCHEDULE → IsSoFar (take (min MOST_SCHEDULE (length bytes)) bytes) rest number old
-    → slice_split (λ b. b == 10) rest ≡ rest ∷ [] → AddsTold rest old new → IsSchedule bytes new
+    → slice_split (λ b. b == 10) rest ≡ rest ∷ [] → AddsTold (without_comment rest) old new → IsSchedule bytes new
 is_schedule bytes rest number old new short s e a =
+    let last = without_comment rest in
     let all : take (min MOST_SCHEDULE (length bytes)) bytes ≡ bytes = take_min MOST_SCHEDULE bytes ∙ take_all MOST_SCHEDULE bytes short in
-    let lines : lines_of bytes ≡ s.before ++ rest ∷ [] = ap lines_of (sym all) ∙ s.lines ∙ ap (λ l. s.before ++ l) (lines_last rest e) in
+    let lines : lines_of bytes ≡ s.before ++ last ∷ [] = ap lines_of (sym all) ∙ s.lines ∙ ap (λ l. s.before ++ l) (lines_last rest e) in
     record {
       short = short;
-      told = subst (λ l. Tell l new) (sym lines) (subst (Tell (s.before ++ rest ∷ [])) (sym a.added) (tell_append s.before old (rest ∷ []) a.more s.told a.told));
+      told = subst (λ l. Tell l new) (sym lines) (subst (Tell (s.before ++ last ∷ [])) (sym a.added) (tell_append s.before old (last ∷ []) a.more s.told a.told));
     }

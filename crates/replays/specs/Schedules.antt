@@ -1,7 +1,8 @@
 -- Schedules: the lines in a file, and the event of each line.
-use Rattle.std.specs.Prelude.{◌≡◌, ◌≢◌, ◌<◌, ◌≤◌, ℕ, ◌+◌, ◌==◌, List, [], ◌∷◌, ◌++◌, length, take, replicate, ◌⊎◌, Result, Ok, Err}
+use Rattle.std.specs.Prelude.{◌≡◌, ◌≢◌, ◌<◌, ◌≤◌, ℕ, ◌+◌, ◌-◌, ◌==◌, List, [], ◌∷◌, ◌++◌, length, take, replicate, ◌⊎◌}
+use Rattle.std.specs.Prelude.{Result, Ok, Err, if◌then◌else◌}
 use Rattle.std.specs.Global.{Vec}
-use Rattle.std.specs.List.{slice_split}
+use Rattle.std.specs.List.{before_first, list_any, slice_split, suffix_len}
 use Rattle.std.specs.Str.Lines.{strip_carriage_return}
 use Rattle.std.specs.Str.Parse.{IsNumeral, digits_value}
 use Rattle.machine.specs.declared.halts.Event.{Event}
@@ -38,11 +39,21 @@ pub record IsMalformed (line : List ℕ) : Type 0 where
   pub some : line ≢ []
   pub none : (e : Event) → ¬ IsEventLine line e
 
--- the lines between the line ends, each without the CR before its end
+-- the bytes without the spaces at their end
+abbrev pub without_spaces_at_end : List ℕ → List ℕ
+without_spaces_at_end bytes = take (length bytes - suffix_len (λ b. b == 32) bytes) bytes
+
+-- A line without its comment. If there is a `#` in the line, this is what comes before the first one, without the
+-- spaces at its end. A line without a `#` is as it is.
+abbrev pub without_comment : List ℕ → List ℕ
+without_comment line =
+    if list_any (λ b. b == 35) line then without_spaces_at_end (before_first (λ b. b == 35) line) else line
+
+-- the lines between the line ends, each without the CR before its end, and then without its comment
 abbrev pub line_texts : List (List ℕ) → List (List ℕ)
 line_texts [] = []
-line_texts (line ∷ []) = line ∷ []
-line_texts (line ∷ next ∷ lines) = strip_carriage_return line ∷ line_texts (next ∷ lines)
+line_texts (line ∷ []) = without_comment line ∷ []
+line_texts (line ∷ next ∷ lines) = without_comment (strip_carriage_return line) ∷ line_texts (next ∷ lines)
 
 -- the lines in these bytes
 abbrev pub lines_of : List ℕ → List (List ℕ)

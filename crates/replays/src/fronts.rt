@@ -1,4 +1,4 @@
-//! Digits, spaces and lines at the front of bytes.
+//! Digits, spaces and lines at the front of bytes, and what does not count at the end of a line.
 
 ghost use Rattle.std.specs.Prelude.{◌≡◌, ◌<◌, ◌∷◌, [], ℕ, ◌==◌, ◌-◌, ◌^◌, List, min, length, IfNone, IfSome};
 ghost use Rattle.std.specs.Char.{is_ascii_digit};
@@ -6,6 +6,7 @@ ghost use Rattle.std.specs.List.{prefix_len, position_or_len, slice_split};
 ghost use Rattle.std.specs.Str.Lines.{strip_carriage_return};
 ghost use Rattle.std.specs.Str.Parse.{AllDigits, digits_value};
 ghost use Rattle.replays.specs.Fronts.{BeginsWith, is_space};
+ghost use Rattle.replays.specs.Schedules.{without_comment, without_spaces_at_end};
 
 use crate::limits::MOST_NUMBER;
 
@@ -31,12 +32,12 @@ pub(crate) fn spaces_at(bytes: &[u8]) -> usize
     n
 }
 
-/// Returns the number of bytes before the first line end.
-fn line_at(bytes: &[u8]) -> usize
-    ensures { result ≡ position_or_len (λ b. b == 10) bytes.now }
+/// Returns the number of bytes before the first one of this value.
+fn bytes_before(byte: u8, bytes: &[u8]) -> usize
+    ensures { result ≡ position_or_len (λ b. b == byte) bytes.now }
 {
     let mut n = 0;
-    'line: while n < bytes.len() && bytes[n] != b'\n' {
+    'others: while n < bytes.len() && bytes[n] != byte {
         n += 1;
     }
     n
@@ -76,7 +77,7 @@ pub(crate) fn first_line(bytes: &[u8]) -> Option<(&[u8], &[u8])>
     ensures shorter { IfSome result (λ r. length r.1.now < length bytes.now) }
     ensures none { IfNone result (slice_split (λ b. b == 10) bytes.now ≡ bytes.now ∷ []) }
 {
-    let (line, rest) = bytes.split_at(line_at(bytes));
+    let (line, rest) = bytes.split_at(bytes_before(b'\n', bytes));
     match rest {
         [_, behind @ ..] => Some((line, behind)),
         [] => None,
@@ -90,5 +91,29 @@ pub(crate) fn without_return(line: &[u8]) -> &[u8]
     match line.split_last() {
         Some((b'\r', front)) => front,
         _ => line,
+    }
+}
+
+/// Returns the bytes without the spaces at their end.
+fn without_spaces_at_end(bytes: &[u8]) -> &[u8]
+    ensures { result.now ≡ without_spaces_at_end bytes.now }
+{
+    let mut n = bytes.len();
+    'trailing: while n > 0 && bytes[n - 1] == b' ' {
+        n -= 1;
+    }
+    &bytes[..n]
+}
+
+/// Returns a line without its comment, which goes from the first `#` to the end, and without the spaces before the
+/// comment. A line without a `#` is returned as it is.
+pub(crate) fn without_comment(line: &[u8]) -> &[u8]
+    ensures { result.now ≡ without_comment line.now }
+{
+    let end = bytes_before(b'#', line);
+    if end < line.len() {
+        without_spaces_at_end(&line[..end])
+    } else {
+        line
     }
 }

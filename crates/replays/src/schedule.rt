@@ -6,7 +6,7 @@ ghost use Rattle.replays.specs.Schedules.{ReadsSchedule};
 
 use crate::events::event_of;
 use crate::fault::ScheduleFault;
-use crate::fronts::{first_line, without_return};
+use crate::fronts::{first_line, without_comment, without_return};
 use crate::limits::MOST_SCHEDULE;
 use machine::Event;
 use std::alloc::Global;
@@ -31,7 +31,7 @@ fn add_event(line: &[u8], number: u32, events: &mut Vec<Event>) -> Result<(), Sc
 /// Returns the events of a schedule, in order.
 ///
 /// Each line names a process and a choice, `PROCESS CHOICE`: decimal digits, one or more spaces, decimal digits.
-/// Empty lines are skipped.
+/// A comment goes from a `#` to the end of the line; it is skipped, with the spaces before it. Empty lines are skipped.
 ///
 /// # Errors
 /// `Malformed` with the number of the first line of another form. If the schedule has more than `MOST_SCHEDULE`
@@ -43,13 +43,13 @@ pub fn read_schedule(alloc: Global, bytes: &[u8]) -> Result<Vec<Event>, Schedule
     let mut events = Vec::new(alloc);
     let mut number = 1;
     'lines: while let Some((line, behind)) = first_line(rest) {
-        add_event(without_return(line), number, &mut events)?;
+        add_event(without_comment(without_return(line)), number, &mut events)?;
         rest = behind;
         number += 1;
     }
     if bytes.len() > MOST_SCHEDULE {
         return Err(ScheduleFault::Malformed(number));
     }
-    add_event(rest, number, &mut events)?;
+    add_event(without_comment(rest), number, &mut events)?;
     Ok(events)
 }
