@@ -142,7 +142,7 @@ def run_of_a_schedule(program):
     """What `replay` prints of a run is not a report, whole or not. The report that it prints in place of a run is one."""
     words = [program, 'replay', 'examples/hand_over.sg', 'Desk.Main', 'examples/hand_over.schedule']
     printed = subprocess.run(words, cwd=TOP, capture_output=True, timeout=60).stdout
-    refused = b'show: this is a run, printed by replay; a report of check, why or bounds is asked for\n'
+    refused = b'show: this is a run, printed by replay; give a report of check, why or bounds\n'
     runs = [printed, b'steps 0\nstop: fault F1 at 1:1 in process 0\nprocess 0 at 1:1, frames 1\n', b'steps 12\nstop: ']
     found = [found for report in runs for words in ([], ['--plain']) for found in differs(show(b'', report, *words), b'', refused, 3)]
     words = [program, 'replay', 'input.sg', 'K.Main', '/dev/null']
@@ -171,7 +171,7 @@ def show_says_what_it_waits_for(_):
 
 
 def words_of_show(_):
-    refused = b'show: one FILE is asked for; tools/show --help says more\n'
+    refused = b'show: give one FILE; see tools/show --help\n'
     return [found for words in ([], ['a', 'b'], ['--plian', 'a'], ['--plian']) for found in differs(run('show', *words), b'', refused, 2)]
 
 
@@ -181,7 +181,7 @@ def each_page_is_printed(_):
 
 
 def words_of_explain(_):
-    refused = ('explain: one of these codes is asked for: %s\n' % ' '.join(CODES)).encode()
+    refused = ('explain: give one of these codes: %s\n' % ' '.join(CODES)).encode()
     return [found for words in ([], ['A99'], ['A01', 'A02'], ['../README']) for found in differs(run('explain', *words), b'', refused, 2)]
 
 

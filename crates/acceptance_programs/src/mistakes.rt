@@ -59,14 +59,14 @@ class K { static void F(D* in ExHeap p, C.Exp e) {
   lost = 1;
   break;
 } }";
-    let wanted = "4:11 asked for int, given a block of D
-4:22 asked for int, given bool
-4:7 declared here first
+    let wanted = "4:11 expected int, found D* in ExHeap
+4:22 expected int, found bool
+4:7 first declared here
 5:5 the exporter does not send M
-5:5 asked for 0, given 1
-6:3 asked for 2, given 1
+5:5 expected 0, found 1
+6:3 expected 2, found 1
 -
-8:3 no loop or switch is around it
+8:3 break must be in a loop or a switch
 ";
     assert_eq!(rt; remarks_in(rt.alloc(), text)?.as_str(), wanted);
     Ok(())
@@ -158,11 +158,11 @@ fn faults_of_a_text(rt: HostRuntime) -> Result<(), Fail> {
     ] {
         lines.push_str(&line_of(alloc, fault_remark(alloc, fault)?)?)?;
     }
-    let wanted = "2:3 no blank, comment or token begins so
-2:3 its end, */, is missing
-1:1 a text has at most 4194304 bytes
-2:3 at most 100 brackets are open at once
-2:3 a number is at most 2147483647
+    let wanted = "2:3 no token or comment starts here
+2:3 this comment is not closed with */
+1:1 a text may have at most 4194304 bytes
+2:3 at most 100 brackets may be open at once
+2:3 the largest number is 2147483647
 -
 ";
     assert_eq!(rt; lines.as_str(), wanted);

@@ -40,8 +40,8 @@ pub record IsDirectionAt (parts : Parts) (place : Place) (direction : Direction)
 
 -- the sign that a message takes
 abbrev pub taken_sign_text : Direction → List ℕ
-taken_sign_text In = codes "an in message takes ?"
-taken_sign_text Out = codes "an out message takes !"
+taken_sign_text In = codes "an in message is followed by ?"
+taken_sign_text Out = codes "an out message is followed by !"
 
 -- the line with the sign that the message of the edge at the place takes
 abbrev pub HasDirection : Parts → Place → List LineModel → Type 0

@@ -155,7 +155,7 @@ fn sign_text(direction: Direction) -> &'static [u8]
     ensures { result.now ≡ taken_sign_text direction }
 {
     match direction {
-        Direction::In => b"an in message takes ?".as_slice(),
-        Direction::Out => b"an out message takes !".as_slice(),
+        Direction::In => b"an in message is followed by ?".as_slice(),
+        Direction::Out => b"an out message is followed by !".as_slice(),
     }
 }

@@ -21,14 +21,14 @@ word_of_group Value = codes "a value"
 word_of_group Expression = codes "an expression"
 word_of_group Operator = codes "an operator"
 word_of_group Scalar = codes "a type"
-word_of_group Access = codes "an access word"
+word_of_group Access = codes "an access modifier"
 
 -- whether a kind is one of these
 abbrev pub has : List Kind → Kind → Bool
 has kinds kind = list_any (λ other. sameb the_type other kind) kinds
 
 -- Whether a kind is of a group: a statement, a value or an expression begins with it, or it is an operator between operands, a scalar type,
--- or an access word.
+-- or an access modifier.
 abbrev pub is_of : Kind → Group → Bool
 is_of kind Statement = opens_statement (Some kind)
 is_of kind Value = opens_value (Some kind)

@@ -37,7 +37,7 @@ pub(crate) fn word_of_group(group: Group) -> &'static str
         Group::Expression => "an expression",
         Group::Operator => "an operator",
         Group::Scalar => "a type",
-        Group::Access => "an access word",
+        Group::Access => "an access modifier",
     }
 }
 

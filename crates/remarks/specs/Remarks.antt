@@ -33,27 +33,27 @@ side_words Exp = codes "the exporter"
 
 -- why a type is wrong
 abbrev pub mismatch_words : ProgramText → Mismatch → List ℕ
-mismatch_words p (mismatch.Given asked given) = codes "asked for " ++ (demand_words p asked ++ (codes ", given " ++ type_words p given))
-mismatch_words p (mismatch.NoValue k) = codes "a value is asked after return: " ++ type_words p k
-mismatch_words p mismatch.ValueReturned = codes "no value is asked after return"
+mismatch_words p (mismatch.Given asked given) = codes "expected " ++ (demand_words p asked ++ (codes ", found " ++ type_words p given))
+mismatch_words p (mismatch.NoValue k) = codes "return needs a value of type " ++ type_words p k
+mismatch_words p mismatch.ValueReturned = codes "a void method returns no value"
 mismatch_words p (mismatch.NotSent side word) = side_words side ++ (codes " does not send " ++ utf8_lossy (drop 4 (word_at p.text word)))
 mismatch_words p (mismatch.NotReceived side word) = side_words side ++ (codes " does not receive " ++ printed_name p.text word)
-mismatch_words p mismatch.SendStarted = codes "a method is started, not a send"
-mismatch_words p mismatch.LengthWritten = codes "the length of an array is read only"
-mismatch_words p mismatch.FieldOwns = codes "a field that owns is exchanged only"
+mismatch_words p mismatch.SendStarted = codes "start takes a method call, not a send"
+mismatch_words p mismatch.LengthWritten = codes "the length of an array cannot be assigned"
+mismatch_words p mismatch.FieldOwns = codes "an owning field can only be used in exchange"
 
 -- what has a limit: a phrase before the number, and one after it
 abbrev pub limit_front : Limit → List ℕ
-limit_front limit.Parameters = codes "a message has at most "
-limit_front limit.Fields = codes "a struct has at most "
-limit_front limit.Variables = codes "a method has at most "
-limit_front _ = codes "a program has at most "
+limit_front limit.Parameters = codes "a message may have at most "
+limit_front limit.Fields = codes "a struct may have at most "
+limit_front limit.Variables = codes "a method may have at most "
+limit_front _ = codes "a program may have at most "
 
 abbrev pub limit_back : Limit → List ℕ
 limit_back limit.Contracts = codes " contracts"
 limit_back limit.States = codes " states"
 limit_back limit.Parameters = codes " parameters"
-limit_back limit.Fields = codes " fields that own"
+limit_back limit.Fields = codes " owning fields"
 limit_back limit.Methods = codes " methods"
 limit_back limit.Variables = codes " variables of the exchange heap"
 
@@ -74,19 +74,19 @@ near_remark p name s = option_and_then
 
 -- the remark on a name of a sort that nothing declares
 abbrev pub unknown_remark : ProgramText → Span → NameSort → Option LineModel
-unknown_remark p name sort.Length = at name.place (codes "an array has only its Length")
+unknown_remark p name sort.Length = at name.place (codes "the only field of an array is Length")
 unknown_remark p name s = near_remark p name s
 
 -- the remark on a mistake
 abbrev pub remark_of : ProgramText → Mistake → Option LineModel
-remark_of p (mistake.DeclaredTwice name first) = at first (codes "declared here first")
+remark_of p (mistake.DeclaredTwice name first) = at first (codes "first declared here")
 remark_of p (mistake.Unknown name sort) = unknown_remark p name sort
 remark_of p (mistake.WrongType place why) = at place (mismatch_words p why)
 remark_of p (mistake.WrongNumber place asked given) =
-    at place (codes "asked for " ++ (decimal asked ++ (codes ", given " ++ decimal given)))
-remark_of p (mistake.BreakOutside place) = at place (codes "no loop or switch is around it")
-remark_of p (mistake.ContinueOutside place) = at place (codes "no loop is around it")
+    at place (codes "expected " ++ (decimal asked ++ (codes ", found " ++ decimal given)))
+remark_of p (mistake.BreakOutside place) = at place (codes "break must be in a loop or a switch")
+remark_of p (mistake.ContinueOutside place) = at place (codes "continue must be in a loop")
 remark_of p (mistake.LimitPassed place limit) = at place (limit_front limit ++ (decimal (most_of limit) ++ limit_back limit))
-remark_of p (mistake.NotStarted name) = at name.place (codes "it has a result, or a block that it does not claim")
-remark_of p (mistake.CaseTwice endpoint awaited) = at endpoint.place (codes "an earlier case awaits the same")
-remark_of p (mistake.LacksClosed name) = at name.place (codes "asked for case " ++ (printed_name p.text name ++ codes ".ChannelClosed()"))
+remark_of p (mistake.NotStarted name) = at name.place (codes "it returns a value, or takes a block without [Claims]")
+remark_of p (mistake.CaseTwice endpoint awaited) = at endpoint.place (codes "an earlier case already receives this")
+remark_of p (mistake.LacksClosed name) = at name.place (codes "missing case " ++ (printed_name p.text name ++ codes ".ChannelClosed()"))

@@ -1,4 +1,4 @@
--- Types and demands in words.
+-- Types and demands as a reader sees them.
 use Rattle.std.specs.Prelude.{ℕ, List, [], ◌++◌, codes, if◌then◌else◌, length, nat_lt, slice_get, take}
 use Rattle.std.specs.Option.{option_map_or}
 use Rattle.std.specs.Str.Lossy.{utf8_lossy}
@@ -27,15 +27,15 @@ scalar_words Int = codes "int"
 scalar_words Byte = codes "byte"
 scalar_words Bool = codes "bool"
 
--- a type in words
+-- a type as it is written; an endpoint's has no state
 abbrev pub type_words : ProgramText → ValueType → List ℕ
 type_words p (ty.Scalar s) = scalar_words s
-type_words p (ty.Pointer n) = codes "a block of " ++ item_name p n
-type_words p (ty.Array s) = codes "an array of " ++ scalar_words s
+type_words p (ty.Pointer n) = item_name p n ++ codes "* in ExHeap"
+type_words p (ty.Array s) = scalar_words s ++ codes "[] in ExHeap"
 type_words p (ty.Endpoint Imp n) = item_name p n ++ codes ".Imp"
 type_words p (ty.Endpoint Exp n) = item_name p n ++ codes ".Exp"
-type_words p ty.Missing = codes "nothing"
-type_words p ty.Unknown = codes "something unknown"
+type_words p ty.Missing = codes "no value"
+type_words p ty.Unknown = codes "unknown"
 
 -- a demand in words
 abbrev pub demand_words : ProgramText → Demand → List ℕ
@@ -44,9 +44,9 @@ demand_words p demand.Number = codes "a number"
 demand_words p demand.Truth = codes "bool"
 demand_words p demand.Scalar = codes "a number or bool"
 demand_words p demand.Block = codes "a block"
-demand_words p demand.NoBlock = codes "no block"
-demand_words p demand.Pointer = codes "a block of a struct"
+demand_words p demand.NoBlock = codes "a value that is not a block"
+demand_words p demand.Pointer = codes "a struct"
 demand_words p demand.Array = codes "an array"
-demand_words p demand.Fields = codes "something with fields"
+demand_words p demand.Fields = codes "a struct or an array"
 demand_words p demand.Endpoint = codes "an endpoint"
-demand_words p (demand.EndOf n) = codes "an end of " ++ item_name p n
+demand_words p (demand.EndOf n) = codes "an endpoint of " ++ item_name p n

@@ -18,11 +18,15 @@ pub fn fault_remark(alloc: Global, fault: TextFault) -> Result<Option<Line>, Mem
     ensures { IfOk result (λ said. option_map line_model said ≡ fault_remark fault) }
 {
     match fault {
-        TextFault::Stray(place) => plain(alloc, place, "no blank, comment or token begins so"),
-        TextFault::OpenComment(place) => plain(alloc, place, "its end, */, is missing"),
-        TextFault::TooLong => plain(alloc, START, "a text has at most 4194304 bytes"),
-        TextFault::TooDeep(place) => plain(alloc, place, "at most 100 brackets are open at once"),
-        TextFault::TooLarge(place) => plain(alloc, place, "a number is at most 2147483647"),
+        TextFault::Stray(place) => plain(alloc, place, "no token or comment starts here"),
+        TextFault::OpenComment(place) => plain(alloc, place, "this comment is not closed with */"),
+        TextFault::TooLong => plain(alloc, START, "a text may have at most 4194304 bytes"),
+        TextFault::TooDeep(place) => plain(
+            alloc,
+            place,
+            "at most 100 brackets may be open at once",
+        ),
+        TextFault::TooLarge(place) => plain(alloc, place, "the largest number is 2147483647"),
         TextFault::Memory => Ok(None),
     }
 }

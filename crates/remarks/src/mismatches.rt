@@ -33,15 +33,15 @@ pub(crate) fn add_mismatch(
     match mismatch {
         Mismatch::Given(asked, given) => add_given(alloc, text, listing, asked, given),
         Mismatch::NoValue(ty) => {
-            add(text, "a value is asked after return: ")?;
+            add(text, "return needs a value of type ")?;
             add_type(alloc, text, listing, ty)
         }
-        Mismatch::ValueReturned => add(text, "no value is asked after return"),
+        Mismatch::ValueReturned => add(text, "a void method returns no value"),
         Mismatch::NotSent(side, word) => add_not_sent(alloc, text, listing, side, word),
         Mismatch::NotReceived(side, word) => add_not_received(alloc, text, listing, side, word),
-        Mismatch::SendStarted => add(text, "a method is started, not a send"),
-        Mismatch::LengthWritten => add(text, "the length of an array is read only"),
-        Mismatch::FieldOwns => add(text, "a field that owns is exchanged only"),
+        Mismatch::SendStarted => add(text, "start takes a method call, not a send"),
+        Mismatch::LengthWritten => add(text, "the length of an array cannot be assigned"),
+        Mismatch::FieldOwns => add(text, "an owning field can only be used in exchange"),
     }
 }
 
@@ -54,12 +54,12 @@ fn add_given(
     given: ValueType,
 ) -> Result<(), Memory>
     ensures { OnOk result (string_bytes text.new ≡ string_bytes text.old
-        ++ (codes "asked for " ++ (demand_words (program_model listing.now) asked
-        ++ (codes ", given " ++ type_words (program_model listing.now) given)))) }
+        ++ (codes "expected " ++ (demand_words (program_model listing.now) asked
+        ++ (codes ", found " ++ type_words (program_model listing.now) given)))) }
 {
-    add(text, "asked for ")?;
+    add(text, "expected ")?;
     add_demand(alloc, text, listing, asked)?;
-    add(text, ", given ")?;
+    add(text, ", found ")?;
     add_type(alloc, text, listing, given)
 }
 

@@ -34,7 +34,7 @@ pub fn remark(
 {
     let listing = ItemListing { text, items };
     match mistake {
-        Mistake::DeclaredTwice(_, first) => plain(alloc, first, "declared here first"),
+        Mistake::DeclaredTwice(_, first) => plain(alloc, first, "first declared here"),
         Mistake::Unknown(name, sort) => unknown_remark(alloc, &listing, name, sort),
         Mistake::WrongType(place, why) => {
             Ok(remark_at(place, mismatch_text(alloc, &listing, why)?))
@@ -42,18 +42,18 @@ pub fn remark(
         Mistake::WrongNumber(place, asked, given) => {
             Ok(remark_at(place, number_text(alloc, asked, given)?))
         }
-        Mistake::BreakOutside(place) => plain(alloc, place, "no loop or switch is around it"),
-        Mistake::ContinueOutside(place) => plain(alloc, place, "no loop is around it"),
+        Mistake::BreakOutside(place) => plain(alloc, place, "break must be in a loop or a switch"),
+        Mistake::ContinueOutside(place) => plain(alloc, place, "continue must be in a loop"),
         Mistake::LimitPassed(place, limit) => Ok(remark_at(place, limit_text(alloc, limit)?)),
         Mistake::NotStarted(name) => {
             plain(
                 alloc,
                 name.place,
-                "it has a result, or a block that it does not claim",
+                "it returns a value, or takes a block without [Claims]",
             )
         }
-        Mistake::CaseTwice(endpoint, _) => {
-            plain(alloc, endpoint.place, "an earlier case awaits the same")
+        Mistake::CaseTwice(name, _) => {
+            plain(alloc, name.place, "an earlier case already receives this")
         }
         Mistake::LacksClosed(name) => {
             Ok(remark_at(name.place, closed_text(alloc, &listing, name)?))
@@ -73,11 +73,11 @@ fn mismatch_text(alloc: Global, listing: &ItemListing<'_>, why: Mismatch) -> Res
 /// Returns how many arguments are asked and how many are given. Returns `Memory` if an allocation was refused.
 fn number_text(alloc: Global, asked: usize, given: usize) -> Result<String, Memory>
     ensures { IfOk result (λ text. string_bytes text
-        ≡ codes "asked for " ++ (decimal asked ++ (codes ", given " ++ decimal given))) }
+        ≡ codes "expected " ++ (decimal asked ++ (codes ", found " ++ decimal given))) }
 {
-    let mut text = String::from_str(alloc, "asked for ")?;
+    let mut text = String::from_str(alloc, "expected ")?;
     add_number(&mut text, asked)?;
-    add(&mut text, ", given ")?;
+    add(&mut text, ", found ")?;
     add_number(&mut text, given)?;
     Ok(text)
 }
@@ -96,9 +96,9 @@ fn limit_text(alloc: Global, limit: Limit) -> Result<String, Memory>
 /// Returns which case an endpoint lacks. Returns `Memory` if an allocation was refused.
 fn closed_text(alloc: Global, listing: &ItemListing<'_>, name: Span) -> Result<String, Memory>
     ensures { IfOk result (λ text. string_bytes text
-        ≡ codes "asked for case " ++ (printed_name listing.now.text.now name ++ codes ".ChannelClosed()")) }
+        ≡ codes "missing case " ++ (printed_name listing.now.text.now name ++ codes ".ChannelClosed()")) }
 {
-    let mut text = String::from_str(alloc, "asked for case ")?;
+    let mut text = String::from_str(alloc, "missing case ")?;
     listing.add_name(alloc, &mut text, name)?;
     add(&mut text, ".ChannelClosed()")?;
     Ok(text)

@@ -12,7 +12,7 @@ use program::Side;
 use source::Memory;
 use std::alloc::Global;
 
-/// Appends a type in words. Returns `Memory` if an allocation was refused.
+/// Appends a type as it is written; an endpoint's has no state. Returns `Memory` if an allocation was refused.
 pub(crate) fn add_type(
     alloc: Global,
     text: &mut String,
@@ -25,12 +25,12 @@ pub(crate) fn add_type(
     match ty {
         ValueType::Scalar(scalar) => add(text, scalar_words(scalar)),
         ValueType::Pointer(item) => {
-            add(text, "a block of ")?;
-            listing.add_item(alloc, text, item)
+            listing.add_item(alloc, text, item)?;
+            add(text, "* in ExHeap")
         }
         ValueType::Array(scalar) => {
-            add(text, "an array of ")?;
-            add(text, scalar_words(scalar))
+            add(text, scalar_words(scalar))?;
+            add(text, "[] in ExHeap")
         }
         ValueType::Endpoint(Side::Imp, item) => {
             listing.add_item(alloc, text, item)?;
@@ -40,8 +40,8 @@ pub(crate) fn add_type(
             listing.add_item(alloc, text, item)?;
             add(text, ".Exp")
         }
-        ValueType::Missing => add(text, "nothing"),
-        ValueType::Unknown => add(text, "something unknown"),
+        ValueType::Missing => add(text, "no value"),
+        ValueType::Unknown => add(text, "unknown"),
     }
 }
 
@@ -61,13 +61,13 @@ pub(crate) fn add_demand(
         Demand::Truth => add(text, "bool"),
         Demand::Scalar => add(text, "a number or bool"),
         Demand::Block => add(text, "a block"),
-        Demand::NoBlock => add(text, "no block"),
-        Demand::Pointer => add(text, "a block of a struct"),
+        Demand::NoBlock => add(text, "a value that is not a block"),
+        Demand::Pointer => add(text, "a struct"),
         Demand::Array => add(text, "an array"),
-        Demand::Fields => add(text, "something with fields"),
+        Demand::Fields => add(text, "a struct or an array"),
         Demand::Endpoint => add(text, "an endpoint"),
         Demand::EndOf(item) => {
-            add(text, "an end of ")?;
+            add(text, "an endpoint of ")?;
             listing.add_item(alloc, text, item)
         }
     }

@@ -32,7 +32,7 @@ pub(crate) fn unknown_remark(
         ≡ unknown_remark (program_model listing.now) name sort) }
 {
     match sort {
-        NameSort::Length => plain(alloc, name.place, "an array has only its Length"),
+        NameSort::Length => plain(alloc, name.place, "the only field of an array is Length"),
         _ => near_remark(alloc, listing, name, sort),
     }
 }

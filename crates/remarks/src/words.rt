@@ -33,10 +33,10 @@ pub(crate) fn limit_front(limit: Limit) -> &'static str
     ensures { result.now ≡ limit_front limit }
 {
     match limit {
-        Limit::Parameters => "a message has at most ",
-        Limit::Fields => "a struct has at most ",
-        Limit::Variables => "a method has at most ",
-        _ => "a program has at most ",
+        Limit::Parameters => "a message may have at most ",
+        Limit::Fields => "a struct may have at most ",
+        Limit::Variables => "a method may have at most ",
+        _ => "a program may have at most ",
     }
 }
 
@@ -48,7 +48,7 @@ pub(crate) fn limit_back(limit: Limit) -> &'static str
         Limit::Contracts => " contracts",
         Limit::States => " states",
         Limit::Parameters => " parameters",
-        Limit::Fields => " fields that own",
+        Limit::Fields => " owning fields",
         Limit::Methods => " methods",
         Limit::Variables => " variables of the exchange heap",
     }
