@@ -48,10 +48,6 @@ bounds_command = file_command (codes "bounds")
 abbrev pub check_command : App
 check_command = with_rule (with_rule (file_command (codes "check")) (number_rule (codes "workers"))) (number_rule (codes "slots"))
 
--- `replay FILE ENTRY SCHEDULE`
-abbrev pub replay_command : App
-replay_command = with_rule (with_rule (file_command (codes "replay")) (text_rule (codes "ENTRY"))) (text_rule (codes "SCHEDULE"))
-
 -- `why FILE [LINE:COL]`
 abbrev pub why_command : App
 why_command = with_rule (file_command (codes "why")) (optional_rule (codes "LINE:COL"))
@@ -59,6 +55,12 @@ why_command = with_rule (file_command (codes "why")) (optional_rule (codes "LINE
 -- a subcommand with a file and an entry
 abbrev pub entry_command : Text → App
 entry_command name = with_rule (file_command name) (text_rule (codes "ENTRY"))
+
+-- `replay FILE ENTRY SCHEDULE [--trace] [--all]`
+abbrev pub replay_command : App
+replay_command =
+    with_rule (with_rule (with_rule (entry_command (codes "replay")) (text_rule (codes "SCHEDULE"))) (flag_rule (codes "trace")))
+    (flag_rule (codes "all"))
 
 -- `run FILE ENTRY [--seed N] [--steps N] [--runs N] [--all] [--schedule OUT]`
 abbrev pub run_command : App
@@ -123,12 +125,12 @@ NamesPlace rows (Some place) = (text : Text) × Gives rows (codes "LINE:COL") te
 abbrev pub text_in : Option (Bor Text) → Option Text
 text_in x = option_map (λ t. t.now) x
 
--- the arguments of this subcommand ask for this; the numbers of options and the flag are not specified
+-- the arguments of this subcommand ask for this; the numbers of options and the flags are not specified
 abbrev pub IsAskOf : (subcommand : Text) → List Row → Ask → Type 0
 IsAskOf subcommand rows (Bounds file) = subcommand ≡ codes "bounds" × Gives rows (codes "FILE") file.now
 IsAskOf subcommand rows (Check file workers slots) = subcommand ≡ codes "check" × Gives rows (codes "FILE") file.now
 IsAskOf subcommand rows (Why file named) = subcommand ≡ codes "why" × Gives rows (codes "FILE") file.now × NamesPlace rows named
-IsAskOf subcommand rows (Replay file entry schedule) = subcommand ≡ codes "replay" × GivesReplay file.now entry.now schedule.now rows
+IsAskOf subcommand rows (Replay file entry schedule lines) = subcommand ≡ codes "replay" × GivesReplay file.now entry.now schedule.now rows
 IsAskOf subcommand rows (Run file entry wanted) = subcommand ≡ codes "run" × GivesRun file.now entry.now (text_in wanted.schedule) rows
 IsAskOf subcommand rows (Explore file entry worlds schedule) =
     subcommand ≡ codes "explore" × GivesRun file.now entry.now (text_in schedule) rows

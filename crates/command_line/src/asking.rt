@@ -5,7 +5,7 @@ ghost use Rattle.clap.specs.Words.{found_of, rows_of};
 ghost use Rattle.command_line.specs.Asking.{Asks, IsAskOf, IsPlaceText, NamesPlace};
 
 use crate::commands::whole_of;
-use crate::request::{Ask, Wanted};
+use crate::request::{Ask, Lines, Wanted};
 use clap::error::ErrorKind;
 use clap::{ArgMatches, Error};
 use source::Place;
@@ -143,7 +143,19 @@ fn replay_asked<'a>(inner: &ArgMatches<'a>) -> Option<Ask<'a>>
         file,
         entry,
         schedule,
+        lines: lines_asked(inner),
     })
+}
+
+/// Returns which events of a replay have lines.
+fn lines_asked(inner: &ArgMatches<'_>) -> Lines {
+    if inner.get_flag("all") {
+        Lines::Everything
+    } else if inner.get_flag("trace") {
+        Lines::Notable
+    } else {
+        Lines::Silent
+    }
 }
 
 /// Returns what the arguments of `why` ask for. `None` if they name a place that is malformed.

@@ -117,6 +117,18 @@ fn entry_argument<'a>(alloc: Global) -> Arg<'a>
     )
 }
 
+/// Returns the flag `--all`.
+fn all_argument<'a>(alloc: Global) -> Arg<'a>
+    ensures rule { rule_of result ≡ flag_rule (codes "all") }
+    ensures local { result.global ≡ false }
+{
+    flag_of(
+        alloc,
+        "all",
+        "Prints all events, uses, moves and the ends of scopes too",
+    )
+}
+
 /// Returns the option `--schedule OUT`.
 fn schedule_argument<'a>(alloc: Global) -> Arg<'a>
     ensures rule { rule_of result ≡ option_rule (codes "schedule") }
@@ -160,7 +172,7 @@ fn check_of<'a>(alloc: Global) -> Result<Command<'a>, AllocError>
         ))
 }
 
-/// Returns the subcommand `replay FILE ENTRY SCHEDULE`.
+/// Returns the subcommand `replay FILE ENTRY SCHEDULE [--trace] [--all]`.
 fn replay_of<'a>(alloc: Global) -> Result<Command<'a>, AllocError>
     ensures { IfOk result (IsCommand replay_command) }
 {
@@ -173,7 +185,9 @@ fn replay_of<'a>(alloc: Global) -> Result<Command<'a>, AllocError>
             alloc,
             "SCHEDULE",
             "The file with the events, one a line: the number of a process and a choice",
-        ))
+        ))?
+        .arg(flag_of(alloc, "trace", "Prints a line for each event first"))?
+        .arg(all_argument(alloc))
 }
 
 /// Returns the subcommand `run FILE ENTRY [--seed N] [--steps N] [--runs N] [--all] [--schedule OUT]`.
@@ -190,13 +204,9 @@ fn run_of<'a>(alloc: Global) -> Result<Command<'a>, AllocError>
         .arg(number_of(
             alloc,
             "runs",
-            "The most runs, with seeds from --seed on, until one ends in a deadlock or a fault, default 1",
+            "The number of runs, with seeds from --seed on, default 1",
         ))?
-        .arg(flag_of(
-            alloc,
-            "all",
-            "Prints uses, moves and the ends of scopes too",
-        ))?
+        .arg(all_argument(alloc))?
         .arg(schedule_argument(alloc))
 }
 

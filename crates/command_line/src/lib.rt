@@ -6,4 +6,4 @@ mod commands;
 mod request;
 
 pub use asking::ask;
-pub use request::{Ask, Wanted};
+pub use request::{Ask, Lines, Wanted};

@@ -3,7 +3,7 @@
 use source::Place;
 
 /// Which random run a command line asks for: the seed of the first one that is tried, how many events each has at most, how many are
-/// tried until one ends in a deadlock or a fault, whether all events have lines, and the file to which the schedule goes, if it is named.
+/// tried, whether all events have lines, and the file to which the schedule goes, if it is named.
 #[derive(Clone, Copy, Debug, PartialEq, Eq)]
 pub struct Wanted<'a> {
     pub seed: usize,
@@ -11,6 +11,17 @@ pub struct Wanted<'a> {
     pub runs: usize,
     pub all: bool,
     pub schedule: Option<&'a str>,
+}
+
+/// Which events of a replay have lines.
+#[derive(Clone, Copy, Debug, PartialEq, Eq)]
+pub enum Lines {
+    /// None.
+    Silent,
+    /// Those that a reader needs to follow the run.
+    Notable,
+    /// All.
+    Everything,
 }
 
 /// What a command line asks for.
@@ -50,5 +61,6 @@ pub enum Ask<'a> {
         file: &'a str,
         entry: &'a str,
         schedule: &'a str,
+        lines: Lines,
     },
 }

@@ -1,19 +1,19 @@
 -- Journals with one more event.
-use Rattle.std.proofs.Common.{◌≡◌, ◌+◌, ◌++◌, ◌∷◌, [], ℕ, List, Bool, false, true, subst, sym, ◌∙◌, ap, Result, Ok, Err, Option}
-use Rattle.std.specs.Prelude.{IsErrAnd, OnOk}
+use Rattle.std.proofs.Common.{◌≡◌, ◌+◌, ◌++◌, ◌∷◌, [], ℕ, List, false, subst, sym, ◌∙◌, ap, Result, Ok, Err}
+use Rattle.std.specs.Prelude.{IfErr, IsErrAnd, OnOk}
 use Rattle.std.specs.Result.{is_err}
-use Rattle.source.specs.declared.place.Place.{Place}
 use Rattle.program.specs.Programs.{ProgramModel}
 use Rattle.machine.specs.Machine.{event_outcome}
-use Rattle.machine.specs.Outcomes.{QueueBounds, Moved, Outcome, TellsStep}
+use Rattle.machine.specs.Outcomes.{QueueBounds, Moved, TellsStep}
 use Rattle.machine.specs.Places.{process_place}
+use Rattle.machine.specs.Runs as runs
+use Rattle.machine.specs.Runs.{AreBounds, RunsTo}
 use Rattle.machine.specs.World.{World}
 use Rattle.machine.specs.declared.halts.Event.{Event}
-use Rattle.machine.specs.declared.halts.Fault.{Fault}
 use Rattle.machine.specs.declared.halts.Halt.{Halt}
 use Rattle.machine.specs.declared.halts.Halt.TheVariants as halt
 use Rattle.replays.specs.EventLines.{TraceWords, conditions_in, event_line}
-use Rattle.replays.specs.Journals.{HasLines, IsFaultAt, moves, stays}
+use Rattle.replays.specs.Journals.{HasLines, IsNoStep, moves, stays}
 
 -- a journal without events
 pub none : (t : TraceWords) (bound : QueueBounds) (begins world : World) (events : List Event) (lines : List ℕ)
@@ -37,15 +37,19 @@ pub of_ok : (X E A : Type 0) (r : Result X E) → is_err r ≡ false → OnOk r 
 of_ok X E A (Ok x) fine a = a
 of_ok X E A (Err e) fine a = absurd (cc)
 
--- a halt is passed on unchanged
-same_halt : (X : Type 0) (r : Result X Halt) (x y : Halt) → IsErrAnd r (λ e. e ≡ x) → r ≡ Err y → x ≡ y
-same_halt X (Ok u) x y is e = absurd is
-same_halt X (Err h) x y is e = cc
+-- a step that is refused was none, for the reason that is passed on
+pub passed_refusal : (X : Type 0) (r : Result X Halt) (x : Halt) (p : ProgramModel) (w after : World) (e : Event) → IsErrAnd r (λ h. h ≡ x)
+    → after ≡ w → ((bound : QueueBounds) → AreBounds p bound
+    → TellsStep {X = Unit {0}} (Err x) (event_outcome p bound w e) (process_place p w e.process) after)
+    → IfErr r (λ why. (why ≡ halt.Memory → ⊥) → IsNoStep p after e why)
+passed_refusal X (Ok u) x p w after e passed same tells = absurd passed
+passed_refusal X (Err h) x p w after e passed same tells = λ some bound are.
+    subst (λ y. TellsStep {X = Unit {0}} (Err y) (event_outcome p bound after e) (process_place p after e.process) after) (sym passed)
+    (subst (λ v. TellsStep {X = Unit {0}} (Err x) (event_outcome p bound v e) (process_place p v e.process) after) (sym same) (tells bound are))
 
--- a step that returns a fault was one
-pub was_fault : (X : Type 0) (r : Result X Halt) (x : Halt) (p : ProgramModel) (bound : QueueBounds) (w after : World) (e : Event) (fault : Fault) (at : Place)
-    → IsErrAnd r (λ h. h ≡ x) → r ≡ Err (halt.Fault fault at) → TellsStep {X = Unit {0}} (Err x) (event_outcome p bound w e) (process_place p w e.process) after
-    → IsFaultAt p bound w e fault at
-was_fault X r x p bound w after e fault at passed is tells =
-    let both = subst (λ h. TellsStep {X = Unit {0}} (Err h) (event_outcome p bound w e) (process_place p w e.process) after) (same_halt X r x (halt.Fault fault at) passed is) tells in
-    record { faulty = both.0; place = both.1 }
+-- the events of lines lead from one world to the other
+pub run_of : (t : TraceWords) (bound : QueueBounds) (w v : World) (events : List Event) (lines : List ℕ) (conditions : ℕ)
+    → HasLines t bound w events v lines conditions → RunsTo t.words.program bound w events v
+run_of t bound w v events lines conditions stays = runs.stays
+run_of t bound w v events lines conditions (moves before from to e some few led moved) =
+    runs.moves before from to e (run_of t bound w from before some few led) moved

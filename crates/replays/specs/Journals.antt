@@ -1,15 +1,16 @@
 -- Journals: the events that lead from the beginning of a method to a world, and their lines.
-use Rattle.std.specs.Prelude.{◌≡◌, ◌+◌, ℕ, List, [], ◌∷◌, ◌++◌, Some}
+use Rattle.std.specs.Prelude.{◌≡◌, ◌+◌, ℕ, List, [], ◌∷◌, ◌++◌, Err, Some}
 use Rattle.source.specs.declared.place.Place.{Place}
 use Rattle.program.specs.Programs.{ProgramModel}
 use Rattle.machine.specs.Machine.{event_outcome}
-use Rattle.machine.specs.Outcomes.{QueueBounds, Faulty, Moved}
+use Rattle.machine.specs.Outcomes.{QueueBounds, Faulty, Moved, TellsStep}
 use Rattle.machine.specs.Places.{process_place}
 use Rattle.machine.specs.Runs.{AreBounds, start_of}
 use Rattle.machine.specs.Views.{world_model}
 use Rattle.machine.specs.World.{World}
 use Rattle.machine.specs.declared.halts.Event.{Event}
 use Rattle.machine.specs.declared.halts.Fault.{Fault}
+use Rattle.machine.specs.declared.halts.Halt.{Halt}
 use Rattle.replays.specs.EventLines.{TraceWords, conditions_in, event_line}
 use Rattle.replays.specs.declared.journal.Journal.{Journal}
 
@@ -30,6 +31,7 @@ pub record IsFaultAt (p : ProgramModel) (bound : QueueBounds) (w : World) (e : E
   pub faulty : event_outcome p bound w e ≡ Faulty fault
   pub place : process_place p w e.process ≡ Some at
 
--- the same, whatever the bounds of its queues
-abbrev pub FaultsAt : ProgramModel → World → Event → Fault → Place → Type 0
-FaultsAt p w e fault at = (bound : QueueBounds) → AreBounds p bound → IsFaultAt p bound w e fault at
+-- an event of a world is no step, for this reason, whatever the bounds of its queues
+abbrev pub IsNoStep : ProgramModel → World → Event → Halt → Type 0
+IsNoStep p w e why = (bound : QueueBounds) → AreBounds p bound
+    → TellsStep {X = Unit {0}} (Err why) (event_outcome p bound w e) (process_place p w e.process) w

@@ -9,13 +9,29 @@ use Rattle.replays.specs.Remains.{left_lines, waits_lines}
 use Rattle.replays.specs.WorldLines.{halt_text}
 use Rattle.replays.specs.declared.end.RunEnd.{RunEnd}
 use Rattle.replays.specs.declared.end.RunEnd.TheVariants.{Ended, Deadlock, Fault, Running}
+use Rattle.replays.specs.declared.end.EndKind.{EndKind}
+use Rattle.replays.specs.declared.end.EndKind.TheVariants as kinds
+
+-- the way in which a run ends, without the event of a fault
+abbrev pub kind_of : RunEnd → EndKind
+kind_of Ended = kinds.Ended
+kind_of Deadlock = kinds.Deadlock
+kind_of (Fault e fault at) = kinds.Fault
+kind_of Running = kinds.Running
+
+-- how runs end that end in this way
+abbrev pub kind_text : EndKind → List ℕ
+kind_text kinds.Ended = codes "every process has ended"
+kind_text kinds.Deadlock = codes "deadlock"
+kind_text kinds.Fault = codes "fault"
+kind_text kinds.Running = codes "still running"
 
 -- how a run ends
 abbrev pub end_text : RunEnd → List ℕ
-end_text Ended = codes "every process has ended"
-end_text Deadlock = codes "deadlock"
 end_text (Fault e fault at) = halt_text e (halts.Fault fault at)
-end_text Running = codes "still running"
+end_text Ended = kind_text kinds.Ended
+end_text Deadlock = kind_text kinds.Deadlock
+end_text Running = kind_text kinds.Running
 
 -- `end: deadlock, after 12 events`, with its end
 abbrev pub end_line : RunEnd → (events : ℕ) → List ℕ
@@ -33,3 +49,9 @@ run_lines t w events lines conditions end lost =
 -- `seed: 7`, with its end
 abbrev pub seed_line : ℕ → List ℕ
 seed_line seed = codes "seed: " ++ (decimal seed ++ codes "\n")
+
+-- `60 runs: deadlock, the shortest after 5 events with seed 7`, with its end
+abbrev pub tally_line : EndKind → (count events seed : ℕ) → List ℕ
+tally_line kind count events seed =
+    decimal count ++ (codes " runs: " ++ (kind_text kind ++ (codes ", the shortest after "
+    ++ (decimal events ++ (codes " events with seed " ++ (decimal seed ++ codes "\n"))))))

@@ -1,7 +1,12 @@
-//! Laws of schedules.
+//! Laws of schedules, and of runs with their lines.
 
 ghost use Rattle.std.specs.Prelude.{◌≡◌, ◌+◌, ℕ, List, take};
+ghost use Rattle.machine.specs.Outcomes.{QueueBounds};
+ghost use Rattle.machine.specs.Runs.{RunsTo};
+ghost use Rattle.machine.specs.World.{World};
 ghost use Rattle.machine.specs.declared.halts.Event.{Event};
+ghost use Rattle.replays.specs.EventLines.{TraceWords};
+ghost use Rattle.replays.specs.Journals.{HasLines};
 ghost use Rattle.replays.specs.Schedules.{IsFirstMalformed, IsSchedule};
 ghost use Rattle.replays.specs.declared.limits.TheConstants.{MOST_NUMBER, MOST_SCHEDULE};
 
@@ -27,4 +32,10 @@ pub fn a_front_tells_all()
 pub fn limits()
     ensures bytes { MOST_SCHEDULE ≡ 1048576 }
     ensures number { MOST_NUMBER ≡ 4294967295 }
+{}
+
+/// Events with their lines are a run.
+pub fn lines_are_of_runs()
+    ensures { (t : TraceWords) (bound : QueueBounds) (w v : World) (events : List Event) (lines : List ℕ) (conditions : ℕ)
+        → HasLines t bound w events v lines conditions → RunsTo t.words.program bound w events v }
 {}

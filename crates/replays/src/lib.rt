@@ -1,4 +1,4 @@
-//! Schedules of events, and worlds as lines.
+//! Schedules of events, and worlds as lines. Comments in schedules are skipped.
 #![tactic(auto)]
 
 mod blocks;
@@ -25,12 +25,12 @@ mod waits;
 mod writing;
 
 pub use detail::Detail;
-pub use end::RunEnd;
+pub use end::{EndKind, RunEnd};
 pub use fault::ScheduleFault;
 pub use journal::{Journal, is_open_condition};
 pub use limits::{MOST_NUMBER, MOST_SCHEDULE};
 pub use printing::lines_of;
-pub use run_lines::add_seed;
+pub use run_lines::{add_conditions, add_seed, add_tally};
 pub use schedule::read_schedule;
 pub use tracer::Tracer;
 pub use writing::schedule_of;

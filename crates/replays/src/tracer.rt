@@ -1,11 +1,9 @@
 //! What turns events into lines.
 
-ghost use Rattle.std.specs.Prelude.{◌≡◌, ◌<◌, ◌∷◌, ◌++◌, [], ℕ, IfOk, IsErrOf, OnErr, OnOk, length, map, string_bytes};
+ghost use Rattle.std.specs.Prelude.{◌≡◌, ◌<◌, ◌∷◌, ◌++◌, [], ℕ, IfErr, IfOk, IsErrOf, OnErr, OnOk, length, map, string_bytes};
 ghost use Rattle.rules.specs.Programs.{model_of};
-ghost use Rattle.source.specs.declared.place.Place.{Place};
-ghost use Rattle.machine.specs.declared.halts.Fault.{Fault};
 ghost use Rattle.machine.specs.Views.{world_model};
-ghost use Rattle.replays.specs.Journals.{FaultsAt, IsJournal};
+ghost use Rattle.replays.specs.Journals.{IsJournal, IsNoStep};
 ghost use Rattle.replays.specs.Telling.{tracer_words};
 
 use crate::detail::Detail;
@@ -80,14 +78,14 @@ impl<'a> Tracer<'a> {
     /// Takes one event, and adds it and its line to a journal.
     ///
     /// # Errors
-    /// Those of `World::step`. After any but `Memory` the journal has the events that it had; after `Memory` it is not to be used.
+    /// Those of `World::step`. After any but `Memory` the journal is as it was; after `Memory` it is not to be used.
     pub fn take(&self, journal: &mut Journal, event: Event) -> Result<(), Halt>
         ensures kept { (m : ℕ) → (IsErrOf result Halt.Memory → ⊥) → IsJournal (tracer_words self.now) m journal.old
             → IsJournal (tracer_words self.now) m journal.new }
         ensures taken { OnOk result (journal.new.events.items ≡ journal.old.events.items ++ event ∷ []) }
         ensures untaken { OnErr result ((IsErrOf result Halt.Memory → ⊥) → journal.new.events ≡ journal.old.events) }
-        ensures faulty { (fault : Fault) (at : Place) → IsErrOf result (Halt.Fault fault at)
-            → FaultsAt (tracer_words self.now).words.program (world_model journal.new.world) event fault at }
+        ensures refused { IfErr result (λ why. (why ≡ Halt.Memory → ⊥)
+            → IsNoStep (tracer_words self.now).words.program (world_model journal.new.world) event why) }
     {
         let mut line = Vec::new(self.alloc);
         if (&*self)

@@ -1,1 +1,3 @@
 pub mod HaltLemmas
+pub mod TallyLemmas
+pub mod TraceLemmas

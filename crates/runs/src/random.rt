@@ -2,12 +2,15 @@
 
 ghost use Rattle.std.specs.Prelude.{◌≡◌, ◌<◌, ℕ, IfOk, length};
 ghost use Rattle.machine.specs.Views.{world_model};
+ghost use Rattle.replays.specs.EventLines.{TraceWords};
 ghost use Rattle.replays.specs.Journals.{IsJournal};
 ghost use Rattle.replays.specs.Telling.{tracer_words};
 ghost use Rattle.runs.specs.Ends.{IsRun, IsAttempt};
+ghost use Rattle.runs.specs.Tallies.{AreTallies};
 
 use crate::chooser::Chooser;
 use crate::ending::{Simulation, ended_run};
+use crate::tallies::Tallies;
 use machine::Halt;
 use program::MethodId;
 use replays::{Journal, RunEnd, Tracer};
@@ -24,11 +27,36 @@ pub struct Plan {
     pub steps: u64,
 }
 
-/// A run, and the seed of its choices.
+/// One of several runs, the seed of its choices, and how many of all ended in each way.
 #[derive(Drop)]
 pub struct RandomRun {
     pub run: Simulation,
     pub seed: u64,
+    pub tallies: Tallies,
+}
+
+impl RandomRun {
+    /// Counts one more run, and keeps the one that is the better to look at.
+    fn count(&mut self, run: Simulation, seed: u64)
+        ensures run { (t : TraceWords) (m : ℕ) → IsRun t m self.old.run → IsRun t m run → IsRun t m self.new.run }
+        ensures tallies { (t : TraceWords) (m : ℕ) → AreTallies t m self.old.tallies → IsRun t m run → AreTallies t m self.new.tallies }
+    {
+        self.tallies
+            .count(run.end.kind(), run.journal.events.len(), seed);
+        if is_better(&run, &self.run) {
+            self.run = run;
+            self.seed = seed;
+        }
+    }
+}
+
+/// Returns whether a later run is the better one to look at: of runs that fail it is the shortest, and of others the last.
+fn is_better(later: &Simulation, earlier: &Simulation) -> bool {
+    if earlier.fails() {
+        later.fails() && later.journal.events.len() < earlier.journal.events.len()
+    } else {
+        true
+    }
 }
 
 /// What an attempt to take an event comes to.
@@ -92,23 +120,25 @@ fn run_with_seed(
     ended_run(alloc, tracer, journal)
 }
 
-/// Runs a method at random until a run ends in a deadlock or a fault, and returns that run, or the last one of the plan. Each next
-/// event of a run is one of those that can be taken, all alike likely, except that a condition is true three times in four.
+/// Runs a method at random as often as the plan says, and returns the shortest run that ends in a deadlock or a fault, or the last one if
+/// none does, and how many ended in each way. Each next event of a run is one of those that can be taken, all alike likely, except that a
+/// condition is true three times in four.
 ///
 /// # Errors
 /// `Memory` if out of memory.
 pub fn random_run(alloc: Global, tracer: &Tracer<'_>, plan: &Plan) -> Result<RandomRun, Memory>
     requires there { plan.now.method.0 < length (tracer_words tracer.now).words.program.methods }
-    ensures { IfOk result (λ r. IsRun (tracer_words tracer.now) plan.now.method.0 r.run) }
+    ensures run { IfOk result (λ r. IsRun (tracer_words tracer.now) plan.now.method.0 r.run) }
+    ensures tallies { IfOk result (λ r. AreTallies (tracer_words tracer.now) plan.now.method.0 r.tallies) }
 {
     let mut seed = plan.seed;
-    let mut run = run_with_seed(alloc, tracer, plan, seed)?;
+    let run = run_with_seed(alloc, tracer, plan, seed)?;
+    let mut tallies = Tallies::new();
+    tallies.count(run.end.kind(), run.journal.events.len(), seed);
+    let mut all = RandomRun { run, seed, tallies };
     for _ in 1..plan.runs {
-        if run.fails() {
-            return Ok(RandomRun { run, seed });
-        }
         seed = seed.wrapping_add(1);
-        run = run_with_seed(alloc, tracer, plan, seed)?;
+        all.count(run_with_seed(alloc, tracer, plan, seed)?, seed);
     }
-    Ok(RandomRun { run, seed })
+    Ok(all)
 }

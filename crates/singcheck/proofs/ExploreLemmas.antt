@@ -34,7 +34,7 @@ use Rattle.singcheck.specs.PrintedRuns.{AreLinesOf, Unknown, Whole, all_events, 
 use Rattle.singcheck.specs.declared.entering.Begun.{Begun}
 use Rattle.singcheck.proofs.LongLemmas.{AreLong, IsOfFront, answers_long, no_program, of_front}
 use Rattle.singcheck.proofs.Texts.{begins_is, writes_is}
-use Rattle.singcheck.proofs.RunLemmas.{AgreeOnRuns, graph_run, run_of_entry, untold}
+use Rattle.singcheck.proofs.RunLemmas.{AgreeOnRuns, run_of_entry, untold}
 
 -- the lines of a run, if it ended so
 abbrev lines_ending : TraceWords → Simulation → (lost : List Bool) → RunEnd → List ℕ
@@ -82,7 +82,7 @@ locks_soonest agree same_deadlocks text entry b is t same r ran schedule told en
       soonest = λ bound are.
           let graph_leads : GraphDeadlocks.LeadsToDeadlock p bound n r.journal.events.items = record {
             world = world_model r.journal.world;
-            leads = graph_run words bound (graph_runs.start_of p n) r.journal.events.items (world_model r.journal.world)
+            leads = agree.lines words bound (graph_runs.start_of p n) (world_model r.journal.world) r.journal.events.items
                 r.journal.lines.items r.journal.conditions (run.journal bound are);
             deadlock = subst (EndsSo p bound (world_model r.journal.world)) end (run.end bound are);
           } in

@@ -35,7 +35,7 @@ use Rattle.singcheck.specs.Safety.{HasEmptyReport, Kept, ReplaysWithinBounds, Re
 use Rattle.singcheck.specs.declared.limits.TheConstants.{MAX_SCHEDULE_READ}
 use Rattle.singcheck.proofs.LongLemmas.{AreLong, IsOfFront, answers_long, no_program, of_front}
 use Rattle.singcheck.proofs.SafetyLemmas.{empty_verdict}
-use Rattle.singcheck.proofs.Texts.{begins_is, writes_is}
+use Rattle.singcheck.proofs.ScheduledLemmas.{of_lines_begun, of_lines_safe, of_lines_written}
 
 -- the result for the bytes of a text that are read is the result for the text
 replays_long : (entry lines text other bytes : List ℕ) (status : Status) → AreLong text other → Replays entry lines text bytes status
@@ -53,18 +53,12 @@ replays_of_front entry lines = record {
 pub replay_written : (entry : List ℕ) (a q w v : Option (List ℕ)) (text bytes : List ℕ) (status : Status)
     → IfSome a (λ xs. text ≡ take MAX_READ xs) → IfSome q (λ lines. Replays entry lines text bytes status) → Appends w v bytes
     → IfSome a (λ xs. IfSome q (λ lines. Writes (Replays entry lines) xs w v status))
-replay_written entry None q w v text bytes status is answers done = tt
-replay_written entry (Some x) None w v text bytes status is answers done = tt
-replay_written entry (Some x) (Some l) w v text bytes status is answers done =
-    writes_is (Replays entry l) (Some x) w v text bytes status MAX_READ (replays_of_front entry l) is answers done
+replay_written entry = of_lines_written (Replays entry) (replays_of_front entry)
 
 pub replay_begun : (entry : List ℕ) (a q w v : Option (List ℕ)) (text bytes : List ℕ) (status : Status)
     → IfSome a (λ xs. text ≡ take MAX_READ xs) → IfSome q (λ lines. Replays entry lines text bytes status) → TakesBeginning w v bytes
     → IfSome a (λ xs. IfSome q (λ lines. BeginsAnswer (Replays entry lines) xs w v))
-replay_begun entry None q w v text bytes status is answers begun = tt
-replay_begun entry (Some x) None w v text bytes status is answers begun = tt
-replay_begun entry (Some x) (Some l) w v text bytes status is answers begun =
-    begins_is (Replays entry l) (Some x) w v text bytes status MAX_READ (replays_of_front entry l) is answers begun
+replay_begun entry = of_lines_begun (Replays entry) (replays_of_front entry)
 
 bounded_long : (entry lines text other bytes : List ℕ) (status : Status) → AreLong text other
     → ReplaysWithinBounds entry lines text bytes status → ReplaysWithinBounds entry lines other bytes status
@@ -81,29 +75,13 @@ bounded_of_front entry lines = record {
 pub replay_bounded : (entry : List ℕ) (a q w v : Option (List ℕ)) (text bytes : List ℕ) (status : Status)
     → IfSome a (λ xs. text ≡ take MAX_READ xs) → IfSome q (λ lines. ReplaysWithinBounds entry lines text bytes status) → Appends w v bytes
     → IfSome a (λ xs. IfSome q (λ lines. Writes (ReplaysWithinBounds entry lines) xs w v status))
-replay_bounded entry None q w v text bytes status is answers done = tt
-replay_bounded entry (Some x) None w v text bytes status is answers done = tt
-replay_bounded entry (Some x) (Some l) w v text bytes status is answers done =
-    writes_is (ReplaysWithinBounds entry l) (Some x) w v text bytes status MAX_READ (bounded_of_front entry l) is answers done
-
--- a text that is too long has no empty report
-safely_front : (entry lines text bytes : List ℕ) (status : Status)
-    → (HasEmptyReport (take MAX_READ text) → RunsSafely entry lines (take MAX_READ text) bytes status) → HasEmptyReport text
-    → RunsSafely entry lines text bytes status
-safely_front entry lines text bytes status = of_front (λ t. HasEmptyReport t → RunsSafely entry lines t bytes status) MAX_TEXT MAX_READ refl
-    (λ a b x y front empty. no_program b y empty.1.has.resolved.parsed.tokens empty.1.has.resolved.parsed.lexed) text
+replay_bounded entry = of_lines_written (ReplaysWithinBounds entry) (bounded_of_front entry)
 
 pub replay_safe : (entry : List ℕ) (a q w v : Option (List ℕ)) (text bytes : List ℕ) (status : Status)
     → IfSome a (λ xs. text ≡ take MAX_READ xs) → IfSome q (λ lines. HasEmptyReport text → RunsSafely entry lines text bytes status)
     → Appends w v bytes
     → IfSome a (λ xs. IfSome q (λ lines. HasEmptyReport xs → Writes (RunsSafely entry lines) xs w v status))
-replay_safe entry None q w v text bytes status is answers done = tt
-replay_safe entry (Some x) None w v text bytes status is answers done = tt
-replay_safe entry (Some x) (Some l) w v text bytes status is answers done = λ empty. record {
-  bytes = bytes;
-  answers = safely_front entry l x bytes status (subst (λ t. HasEmptyReport t → RunsSafely entry l t bytes status) is answers) empty;
-  written = done;
-}
+replay_safe entry = of_lines_safe (RunsSafely entry)
 
 pub entry_lacks : (entry : List ℕ) (a : Option (List ℕ)) (text : List ℕ) → IfSome a (λ xs. text ≡ take MAX_READ xs) → LacksEntry text entry
     → IfSome a (λ xs. LacksEntry xs entry)
@@ -225,7 +203,8 @@ ends_at entry lines text bytes status ran fault at e bound are =
     let led = ran.led bound are in
     subst (EndsWith ran.program bound led.world ran.events ran.steps) e led.replayed.ends
 
-meets_none : (entry lines text bytes : List ℕ) (status : Status) → KnownOf text → HasEmptyReport text
+-- if nothing is found, a replay does not stop with a fault
+pub meets_none : (entry lines text bytes : List ℕ) (status : Status) → KnownOf text → HasEmptyReport text
     → (ran : IsRan entry lines text bytes status) → (fault : Fault) (at : Place) → ran.halt ≡ Some (halt.Fault fault at) → ⊥
 meets_none entry lines text bytes status known empty ran fault at e =
     let p = ran.program in

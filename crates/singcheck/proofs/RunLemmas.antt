@@ -19,7 +19,7 @@ use Rattle.semantics.specs.Events.{RunsTo, event_outcome, start_of}
 use Rattle.semantics.specs.Same.{IsOutcome, IsWorld}
 use Rattle.semantics.specs.Worlds.{Faulty, Moved, NoChoice, NoProcess, Outcome, Waits, World}
 use Rattle.replays.specs.EventLines.{TraceWords}
-use Rattle.replays.specs.Journals.{HasLines, IsFaultAt, moves, stays}
+use Rattle.replays.specs.Journals.{HasLines, IsFaultAt}
 use Rattle.replays.specs.declared.detail.Detail.{Detail}
 use Rattle.replays.specs.Schedules.{IsSchedule}
 use Rattle.replays.specs.declared.end.RunEnd.{RunEnd}
@@ -38,6 +38,7 @@ use Rattle.singcheck.specs.Safety.{HasEmptyReport}
 use Rattle.singcheck.specs.declared.entering.Begun.{Begun}
 use Rattle.singcheck.proofs.LongLemmas.{AreLong, IsOfFront, answers_long, no_program, of_front}
 use Rattle.singcheck.proofs.ReplayLemmas.{KnownOf, entry_is, none_found, run_of}
+use Rattle.singcheck.proofs.ScheduledLemmas.{empty_front}
 use Rattle.singcheck.proofs.Texts.{begins_is, writes_is}
 
 -- what follows from three things that hold of a result
@@ -46,14 +47,6 @@ pub if_ok_three : {T E : Type 0} (r : Result T E) (P Q R S : T → Type 0) → (
 if_ok_three (Ok x) P Q R S so p q r = so x p q r
 if_ok_three (Err e) P Q R S so p q r = tt
 
--- the events of lines lead from one world to the other
-pub graph_run : (t : TraceWords) (bound : QueueBounds) (w : graph_world.World) (events : List Event) (v : graph_world.World)
-    (lines : List ℕ) (conditions : ℕ) → HasLines t bound w events v lines conditions
-    → graph_runs.RunsTo t.words.program bound w events v
-graph_run t bound w events v lines conditions stays = graph_runs.stays
-graph_run t bound w events v lines conditions (moves before from to e some few led moved) =
-    graph_runs.moves before from to e (graph_run t bound w before from some few led) moved
-
 -- what holds of runs over graphs and over statements
 pub record AgreeOnRuns : Type 0 where
   pub steps : (p : ProgramModel) (bound : QueueBounds) (w : graph_world.World) (s : World) → IsWorld p w s → (e : Event)
@@ -61,6 +54,8 @@ pub record AgreeOnRuns : Type 0 where
   pub graphs : (p : ProgramModel) (bound : QueueBounds) (n : ℕ) (es : List Event) (w : graph_world.World)
       → graph_runs.RunsTo p bound (graph_runs.start_of p n) es w
       → (s : World) × (RunsTo p bound (start_of p n) es s × IsWorld p w s)
+  pub lines : (t : TraceWords) (bound : QueueBounds) (w v : graph_world.World) (events : List Event) (lines : List ℕ) (conditions : ℕ)
+      → HasLines t bound w events v lines conditions → graph_runs.RunsTo t.words.program bound w events v
 
 -- a run whose lines have the names of a text is one of that text
 abbrev pub run_of_entry : AgreeOnRuns → (text entry : List ℕ) (detail : Detail) (b : Begun) (is : IsBegun text entry b) (t : TraceWords)
@@ -83,7 +78,7 @@ run_of_entry agree text entry detail b is t same r ran schedule told bytes writt
       leads = run.journal;
       statements = λ bound are.
           let there = agree.graphs p bound n r.journal.events.items (world_model r.journal.world)
-          (graph_run words bound (graph_runs.start_of p n) r.journal.events.items (world_model r.journal.world)
+          (agree.lines words bound (graph_runs.start_of p n) (world_model r.journal.world) r.journal.events.items
           r.journal.lines.items r.journal.conditions (run.journal bound are)) in
           record { same = there.0; leads = there.1.0; is = there.1.1 };
       ends = run.end;
@@ -175,6 +170,8 @@ forget entry text bytes detail schedule status (OfRun ran) = OfRun (record {
   lines = ran.lines;
   seed = ran.seed;
   run = untold entry text ran.lines detail schedule ran.end ran.run;
+  tallies = ran.tallies;
+  counted = ran.counted;
   are = ran.are;
   is = ran.is;
 })
@@ -187,14 +184,6 @@ run_begun entry detail schedule a w v text bytes status is answers begun =
     begins_is (RunsAtRandom entry detail None) a w v text bytes status MAX_READ (runs_of_front entry detail None) is
     (forget entry text bytes detail schedule status answers) begun
 
--- a text that is too long has no empty report
-faultless_front : (entry : List ℕ) (detail : Detail) (schedule : Option (Vec ℕ)) (text bytes : List ℕ) (status : Status)
-    → (HasEmptyReport (take MAX_READ text) → RunsFaultless entry detail schedule (take MAX_READ text) bytes status) → HasEmptyReport text
-    → RunsFaultless entry detail schedule text bytes status
-faultless_front entry detail schedule text bytes status =
-    of_front (λ t. HasEmptyReport t → RunsFaultless entry detail schedule t bytes status) MAX_TEXT MAX_READ refl
-    (λ a b x y front empty. no_program b y empty.1.has.resolved.parsed.tokens empty.1.has.resolved.parsed.lexed) text
-
 pub run_safe : (entry : List ℕ) (detail : Detail) (schedule : Option (Vec ℕ)) (a w v : Option (List ℕ)) (text bytes : List ℕ) (status : Status)
     → IfSome a (λ xs. text ≡ take MAX_READ xs) → (HasEmptyReport text → RunsFaultless entry detail schedule text bytes status)
     → Appends w v bytes
@@ -202,7 +191,7 @@ pub run_safe : (entry : List ℕ) (detail : Detail) (schedule : Option (Vec ℕ)
 run_safe entry detail schedule None w v text bytes status is answers done = tt
 run_safe entry detail schedule (Some x) w v text bytes status is answers done = λ empty. record {
   bytes = bytes;
-  answers = faultless_front entry detail schedule x bytes status
+  answers = empty_front (λ t. RunsFaultless entry detail schedule t bytes status) x
       (subst (λ t. HasEmptyReport t → RunsFaultless entry detail schedule t bytes status) is answers) empty;
   written = done;
 }

@@ -1,6 +1,7 @@
 -- What `run` and `explore` return for a text and an entry.
 use Rattle.std.specs.Prelude.{◌≡◌, ◌≢◌, ◌≤◌, ◌++◌, ◌∷◌, ℕ, Bool, IfSome, List, Option, [], false, get_or, length, true}
 use Rattle.std.specs.Global.{Vec}
+use Rattle.std.specs.Option.{option_map_or}
 use Rattle.source.specs.declared.place.Place.{Place}
 use Rattle.tree.specs.Trees.{ItemTree}
 use Rattle.program.specs.Programs.{ProgramModel}
@@ -20,7 +21,9 @@ use Rattle.replays.specs.declared.end.RunEnd.TheVariants.{Ended, Deadlock, Fault
 use Rattle.machine.specs.Views.{world_model}
 use Rattle.lost.specs.Lost.{IsLost}
 use Rattle.runs.specs.Ends.{IsAnEnd}
+use Rattle.runs.specs.Tallies.{AreTallies, tallies_lines}
 use Rattle.runs.specs.declared.ending.Simulation.{Simulation}
+use Rattle.runs.specs.declared.tallies.Tallies.{Tallies}
 use Rattle.deadlocks.specs.Deadlocks.{HasNoDeadlock, LeadsToDeadlock}
 use Rattle.deadlocks.specs.GraphDeadlocks.{ReachesWorlds}
 use Rattle.semantics.specs.Events as meant
@@ -98,14 +101,16 @@ pub record IsPrintedRun (entry : List ℕ) (detail : Detail) (schedule : Option 
   pub are : bytes
       ≡ run_lines (run_words text entered.has.resolved.items program detail) world (length events) lines conditions end lost
 
--- the lines of some run from the entry, and a seed
+-- the lines of some run from the entry, a seed, and how many of several runs ended in each way
 pub record IsSeededRun (entry : List ℕ) (detail : Detail) (schedule : Option (Vec ℕ)) (text bytes : List ℕ) (status : Status)
     : Type 0 where
   pub end : RunEnd
   pub lines : List ℕ
   pub seed : ℕ
   pub run : IsPrintedRun entry detail schedule text end lines
-  pub are : bytes ≡ lines ++ seed_line seed
+  pub tallies : Option Tallies
+  pub counted : IfSome tallies (AreTallies (run_words text run.entered.has.resolved.items run.program detail) run.n)
+  pub are : bytes ≡ lines ++ (seed_line seed ++ option_map_or tallies_lines tallies [])
   pub is : status ≡ end_status end
 
 -- what `run` returns: the findings before the methods, or a run

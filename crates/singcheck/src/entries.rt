@@ -37,7 +37,7 @@ fn index_among(text: &[u8], class: Span, methods: &[Method], entry: &[u8]) -> Op
 }
 
 /// Returns the index, among the methods of an item, of the first that has this name. `None` if the item is no class.
-fn index_in(text: &[u8], definition: &Definition, entry: &[u8]) -> Option<usize>
+pub(crate) fn index_in(text: &[u8], definition: &Definition, entry: &[u8]) -> Option<usize>
     ensures some { IfSome result (IsFirstAt (names_in text.now (definition_tree definition.now)) entry.now) }
     ensures none { IfNone result (Each (λ x. x ≢ entry.now) (names_in text.now (definition_tree definition.now))) }
 {
@@ -74,7 +74,12 @@ pub(crate) fn entry_index(text: &[u8], tree: &Tree, entry: &[u8]) -> Option<usiz
 }
 
 /// Returns the name of a method with that of its class: `Class.Method`.
-fn method_name(alloc: Global, text: &[u8], class: Span, method: &Method) -> Result<Vec<u8>, Memory>
+pub(crate) fn method_name(
+    alloc: Global,
+    text: &[u8],
+    class: Span,
+    method: &Method,
+) -> Result<Vec<u8>, Memory>
     ensures { IfOk result (λ name. name.items ≡ full_name text.now class (method_tree method.now)) }
 {
     let mut name = Vec::new(alloc);

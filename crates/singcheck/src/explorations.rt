@@ -20,6 +20,7 @@ use deadlocks::laws::deadlocks_agree;
 use devices::{Input, MAX_READ, RunFault, Sink, Source, Status, read_text, write_all};
 use explore::{Answer, explore};
 use machine::Event;
+use replays::laws::lines_are_of_runs;
 use replays::{Detail, RunEnd};
 use runs::follow;
 use semantics::laws::events_agree;
@@ -114,6 +115,7 @@ fn shortest_run(
 {
     deadlocks_agree();
     events_agree();
+    lines_are_of_runs();
     let tracer = tracer_of(alloc, begun, Detail::Notable)?;
     let run = follow(alloc, &tracer, begun.method, events)?;
     match run.end {

@@ -47,7 +47,7 @@ impl From<Memory> for Refused {
 }
 
 /// Returns the tree of a text. Its tokens are dropped, unless one of them is wrong.
-fn tree_of(alloc: Global, text: &[u8]) -> Result<Tree, Refused>
+pub(crate) fn tree_of(alloc: Global, text: &[u8]) -> Result<Tree, Refused>
     ensures tree { IfOk result (IsProgramOf text.now) }
     ensures refused { IfErr result (IsRefused text.now) }
 {

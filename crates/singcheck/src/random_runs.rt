@@ -1,8 +1,11 @@
 //! A run that is chosen at random.
 
-ghost use Rattle.std.specs.Prelude.{◌≡◌, ◌≢◌, ◌<◌, ℕ, List, IfErr, IfOk, IfSome, IsErrOf, None, OnErr, OnOk, length};
+ghost use Rattle.std.specs.Prelude.{◌≡◌, ◌≢◌, ◌<◌, ◌++◌, [], ℕ, List, IfErr, IfOk, IfSome, IsErrOf, None, OnErr, OnOk, length};
+ghost use Rattle.std.specs.Option.{option_map_or};
 ghost use Rattle.std.specs.Io.KnownBytes.{Keeps};
 ghost use Rattle.rules.specs.Programs.{model_of};
+ghost use Rattle.replays.specs.RunLines.{seed_line};
+ghost use Rattle.runs.specs.Tallies.{tallies_lines};
 ghost use Rattle.devices.specs.Runs.{BeginsAnswer, LeavesRest, TakesAtMost, Writes};
 ghost use Rattle.singcheck.specs.Entered.{IsBegun};
 ghost use Rattle.singcheck.specs.PrintedRuns.{IsRunningFault, IsSeededRun, IsTextRunFault, RunsAtRandom, RunsFaultless};
@@ -16,15 +19,16 @@ use crate::laws::{
 use crate::printed_runs::{Ran, printed_run, tracer_of};
 use crate::refusals::refused_report;
 use devices::{Input, MAX_READ, RunFault, Sink, Source, Status, read_text, write_all};
+use replays::laws::lines_are_of_runs;
 use replays::{Detail, add_seed};
-use runs::{Plan, random_run};
+use runs::{Plan, Tallies, random_run};
 use semantics::laws::events_agree;
 use sound::laws::{empty_report_is_safe, runs_are_bounded};
 use source::Memory;
 use std::alloc::Global;
 
-/// What a random run is asked for: the seed of the first one that is tried, how many are tried until one ends in a deadlock or a fault,
-/// how many events each has at most, and which of them have lines.
+/// What a random run is asked for: the seed of the first one, how many there are, how many events each has at most, and which of them have
+/// lines.
 #[derive(Clone, Copy, Debug)]
 pub struct RunOptions {
     pub seed: u64,
@@ -38,9 +42,10 @@ pub struct RunOptions {
 /// If the text, its names or its contracts have findings, the report of the first of these stages with findings is written, with status
 /// `Found`; findings in methods do not matter. Otherwise the entry is looked up, and a run of it is chosen: each next event is one of
 /// those that can be taken, all alike likely, except that a condition is true three times in four. If more than one run is asked for,
-/// the first that ends in a deadlock or a fault is taken, or else the last. Written are a line for each of its events of the wanted
-/// detail, how it ends, a line for each process that has not ended and each block that is not freed, how many conditions it chose, and
-/// its seed. The status is `Found` if it ends in a deadlock or a fault, else `Empty`.
+/// the shortest of those that end in a deadlock or a fault is taken, or else the last. Written are a line for each of its events of the
+/// wanted detail, how it ends, a line for each process that has not ended and each block that is not freed, how many conditions it chose,
+/// and its seed; then, if more than one run is asked for, how many ended in each way, and the length and the seed of the shortest of
+/// these. The status is `Found` if the run ends in a deadlock or a fault, else `Empty`.
 ///
 /// If `check` finds nothing in the text, no run ends with a fault.
 ///
@@ -94,6 +99,7 @@ fn run_text(alloc: Global, text: &[u8], entry: &[u8], options: &RunOptions) -> R
     empty_report_is_safe();
     runs_are_bounded();
     events_agree();
+    lines_are_of_runs();
     match enter(alloc, text, entry) {
         Ok(Some(begun)) => Ok(run_begun(alloc, &begun, options)?),
         Ok(None) => Err(RunFault::Entry),
@@ -111,6 +117,7 @@ fn run_begun(alloc: Global, begun: &Begun, options: &RunOptions) -> Result<Ran, 
         → IsSeededRun entry options.now.detail ran.schedule text ran.report.bytes.items ran.report.status) }
 {
     events_agree();
+    lines_are_of_runs();
     let tracer = tracer_of(alloc, begun, options.detail)?;
     let plan = Plan {
         method: begun.method,
@@ -119,7 +126,31 @@ fn run_begun(alloc: Global, begun: &Begun, options: &RunOptions) -> Result<Ran, 
         steps: options.steps,
     };
     let random = random_run(alloc, &tracer, &plan)?;
+    let seed = random.seed;
+    let tallies = shown_tallies(options.runs, random.tallies);
     let mut ran = printed_run(alloc, &tracer, random.run)?;
-    add_seed(&mut ran.report.bytes, random.seed)?;
+    add_seed_and_tallies(&mut ran.report.bytes, seed, tallies)?;
     Ok(ran)
+}
+
+/// Returns the tallies if there were several runs.
+fn shown_tallies(runs: u64, tallies: Tallies) -> Option<Tallies>
+    ensures { IfSome result (λ shown. shown ≡ tallies) }
+{
+    if runs > 1 { Some(tallies) } else { None }
+}
+
+/// Adds the line of a seed, and those of tallies if there are any.
+fn add_seed_and_tallies(
+    answer: &mut Vec<u8>,
+    seed: u64,
+    tallies: Option<Tallies>,
+) -> Result<(), Memory>
+    ensures { OnOk result (answer.new.items ≡ answer.old.items ++ (seed_line seed ++ option_map_or tallies_lines tallies [])) }
+{
+    add_seed(answer, seed)?;
+    match tallies {
+        Some(tallies) => tallies.add_to(answer),
+        None => Ok(()),
+    }
 }

@@ -134,10 +134,26 @@ fn run_schedule<Q: Source>(
     ensures read { IsErrOf result (RunFault.Read Input.Schedule) → Q.failed schedule.new ≢ Q.failed schedule.old }
     ensures fault { IfErr result IsScheduledFault }
 {
+    let events = scheduled_events(alloc, schedule)?;
+    Ok(replay_events(alloc, begun, &events)?)
+}
+
+/// Reads the events of a schedule.
+pub(crate) fn scheduled_events<Q: Source>(
+    alloc: Global,
+    schedule: &mut Q,
+) -> Result<Vec<Event>, RunFault>
+    ensures told { IfOk result (λ events. IfSome (Q.remaining schedule.old) (λ lines. IsSchedule lines events.items)) }
+    ensures line { (n : ℕ) → IsErrOf result (RunFault.Schedule n) → IfSome (Q.remaining schedule.old) (λ lines. IsFirstMalformed lines n) }
+    ensures rest { OnOk result (LeavesRest MAX_SCHEDULE_READ (Q.remaining schedule.old) (Q.remaining schedule.new)) }
+    ensures most { TakesAtMost MAX_SCHEDULE_READ (Q.remaining schedule.old) (Q.remaining schedule.new) }
+    ensures read { IsErrOf result (RunFault.Read Input.Schedule) → Q.failed schedule.new ≢ Q.failed schedule.old }
+    ensures fault { IfErr result IsScheduledFault }
+{
     a_front_tells_all();
     let bytes = read_up_to(alloc, schedule, MAX_SCHEDULE_READ, Input::Schedule)?;
     match read_schedule(alloc, &bytes) {
-        Ok(events) => Ok(replay_events(alloc, begun, &events)?),
+        Ok(events) => Ok(events),
         Err(ScheduleFault::Malformed(line)) => Err(RunFault::Schedule(line)),
         Err(ScheduleFault::Memory) => Err(RunFault::Memory),
     }
@@ -159,7 +175,7 @@ fn replay_events(alloc: Global, begun: &Begun, events: &[Event]) -> Result<Repor
 }
 
 /// Returns the status of a replay that stopped for this reason: `Found`, or `Empty` if there is none.
-fn status_of(halt: Option<Halt>) -> Status
+pub(crate) fn status_of(halt: Option<Halt>) -> Status
     ensures { result ≡ stop_status halt }
 {
     match halt {

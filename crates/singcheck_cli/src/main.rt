@@ -2,14 +2,16 @@
 #![tactic(auto)]
 
 mod numbers;
+mod run_answers;
 mod with_error;
 
 use crate::numbers::fault_of;
+use crate::run_answers::{ReplayOptions, SearchOptions, answer_explore, answer_replay, answer_run};
 use crate::with_error::WithError;
 use clap::error::{Error, ErrorKind};
 use singcheck::{
-    Ask, Counted, Detail, Input, Open, Place, RunFault, RunOptions, Sink, Status, Wanted, ask,
-    ending, run_bounds, run_check, run_explore, run_random, run_replay, run_why,
+    Ask, Counted, Input, Open, Place, RunFault, Sink, Status, ask, ending, run_bounds, run_check,
+    run_why,
 };
 use std::alloc::{AllocError, Global};
 use std::io::Write;
@@ -20,7 +22,7 @@ use std::thread::Threads;
 use std::{env, fs, io};
 
 /// Where the answer goes.
-type Output<O> = Counted<WithError<O>>;
+pub(crate) type Output<O> = Counted<WithError<O>>;
 
 fn main(rt: HostRuntime) -> ExitCode {
     let mut output = Counted::new(WithError::new(rt.stdout()));
@@ -103,7 +105,11 @@ fn answer_asked<R: AllocGlobal + Files + Eprint + Threads + Wait + Sync, O: Writ
             file,
             entry,
             schedule,
-        } => answer_replay(rt, file, entry, schedule, output, errors),
+            lines,
+        } => {
+            let wanted = ReplayOptions { schedule, lines };
+            answer_replay(rt, file, entry, &wanted, output, errors)
+        }
         Ask::Why { file, named } => answer_why(rt, file, named, output, errors),
         Ask::Run {
             file,
@@ -162,31 +168,6 @@ fn answer_check<R: AllocGlobal + Files + Eprint + Threads + Wait + Sync, O: Writ
     status(rt, answered, file, text.device.error, output, errors)
 }
 
-fn answer_replay<R: AllocGlobal + Files + Eprint, O: Write, E: Sink>(
-    rt: &R,
-    file: &str,
-    entry: &str,
-    schedule: &str,
-    output: &mut Output<O>,
-    errors: &mut E,
-) -> u8 {
-    let mut text = match fs::open(rt, file) {
-        Ok(text) => Counted::new(WithError::new(text)),
-        Err(error) => return unread(rt, Input::Text, file, error, errors),
-    };
-    let mut events = match fs::open(rt, schedule) {
-        Ok(events) => Counted::new(WithError::new(events)),
-        Err(error) => return unread(rt, Input::Schedule, schedule, error, errors),
-    };
-    let answered = run_replay(rt.alloc(), &mut text, entry.as_bytes(), &mut events, output);
-    let (name, error) = match answered {
-        Err(RunFault::Entry) => (entry, None),
-        Err(RunFault::Read(Input::Schedule)) => (schedule, events.device.error),
-        _ => (file, text.device.error),
-    };
-    status(rt, answered, name, error, output, errors)
-}
-
 fn answer_why<R: AllocGlobal + Files + Eprint, O: Write, E: Sink>(
     rt: &R,
     file: &str,
@@ -202,116 +183,9 @@ fn answer_why<R: AllocGlobal + Files + Eprint, O: Write, E: Sink>(
     status(rt, answered, file, text.device.error, output, errors)
 }
 
-/// What a search is asked for: the most worlds that it visits, and the file to which a schedule goes, if it is named.
-#[derive(Clone, Copy)]
-struct SearchOptions<'a> {
-    worlds: usize,
-    schedule: Option<&'a str>,
-}
-
-fn answer_run<R: AllocGlobal + Files + Eprint, O: Write, E: Sink>(
-    rt: &R,
-    file: &str,
-    entry: &str,
-    wanted: &Wanted<'_>,
-    output: &mut Output<O>,
-    errors: &mut E,
-) -> u8 {
-    let mut text = match fs::open(rt, file) {
-        Ok(text) => Counted::new(WithError::new(text)),
-        Err(error) => return unread(rt, Input::Text, file, error, errors),
-    };
-    let options = options_of(wanted);
-    let ran = run_random(rt.alloc(), &mut text, entry.as_bytes(), &options, output);
-    let (answered, schedule) = parts_of(ran);
-    let (name, error) = match answered {
-        Err(RunFault::Entry) => (entry, None),
-        _ => (file, text.device.error),
-    };
-    let status = status(rt, answered, name, error, output, errors);
-    // A text with findings has status 1, so with status 0 a run was printed.
-    if status == 0 && schedule.is_none() && wanted.schedule.is_some() {
-        let _ = rt.eprintln("singcheck: no schedule has that many events");
-    }
-    write_schedule(rt, wanted.schedule, schedule, status)
-}
-
-fn answer_explore<R: AllocGlobal + Files + Eprint, O: Write, E: Sink>(
-    rt: &R,
-    file: &str,
-    entry: &str,
-    options: &SearchOptions<'_>,
-    output: &mut Output<O>,
-    errors: &mut E,
-) -> u8 {
-    let mut text = match fs::open(rt, file) {
-        Ok(text) => Counted::new(WithError::new(text)),
-        Err(error) => return unread(rt, Input::Text, file, error, errors),
-    };
-    let ran = run_explore(
-        rt.alloc(),
-        &mut text,
-        entry.as_bytes(),
-        options.worlds,
-        output,
-    );
-    let (answered, schedule) = parts_of(ran);
-    let (name, error) = match answered {
-        Err(RunFault::Entry) => (entry, None),
-        _ => (file, text.device.error),
-    };
-    let status = status(rt, answered, name, error, output, errors);
-    write_schedule(rt, options.schedule, schedule, status)
-}
-
-/// Returns the status of a run, or its fault, and its schedule, if it has one.
-fn parts_of(
-    ran: Result<(Status, Option<Vec<u8>>), RunFault>,
-) -> (Result<Status, RunFault>, Option<Vec<u8>>) {
-    match ran {
-        Ok((status, schedule)) => (Ok(status), schedule),
-        Err(fault) => (Err(fault), None),
-    }
-}
-
-/// Returns the options of a random run.
-fn options_of(wanted: &Wanted<'_>) -> RunOptions {
-    RunOptions {
-        seed: wanted.seed as u64,
-        runs: wanted.runs as u64,
-        steps: wanted.steps as u64,
-        detail: if wanted.all {
-            Detail::Everything
-        } else {
-            Detail::Notable
-        },
-    }
-}
-
-/// Writes the schedule of a run to a file, if there is one and a file is named. Returns the status of the run, or 3 after two lines that
-/// say why the file cannot be written.
-fn write_schedule<R: AllocGlobal + Files + Eprint>(
-    rt: &R,
-    name: Option<&str>,
-    schedule: Option<Vec<u8>>,
-    status: u8,
-) -> u8 {
-    let (Some(name), Some(schedule)) = (name, schedule) else {
-        return status;
-    };
-    match fs::write(rt, name, &schedule) {
-        Ok(()) => status,
-        Err(error) => {
-            let _ = rt.eprintln(format_args!("singcheck: cannot write {name}"));
-            let _ = rt.eprintln(error);
-            3
-        }
-    }
-}
-
 /// Returns the exit status of a run, after writing the line of its fault, if it failed. If an input failed, `error` says why. A closed
 /// pipe has no line, since whoever closed it knows.
-fn status<R: Eprint, O: Write, E: Sink>(
+pub(crate) fn status<R: Eprint, O: Write, E: Sink>(
     rt: &R,
     answered: Result<Status, RunFault>,
     name: &str,
@@ -334,7 +208,7 @@ fn status<R: Eprint, O: Write, E: Sink>(
 }
 
 /// Writes that an input could not be opened, and why, and returns the exit status.
-fn unread<R: Eprint, E: Sink>(
+pub(crate) fn unread<R: Eprint, E: Sink>(
     rt: &R,
     input: Input,
     name: &str,

@@ -1,10 +1,10 @@
 use Rattle.std.proofs.Common.{◌∙◌, ap, codes}
 use Rattle.std.proofs.lemmas.Result.{IfOk-weaker}
-use Rattle.clap.specs.Words.{new_app, with_rule}
+use Rattle.clap.specs.Words.{App, new_app, with_rule}
 use Rattle.clap.specs.Simple.{app_of_fields}
 use Rattle.clap.specs.declared.builder.command.Command.{Command}
 use Rattle.clap.specs.declared.builder.command.Command.TheOpen.{Command-F}
-use Rattle.command_line.specs.Asking.{IsCommand, file_command, text_rule}
+use Rattle.command_line.specs.Asking.{IsCommand, flag_rule, text_rule}
 use Rattle.command_line.proofs.CommandLemmas.{with_arg}
 use Rattle.command_line.proofs.commands.replay_of.Goals as goal
 
@@ -14,6 +14,12 @@ returns c =
       same = ap app_of_fields c.after_help.ensures ∙ ap app_of_fields c.about.ensures ∙ c.new.ensures.app;
       local = ap (λ (f : Command-F Command). f.has_globals) c.after_help.ensures ∙ ap (λ (f : Command-F Command). f.has_globals) c.about.ensures ∙ c.new.ensures.local;
     } in
-    let file = with_arg (new_app (codes "replay")) (text_rule (codes "FILE")) c.after_help.result c.in_ok-arg.field-0 c.file_of.result bare c.file_of.ensures.rule c.file_of.ensures.local c.in_ok-arg.ensures in
-    let entry = with_arg (file_command (codes "replay")) (text_rule (codes "ENTRY")) c.in_ok-arg.field-0 c.in_ok-arg-2.field-0 c.entry_argument.result file c.entry_argument.ensures.rule c.entry_argument.ensures.local c.in_ok-arg-2.ensures in
-    IfOk-weaker c.arg-3.result _ _ (λ r h. with_arg (with_rule (file_command (codes "replay")) (text_rule (codes "ENTRY"))) (text_rule (codes "SCHEDULE")) c.in_ok-arg-2.field-0 r c.text_of.result entry c.text_of.ensures.rule c.text_of.ensures.local h) c.arg-3.ensures
+    let s0 = with_arg (new_app (codes "replay")) (text_rule (codes "FILE")) c.after_help.result c.in_ok-arg.field-0 c.file_of.result bare c.file_of.ensures.rule c.file_of.ensures.local c.in_ok-arg.ensures in
+    let a0 : App = with_rule (new_app (codes "replay")) (text_rule (codes "FILE")) in
+    let s1 = with_arg a0 (text_rule (codes "ENTRY")) c.in_ok-arg.field-0 c.in_ok-arg-2.field-0 c.entry_argument.result s0 c.entry_argument.ensures.rule c.entry_argument.ensures.local c.in_ok-arg-2.ensures in
+    let a1 : App = with_rule a0 (text_rule (codes "ENTRY")) in
+    let s2 = with_arg a1 (text_rule (codes "SCHEDULE")) c.in_ok-arg-2.field-0 c.in_ok-arg-3.field-0 c.text_of.result s1 c.text_of.ensures.rule c.text_of.ensures.local c.in_ok-arg-3.ensures in
+    let a2 : App = with_rule a1 (text_rule (codes "SCHEDULE")) in
+    let s3 = with_arg a2 (flag_rule (codes "trace")) c.in_ok-arg-3.field-0 c.in_ok-arg-4.field-0 c.flag_of.result s2 c.flag_of.ensures.rule c.flag_of.ensures.local c.in_ok-arg-4.ensures in
+    let a3 : App = with_rule a2 (flag_rule (codes "trace")) in
+    IfOk-weaker c.arg-5.result _ _ (λ r h. with_arg a3 (flag_rule (codes "all")) c.in_ok-arg-4.field-0 r c.all_argument.result s3 c.all_argument.ensures.rule c.all_argument.ensures.local h) c.arg-5.ensures

@@ -24,6 +24,6 @@ returns c =
     let a3 : App = with_rule a2 (number_rule (codes "steps")) in
     let s4 = with_arg a3 (number_rule (codes "runs")) c.in_ok-arg-4.field-0 c.in_ok-arg-5.field-0 c.number_of-3.result s3 c.number_of-3.ensures.rule c.number_of-3.ensures.local c.in_ok-arg-5.ensures in
     let a4 : App = with_rule a3 (number_rule (codes "runs")) in
-    let s5 = with_arg a4 (flag_rule (codes "all")) c.in_ok-arg-5.field-0 c.in_ok-arg-6.field-0 c.flag_of.result s4 c.flag_of.ensures.rule c.flag_of.ensures.local c.in_ok-arg-6.ensures in
+    let s5 = with_arg a4 (flag_rule (codes "all")) c.in_ok-arg-5.field-0 c.in_ok-arg-6.field-0 c.all_argument.result s4 c.all_argument.ensures.rule c.all_argument.ensures.local c.in_ok-arg-6.ensures in
     let a5 : App = with_rule a4 (flag_rule (codes "all")) in
     IfOk-weaker c.arg-7.result _ _ (λ r h. with_arg a5 (option_rule (codes "schedule")) c.in_ok-arg-6.field-0 r c.schedule_argument.result s5 c.schedule_argument.ensures.rule c.schedule_argument.ensures.local h) c.arg-7.ensures

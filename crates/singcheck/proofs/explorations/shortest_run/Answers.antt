@@ -16,7 +16,11 @@ pub returns-in-Deadlock : goal.returns-in-Deadlock
 returns-in-Deadlock c =
     let run = c.in_ok-run.run' in
     let words = tracer_words c.in_ok-tracer.tracer in
-    let agree : AgreeOnRuns = record { steps = c.events_agree.ensures.steps; graphs = c.events_agree.ensures.graphs } in
+    let agree : AgreeOnRuns = record {
+      steps = c.events_agree.ensures.steps;
+      graphs = c.events_agree.ensures.graphs;
+      lines = c.lines_are_of_runs.ensures;
+    } in
     let both : AgreeOnDeadlocks = record { leads = c.deadlocks_agree.ensures.leads; back = c.deadlocks_agree.ensures.back } in
     if_ok_three c.printed_run.result _ _ _ _ (λ ran lines status told text entry begun.
     Locks (locks_soonest agree both text entry c.args.begun.now begun words (c.in_ok-tracer.ensures.words text entry begun) run c.in_ok-run.ensures.run

@@ -18,7 +18,11 @@ returns-in_ok-run_begun-in-Ok-Some-clause-safe c =
     let entry = c.args.entry.now in
     let begun = subst (ComesIn text entry) c.in-Ok-Some.field-0-is c.in-Ok-Some.ensures.begun in
     let ran = c.in_ok-run_begun-in-Ok-Some.field-0 in
-    let agree : AgreeOnRuns = record { steps = c.events_agree.ensures.steps; graphs = c.events_agree.ensures.graphs } in
+    let agree : AgreeOnRuns = record {
+      steps = c.events_agree.ensures.steps;
+      graphs = c.events_agree.ensures.graphs;
+      lines = c.lines_are_of_runs.ensures;
+    } in
     let known : KnownOf text = record {
       formed = c.each_program_is_well_formed.ensures.formed text;
       sound = c.each_program_is_well_formed.ensures.sound text;

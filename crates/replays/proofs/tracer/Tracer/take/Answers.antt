@@ -6,21 +6,19 @@ use Rattle.machine.specs.Places.{process_place}
 use Rattle.machine.specs.Runs.{AreBounds, start_of}
 use Rattle.machine.specs.Views.{world_model}
 use Rattle.replays.specs.EventLines.{event_line, is_open_at}
-use Rattle.replays.specs.Journals.{HasLines, IsFaultAt}
+use Rattle.replays.specs.Journals.{HasLines}
 use Rattle.replays.specs.Telling.{tracer_words}
-use Rattle.replays.proofs.JournalLemmas.{of_ok, one_more, was_fault}
+use Rattle.replays.proofs.JournalLemmas.{of_ok, one_more, passed_refusal}
 use Rattle.replays.proofs.tracer.Tracer.take.Goals as goal
 
-pub returns-in_err-step-clause-faulty : goal.returns-in_err-step-clause-faulty
-returns-in_err-step-clause-faulty c = λ fault at is bound are.
-    let w = world_model c.args.journal.now.world in
-    let x = c.in_err-step.field-0.0 in
-    let after = world_model c.step.new.self in
+pub returns-in_err-step-clause-refused : goal.returns-in_err-step-clause-refused
+returns-in_err-step-clause-refused c =
+    let p = (tracer_words c.args.self.now).words.program in
     let e = c.args.event in
-    let tells = subst (λ p. (b : QueueBounds) → AreBounds p b
-    → TellsStep {X = Unit {0}} (Err x) (event_outcome p b w e) (process_place p w e.process) after) c.program-2.ensures c.in_err-step.ensures.tells in
-    subst (λ v. IsFaultAt (tracer_words c.args.self.now).words.program bound v e fault at) (sym c.in_err-step.ensures.same)
-    (was_fault _ c.from_residual.result x (tracer_words c.args.self.now).words.program bound w after e fault at c.from_residual.ensures.1 is (tells bound are))
+    let tells = subst (λ q. (b : QueueBounds) → AreBounds q b
+    → TellsStep {X = Unit {0}} (Err c.in_err-step.field-0.0) (event_outcome q b (world_model c.args.journal.now.world) e)
+    (process_place q (world_model c.args.journal.now.world) e.process) (world_model c.step.new.self)) c.program-2.ensures c.in_err-step.ensures.tells in
+    passed_refusal _ c.from_residual.result c.in_err-step.field-0.0 p _ _ e c.from_residual.ensures.1 c.in_err-step.ensures.same tells
 
 pub returns-in_err-step-clause-kept : goal.returns-in_err-step-clause-kept
 returns-in_err-step-clause-kept c = λ m other is bound are.
