@@ -7,6 +7,8 @@ import select
 import subprocess
 import tempfile
 
+from schedules import FORM
+
 HERE = pathlib.Path(__file__).resolve().parent
 PING = HERE / 'bounds' / 'ping' / 'input.sg'
 ANSWER = b'Ping: to Exp 1, to Imp 1\nok: 1 contracts\n'
@@ -18,12 +20,14 @@ STARTED = b'steps 0\nstop: end of schedule\nprocess 0 at 5:6, frames 1\n'
 WAITS = (SERVER / 'stdout').read_bytes()
 FOUND = b'1:10 S05 unexpected end\nfindings: 1\n'
 CANNOT_WRITE = b'singcheck: cannot write\n'
+NO_ENTRY = b'singcheck: no entry K.None\nentry: K.Main\n'  # of the server
 # For each command, arguments to which it has an answer.
 WORDS = {
     'bounds': ['bounds', PING],
     'check': ['check', PING],
     'why': ['why', WHY],
     'replay': ['replay', SERVER / 'input.sg', 'K.Main', SERVER / 'schedule'],
+    'replay with a trace': ['replay', SERVER / 'input.sg', 'K.Main', SERVER / 'schedule', '--trace'],
     'run': ['run', DEADLOCK, 'Ring.Main'],
     'explore': ['explore', DEADLOCK, 'Ring.Main'],
     'help': ['--help'],
@@ -77,6 +81,13 @@ def closed_error(command, program):
     return found + compared(run(*shut, command, 'nowhere.sg', *WORDS[command][2:]), b'', b'', 3)
 
 
+def full_error(program):
+    """If standard error is full, an entry and a schedule are refused without a word."""
+    full = ['bash', '-c', '"$0" "$@" 2>/dev/full', program]
+    found = compared(run(*full, *WORDS['replay'][:2], 'K.None', WORDS['replay'][3]), b'', b'', 2)
+    return found + compared(run(*full, *WORDS['replay'][:3], WORDS['replay'][1]), b'', b'', 2)
+
+
 def check_of_nothing(program):
     return compared(run(program, 'check', 'nowhere.sg', '--workers', '0'), b'', cannot_read('nowhere.sg', errno.ENOENT), 3)
 
@@ -95,7 +106,7 @@ def null(program):
 def without_end(program):
     """Reading stops one byte past the greatest size of a text or a schedule."""
     found = compared(run(program, 'check', '/dev/zero'), b'1:1 S03 text too long\nfindings: 1\n', b'', 1)
-    return found + compared(run(program, *WORDS['replay'][:3], '/dev/zero'), b'', b'singcheck: schedule line 1\n', 2)
+    return found + compared(run(program, *WORDS['replay'][:3], '/dev/zero'), b'', b'singcheck: schedule line 1\n' + FORM, 2)
 
 
 def piped(program, words, place, answer):
@@ -114,6 +125,20 @@ def pipes_by_name(program):
     return found + [other for place in (1, 3) for other in piped(program, WORDS['replay'], place, (WAITS, b'', 1))]
 
 
+def no_entry_of_a_piped_text(program):
+    """An unknown entry of a text that comes through a named pipe is refused, and nothing waits for the text to come a second time."""
+    with tempfile.TemporaryDirectory() as made:
+        path = os.path.join(made, 'pipe')
+        os.mkfifo(path)
+        feeder = subprocess.Popen(['bash', '-c', 'cat "$0" > "$1"', str(DEADLOCK), path])
+        try:
+            ran = run(program, 'run', path, 'Ring.None')
+        finally:
+            feeder.wait()
+        line = ran.stderr.startswith(b'singcheck: no entry Ring.None\n')
+        return [] if line and (ran.stdout, ran.returncode) == (b'', 2) else ['%r' % ran]
+
+
 def standard_input(program):
     """The schedule comes from another program, through `/dev/stdin`."""
     ran = subprocess.run([program, *map(str, WORDS['replay'][:3]), '/dev/stdin'], input=(SERVER / 'schedule').read_bytes(),
@@ -128,7 +153,7 @@ def schedule_that_is_a_folder(program):
         short.write_bytes(b'class K {')
         found = compared(run(program, *WORDS['replay'][:3], made), b'', cannot_read(made, errno.EISDIR), 3)
         found += compared(run(program, 'replay', short, 'K.Main', made), FOUND, b'', 1)
-        return found + compared(run(program, *WORDS['replay'][:2], 'K.None', made), b'', b'singcheck: no entry K.None\n', 2)
+        return found + compared(run(program, *WORDS['replay'][:2], 'K.None', made), b'', NO_ENTRY, 2)
 
 
 def text_that_is_a_folder_and_no_schedule(program):
@@ -154,5 +179,5 @@ EACH = {full_device: WORDS, closed_pipe: WORDS, closed_output: WORDS, closed_err
 TESTS = [('devices/%s/%s' % (test.__name__, command), functools.partial(test, command))
          for test, commands in EACH.items() for command in commands]
 TESTS += [('devices/' + test.__name__, test) for test in
-          (check_of_nothing, null, without_end, pipes_by_name, standard_input, schedule_that_is_a_folder,
-           text_that_is_a_folder_and_no_schedule, unreadable)]
+          (full_error, check_of_nothing, null, without_end, pipes_by_name, no_entry_of_a_piped_text, standard_input,
+           schedule_that_is_a_folder, text_that_is_a_folder_and_no_schedule, unreadable)]

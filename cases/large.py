@@ -1,5 +1,6 @@
 """Makes cases with large inputs: at the limits of a text, of the states, methods and variables of a program, of a schedule, and of nested
 brackets."""
+from schedules import FORM
 
 TEXT = 4194304
 NOTHING = b'ok: 0 contracts\n'
@@ -67,12 +68,13 @@ def explained():
         ('steps_19999_explained', uses(19999).replace(b'F(D*', b'F([Claims] D*'),
          b'5:1 A08 p still owned\n  3:13 p has a block\nfindings: 1\n', 1),
         ('lines_9999_explained', kept_behind(9998), why_kept_behind(9998), 1),
-        ('limit_of_bytes', b' ' * (TEXT + 1), b'1:1 S03 text too long\n  1:1 a text has at most 4194304 bytes\nfindings: 1\n', 1),
-        ('limit_of_states', chain(500001), b'1:%d N06 limit passed\n  1:%d a program has at most 500000 states\nfindings: 1\n'
+        ('limit_of_bytes', b' ' * (TEXT + 1), b'1:1 S03 text too long\n  1:1 a text may have at most 4194304 bytes\nfindings: 1\n', 1),
+        ('limit_of_states', chain(500001), b'1:%d N06 limit passed\n  1:%d a program may have at most 500000 states\nfindings: 1\n'
          % (PAST_STATES, PAST_STATES), 1),
-        ('limit_of_methods', methods(4097), b'4098:13 N06 limit passed\n  4098:13 a program has at most 4096 methods\nfindings: 1\n', 1),
+        ('limit_of_methods', methods(4097),
+         b'4098:13 N06 limit passed\n  4098:13 a program may have at most 4096 methods\nfindings: 1\n', 1),
         ('limit_of_variables', variables(1001),
-         b'1003:14 N06 limit passed\n  1003:14 a method has at most 1000 variables of the exchange heap\nfindings: 1\n', 1),
+         b'1003:14 N06 limit passed\n  1003:14 a method may have at most 1000 variables of the exchange heap\nfindings: 1\n', 1),
     ]
 
 
@@ -80,7 +82,7 @@ def schedules():
     """Returns schedules at the limit of bytes: (name, bytes, stdout, stderr, status). An event has four bytes and is a round of a loop."""
     rounds = b'0 0\n' * 262143
     steps = b'steps %d\nstop: end of schedule\nprocess 0 at 1:32, frames 1\n'
-    refused = b'singcheck: schedule line %d\n'
+    refused = b'singcheck: schedule line %d\n' + FORM
     return [
         ('schedule_1048576', rounds + b'0 0\n', steps % 262144, b'', 0),
         ('schedule_1048576_without_an_end', rounds + b'0  0', steps % 262144, b'', 0),

@@ -147,6 +147,7 @@ CASES = ('bounds/ping', 'bounds/burst', 'bounds/two_contracts', 'conditions/one_
          'ownership/all_owned_and_given_back', 'ownership/a_finding_in_each_of_two_methods',
          'replays/endpoint_in_its_own_queue', 'replays/sent_to_a_freed_peer', 'replays/queue_of_a_deleted_endpoint',
          'replays/message_taken_of_a_freed_peer', 'replays/server_and_client_to_the_end', 'replays/finding_of_names',
+         'replays/trace_of_a_server_and_a_client', 'replays/all_events', 'runs/seed_after_the_greatest_is_0',
          'fields/owning_field_outside_exchange', 'fields/endpoint_in_a_wrong_state_for_an_exchange',
          'fields/struct_sent_with_what_is_in_it', 'fields/replay_of_blocks_in_blocks', 'fields/replay_of_a_queue_deleted_with_its_block',
          'runs/process_that_waits_for_a_lost_end', 'runs/lost_end_of_the_shortest_deadlock', 'why/second_finding_named',

@@ -1,6 +1,7 @@
 """Tests `run` and `explore` on programs of the folder `runs`, which have no findings and mostly go wrong all the same, and on examples.
 
-Each written schedule is replayed: it ends in the world that the run has printed, and if that is a deadlock, no waiting process goes on. The
+Each written schedule is replayed: it ends in the world that the run has printed, and if that is a deadlock, no waiting process goes on.
+With `--trace` the replay begins with the lines of the run. The table of several runs is made again from runs with one seed each. The
 numbers of `DEADLOCKS` and `WORLDS` are those of a search written apart from the program. In programs without findings, the lost blocks are
 those that no block of a process leads to. Also tests command lines that are refused, and schedules that cannot be written."""
 import functools
@@ -51,7 +52,29 @@ WRONG = {
 ENTRIES = {**{name: entry for table in (DEADLOCKS, WORLDS, WRONG) for name, (entry, _) in table.items()},
            'clients': 'Shop.Main', 'join': 'Office.Main', 'list': 'Lists.Main', 'pipeline': 'Mill.Main'}
 LOOPS = 'class K { static void Main() { start Go(true); Go(true); } static void Go(bool b) { while (true) { if (b) { } } } }\n'
-FAILED = r'\nend: deadlock, after (\d+) events\n(?:P\d+ .* waits on .*\n)+(?:block .*\n)*chosen: \d+ conditions\nseed: (\d+)\n$'
+# The end of the answer to several runs if the printed one has met a deadlock. After the seed there is the table.
+FAILED = (r'\nend: deadlock, after (\d+) events\n(?:P\d+ .* waits on .*\n)+(?:block .*\n)*chosen: \d+ conditions\nseed: (\d+)\n'
+          r'((?:\d+ runs: .*\n)+)$')
+WAYS = ('every process has ended', 'deadlock', 'fault', 'still running')  # in which a run ends, in the order of the table
+# A program whose runs end in each of these ways, if they have few steps. No channel and no block passes between processes.
+EACH_WAY = '''rep struct D { int n; }
+contract W { out message M(); state S: M! -> E; state E: ; }
+class K {
+  static void Main() {
+    bool b = true;
+    while (b) { }
+    if (b) { return; }
+    if (b) {
+      W.Imp i; W.Exp e;
+      W.NewChannel(out i, out e);
+      switch receive { case i.M(): break; case i.ChannelClosed(): break; }
+      delete i; delete e;
+    }
+    D* in ExHeap p;
+    p.n = 1;
+  }
+}
+'''
 QUIET = ' (?:uses|takes) | leaves a scope$| constant condition$'  # in lines of events that only `--all` prints
 
 # Command lines that are refused with some text, for a program with the entry `K.Main`.
@@ -60,17 +83,26 @@ REFUSED = ['run', 'explore', 'run method.sg', 'explore method.sg', 'run method.s
            'explore method.sg K.Main --seed 1', 'explore method.sg K.Main --all', 'run method.sg K.Main --seed -1',
            'run method.sg K.Main --seed x', 'run method.sg K.Main --steps', 'run method.sg K.Main --schedule',
            'run method.sg K.Main --seed 18446744073709551616', 'run method.sg K.Main --steps=18446744073709551616',
-           'run method.sg K.Main --runs=99999999999999999999', 'explore method.sg K.Main --worlds 18446744073709551616']
+           'run method.sg K.Main --runs=99999999999999999999', 'explore method.sg K.Main --worlds 18446744073709551616',
+           'run method.sg K.Main --trace', 'explore method.sg K.Main --trace', 'replay method.sg K.Main --trace',
+           'replay method.sg K.Main --all', 'replay method.sg K.Main no_events --trace=1', 'replay method.sg K.Main no_events --all=x',
+           'replay method.sg K.Main no_events --trace --trace', 'replay method.sg K.Main no_events --all --all',
+           'replay method.sg K.Main no_events --trace more', 'replay method.sg K.Main no_events --seed 1',
+           'replay method.sg K.Main no_events --runs 2', 'replay method.sg K.Main no_events --schedule again', 'bounds method.sg --trace',
+           'check method.sg --all', 'replay method.sg K.Main no_events --traces', 'replay method.sg K.Main no_events -trace']
 
 
 def cases(folder):
     """Writes the inputs to this folder, and returns the cases: (name, folder, arguments, stdout, stderr, status)."""
     (folder / 'method.sg').write_text('class K { static void Main() { } static int Number() { return 1; } }\n')
+    (folder / 'no_events').write_text('')
     made = [("runs/refused '%s'" % words, folder, words.split(), b'', None, 2) for words in REFUSED]
-    for command in ('run', 'explore'):
-        for entry in ('K.Nothing', 'K.Number', 'Main'):
-            refused = b'singcheck: no entry %s\n' % entry.encode()
-            made.append(('runs/%s of %s' % (command, entry), folder, [command, 'method.sg', entry], b'', refused, 2))
+    reason = 'K.Number has parameters or a result, so no run begins with it\n'
+    for command, more in (('run', []), ('explore', []), ('replay', ['no_events']), ('replay', ['no_events', '--trace'])):
+        for entry, why in (('K.Nothing', ''), ('K.Number', reason), ('Main', '')):
+            refused = 'singcheck: no entry %s\n%sentry: K.Main\n' % (entry, why)
+            words = [command, 'method.sg', entry, *more]
+            made.append(("runs/no entry '%s'" % ' '.join(words), folder, words, b'', refused.encode(), 2))
     return made
 
 
@@ -115,13 +147,23 @@ def waits(program, text, entry, schedule, process):
     return False
 
 
+def traced(program, text, entry, schedule, answer, flag):
+    """Returns how the replay of a schedule with this flag differs from the lines of the run that wrote it, then those of the replay without
+    the flag, and then the number of conditions. The answer of the run has lines for the same events."""
+    replay, status = printed(program, 'replay', text, entry, schedule)
+    lines, chosen = answer.split('end: ')[0], re.search(r'^chosen: .*\n', answer, re.M)[0]
+    given = printed(program, 'replay', text, entry, schedule, *flag.split())
+    return [] if given == (lines + replay + chosen, status) else ['%s: %s' % (flag, given[0]), lines + replay + chosen]
+
+
 def replayed(program, text, entry, schedule, answer):
-    """Returns how the replay of a schedule differs from the run that wrote it and printed this answer."""
+    """Returns how the replay of a schedule differs from the run that wrote it and printed this answer, also with `--trace`."""
     end, events = re.search(r'^end: (.*), after (\d+) events$', answer, re.M).groups()
     lines, status = printed(program, 'replay', text, entry, schedule)
     stop = 'stop: ' + (end if end.startswith('fault ') else 'end of schedule')
     alike = lines.split('\n')[:2] == ['steps ' + events, stop] and status == (stop != 'stop: end of schedule')
     found = [] if alike and world_of_run(answer.split('\n')) == world_of_replay(lines.split('\n')) else [answer + lines]
+    found += traced(program, text, entry, schedule, answer, '--trace')
     if end == 'deadlock':
         processes = [int(line.split()[0][1:]) for line in answer.split('\n') if ' waits on ' in line]
         found += ['process %d goes on' % one for one in processes if not waits(program, text, entry, schedule, one)]
@@ -129,7 +171,8 @@ def replayed(program, text, entry, schedule, answer):
 
 
 def failing_runs(name, program):
-    """One of a hundred runs ends in a deadlock, and only the last one is printed. With its seed alone, the same run is printed."""
+    """Some of a hundred runs end in a deadlock, and a shortest of these is printed, which is in the table. With its seed alone, and without
+    `--runs`, the answer is the same without the table."""
     (entry, least), text = DEADLOCKS[name], text_of(name)
     with tempfile.TemporaryDirectory() as folder:
         schedule = pathlib.Path(folder) / 'schedule'
@@ -137,8 +180,69 @@ def failing_runs(name, program):
         end = re.search(FAILED, answer)
         if not end or status != 1 or int(end[1]) < least or not 1 <= int(end[2]) <= 100:
             return ['%s, status %d' % (answer, status)]
+        counts = re.findall(r'^(\d+) runs: ', end[3], re.M)
+        line = ' runs: deadlock, the shortest after %s events with seed %s\n' % (end[1], end[2])
+        found = [] if sum(map(int, counts)) == 100 and line in end[3] and 'fault' not in end[3] else [end[3]]
+        alone = answer.removesuffix(end[3])
         again = printed(program, 'run', '--seed', end[2], text, entry)
-        return ([] if again == (answer, 1) else ['%r' % (again,)]) + replayed(program, text, entry, schedule, answer)
+        found += [] if again == (alone, 1) else ['%r' % (again,)]
+        return found + replayed(program, text, entry, schedule, alone)
+
+
+def end_of(answer):
+    """Returns in which way the run of this answer has ended, and the number of its events."""
+    how, events = re.search(r'^end: (.*), after (\d+) events$', answer, re.M).groups()
+    return next(way for way in WAYS if how.startswith(way)), int(events)
+
+
+def several(answers):
+    """Returns what is printed of several runs, and the status: the answers to each of them alone come with their seeds, in their order."""
+    ends = [(*end_of(answer), at, seed) for at, (seed, (answer, _)) in enumerate(answers)]
+    table = ''
+    for way in WAYS:
+        runs = [(events, at, seed) for how, events, at, seed in ends if how == way]
+        table += '%d runs: %s, the shortest after %d events with seed %d\n' % (len(runs), way, min(runs)[0], min(runs)[2]) if runs else ''
+    failed = [(events, at) for how, events, at, _ in ends if how in ('deadlock', 'fault')]
+    answer, status = answers[min(failed)[1] if failed else -1][1]
+    return answer + table, status
+
+
+def table_again(program, text, entry, seeds, *more):
+    """Returns how the answer to runs with these seeds differs from what follows from a run with each seed, and the expected answer. With
+    one run, the answer is the same as without `--runs`."""
+    answers = [(seed, printed(program, 'run', text, entry, '--seed', seed, *more)) for seed in seeds]
+    asked = several(answers)
+    given = printed(program, 'run', text, entry, '--seed', seeds[0], '--runs', len(seeds), *more)
+    found = [] if given == asked else ['expected %s, given %s' % (asked, given)]
+    single = printed(program, 'run', text, entry, '--seed', seeds[0], '--runs', 1, *more)
+    return found + ([] if single == answers[0][1] else ['one run: %s' % single[0]]), asked[0]
+
+
+def table(name, program):
+    """The table of twenty runs, and which of them is printed, follow from twenty runs alone."""
+    entry = (DEADLOCKS.get(name) or WRONG[name])[0]
+    return table_again(program, text_of(name), entry, SEEDS, '--steps', 200)[0]
+
+
+def table_of_each_way(program):
+    """A table has a line for each way in which runs end, in one order. The seed after the greatest is 0."""
+    with tempfile.TemporaryDirectory() as folder:
+        text = pathlib.Path(folder) / 'ways.sg'
+        text.write_text(EACH_WAY)
+        found, lines = table_again(program, text, 'K.Main', range(1, 61), '--steps', 8)
+        found += [] if re.findall(r'^\d+ runs: (.*), the shortest', lines, re.M) == list(WAYS) else [lines]
+        return found + table_again(program, text, 'K.Main', [2 ** 64 - 2, 2 ** 64 - 1, 0, 1, 2], '--all')[0]
+
+
+def schedule_of_the_printed_run(program):
+    """The schedule of several runs is that of the printed one."""
+    with tempfile.TemporaryDirectory() as folder:
+        one, many, text = (pathlib.Path(folder) / name for name in ('one', 'many', 'ways.sg'))
+        text.write_text(EACH_WAY)
+        answer, _ = printed(program, 'run', text, 'K.Main', '--runs', 20, '--schedule', many)
+        seed = re.search(r'^seed: (\d+)$', answer, re.M)[1]
+        printed(program, 'run', text, 'K.Main', '--seed', seed, '--schedule', one)
+        return [] if one.read_text() == many.read_text() != '' else ['seed %s: %r, %r' % (seed, one.read_text(), many.read_text())]
 
 
 def shortest_deadlock(name, program):
@@ -198,16 +302,22 @@ def wrong_run(name, program):
 
 
 def every_event(name, program):
-    """With `--all` each event has a line, without it each notable one. The number of conditions is that of their lines."""
+    """With `--all` each event has a line, without it each notable one; the same in a replay. The number of conditions is that of their
+    lines."""
     entry, text = (DEADLOCKS.get(name) or WRONG[name])[0], text_of(name)
     found = []
-    for seed in SEEDS[:5]:
-        whole, few = (printed(program, 'run', text, entry, '--seed', seed, '--steps', 200, *more)[0] for more in (['--all'], []))
-        lines, rest = whole.split('end: ')
-        notable = ''.join(line for line in lines.splitlines(True) if not re.search(QUIET, line))
-        alike = rest.split(', after ')[1].startswith('%d events\n' % lines.count('\n')) and notable + 'end: ' + rest == few
-        chosen = '\nchosen: %d conditions\n' % len(re.findall(' condition (?:true|false)$', lines, re.M))
-        found += [] if alike and chosen in whole else [whole + few]
+    with tempfile.TemporaryDirectory() as folder:
+        schedule = pathlib.Path(folder) / 'schedule'
+        for seed in SEEDS[:5]:
+            asked = ['run', text, entry, '--seed', seed, '--steps', 200, '--schedule', schedule]
+            whole, few = (printed(program, *asked, *more)[0] for more in (['--all'], []))
+            lines, rest = whole.split('end: ')
+            notable = ''.join(line for line in lines.splitlines(True) if not re.search(QUIET, line))
+            alike = rest.split(', after ')[1].startswith('%d events\n' % lines.count('\n')) and notable + 'end: ' + rest == few
+            chosen = '\nchosen: %d conditions\n' % len(re.findall(' condition (?:true|false)$', lines, re.M))
+            found += [] if alike and chosen in whole else [whole + few]
+            for flag, answer in (('--trace', few), ('--all', whole), ('--trace --all', whole)):
+                found += traced(program, text, entry, schedule, answer, flag)
     return found
 
 
@@ -281,6 +391,7 @@ def schedule_not_written(program):
 
 TESTS = [('runs/%s/%s' % (test.__name__, name), functools.partial(test, name)) for test, names in (
     (failing_runs, DEADLOCKS), (shortest_deadlock, DEADLOCKS), (all_worlds, WORLDS), (wrong_run, WRONG), (marked_blocks, ENTRIES),
-    (every_event, ('transfers_that_cross', 'session_that_spins', 'stack_deleted_with_its_nodes'))) for name in names]
+    (every_event, ('transfers_that_cross', 'session_that_spins', 'stack_deleted_with_its_nodes')),
+    (table, ('transfers_that_cross', 'ring_without_a_token', 'session_that_spins', 'close_counted_three_times'))) for name in names]
 TESTS += [('runs/' + test.__name__, test) for test in (
-    chances, fault_in_a_schedule, schedule_kept, schedule_too_long, schedule_not_written)]
+    table_of_each_way, schedule_of_the_printed_run, chances, fault_in_a_schedule, schedule_kept, schedule_too_long, schedule_not_written)]

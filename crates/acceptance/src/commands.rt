@@ -1,7 +1,8 @@
 //! Command lines, and how a run that gave up ends.
 
 use crate::failing_devices::Page;
-use singcheck::{Ask, Input, Place, RunFault, ask, ending};
+use singcheck::{Ask, Input, Lines, Place, RunFault, ask, ending};
+use std::alloc::Global;
 use std::test::Fail;
 
 const NEVER: u64 = 0;
@@ -97,17 +98,58 @@ fn asks_why_at_a_place(rt: HostRuntime) -> Result<(), Fail> {
     Ok(())
 }
 
+/// Returns a replay that prints these events.
+fn replay_with<'a>(lines: Lines) -> Ask<'a> {
+    Ask::Replay {
+        file: "a.sg",
+        entry: "K.Main",
+        schedule: "a.txt",
+        lines,
+    }
+}
+
 #[test]
 fn asks_for_a_replay(rt: HostRuntime) -> Result<(), Fail> {
     let words = ["singcheck", "replay", "a.sg", "K.Main", "a.txt"];
     let asked = ask(rt.alloc(), words.as_slice())?;
-    let wanted = Ask::Replay {
-        file: "a.sg",
-        entry: "K.Main",
-        schedule: "a.txt",
-    };
-    assert!(rt; asked == wanted);
+    assert!(rt; asked == replay_with(Lines::Silent));
     let missing = ["singcheck", "replay", "a.sg", "K.Main"];
+    assert!(rt; ask(rt.alloc(), missing.as_slice()).is_err());
+    Ok(())
+}
+
+/// Returns whether `replay a.sg K.Main a.txt`, with these words in front and behind, asks for the lines of these events.
+fn asks_for_lines(alloc: Global, front: &str, behind: &str, lines: Lines) -> Result<bool, Fail> {
+    let words = [
+        "singcheck",
+        "replay",
+        front,
+        "a.sg",
+        "K.Main",
+        "a.txt",
+        behind,
+    ];
+    Ok(ask(alloc, words.as_slice())? == replay_with(lines))
+}
+
+#[test]
+fn asks_for_a_trace(rt: HostRuntime) -> Result<(), Fail> {
+    let behind = ["singcheck", "replay", "a.sg", "K.Main", "a.txt", "--trace"];
+    assert!(rt; ask(rt.alloc(), behind.as_slice())? == replay_with(Lines::Notable));
+    let within = ["singcheck", "replay", "a.sg", "--all", "K.Main", "a.txt"];
+    assert!(rt; ask(rt.alloc(), within.as_slice())? == replay_with(Lines::Everything));
+    assert!(rt; asks_for_lines(rt.alloc(), "--all", "--trace", Lines::Everything)?);
+    assert!(rt; asks_for_lines(rt.alloc(), "--trace", "--all", Lines::Everything)?);
+    Ok(())
+}
+
+#[test]
+fn refuses_traces_of_other_commands(rt: HostRuntime) -> Result<(), Fail> {
+    let run = ["singcheck", "run", "a.sg", "K.Main", "--trace"];
+    assert!(rt; ask(rt.alloc(), run.as_slice()).is_err());
+    let explore = ["singcheck", "explore", "a.sg", "K.Main", "--all"];
+    assert!(rt; ask(rt.alloc(), explore.as_slice()).is_err());
+    let missing = ["singcheck", "replay", "a.sg", "K.Main", "--trace"];
     assert!(rt; ask(rt.alloc(), missing.as_slice()).is_err());
     Ok(())
 }

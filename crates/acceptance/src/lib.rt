@@ -8,6 +8,8 @@ mod checks;
 #[cfg(test)]
 mod commands;
 #[cfg(test)]
+mod entry_lines;
+#[cfg(test)]
 mod failing_devices;
 #[cfg(test)]
 mod faults;
@@ -29,3 +31,5 @@ mod shelves;
 mod shown;
 #[cfg(test)]
 mod texts;
+#[cfg(test)]
+mod traced_replays;

@@ -17,7 +17,7 @@ const CLEAN_ANSWER: &str = "ok: 0 contracts, 1 methods\n";
 const BACKWARDS: &str = "contract A { in message X(); state S: X! -> T; state T: ; }";
 
 const BACKWARDS_ANSWER: &str =
-    "1:39 C01 X against its direction\n  1:39 an in message takes ?\nfindings: 1\n";
+    "1:39 C01 X against its direction\n  1:39 an in message is followed by ?\nfindings: 1\n";
 
 const ROUND: &str = "contract A { in message X(); state S: X? -> S; }";
 
@@ -33,7 +33,7 @@ const BOTH_ANSWER: &str =
 const CUT: &str = "class K {";
 
 const CUT_ANSWER: &str =
-    "1:10 S05 unexpected end\n  1:10 expected an access word, static or }\n  1:9 { is not closed\nfindings: 1\n";
+    "1:10 S05 unexpected end\n  1:10 expected an access modifier, static or }\n  1:9 { is not closed\nfindings: 1\n";
 
 const CUT_ELSEWHERE: &str = "1:10 S05 unexpected end\nfindings: 1\n";
 

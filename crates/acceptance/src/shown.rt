@@ -96,7 +96,11 @@ fn a_sign_an_earlier_edge_and_a_ring(rt: HostRuntime) -> Result<(), Fail> {
     let text = "contract M { out message A();
 state S: one { A? -> S; A! -> S; } }";
     let rows = [
-        (Code::C01, 16, "2:16\n  2:16 an out message takes !\n"),
+        (
+            Code::C01,
+            16,
+            "2:16\n  2:16 an out message is followed by !\n",
+        ),
         (Code::C02, 25, "2:25\n  2:16 A? -> S\n"),
         (Code::C04, 7, "2:7\n  2:25 A! -> S\n"),
         (Code::C02, 16, "2:16\n"),
