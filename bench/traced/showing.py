@@ -5,7 +5,7 @@ from types import SimpleNamespace
 from traced.reading import ACCESS, Reader, tokens_of
 
 Edge = collections.namedtuple('Edge', 'start message sign end place')
-TAKES = {'in': 'an in message takes ?', 'out': 'an out message takes !'}
+TAKES = {'in': 'an in message is followed by ?', 'out': 'an out message is followed by !'}
 
 
 class Contracts(Reader):
