@@ -92,15 +92,5 @@ def theorem_page_is_made(_):
     return [] if ran.returncode == 0 else [ran.stdout.decode()]
 
 
-def times_are_on_one_page(_):
-    """How long a build or a gate takes is said on the page of performance. Whatever else speaks of a build gives no minutes or hours."""
-    others = [page for page in PAGES if page.name not in ('PERFORMANCE.md', 'CHANGELOG.md', 'RELIABILITY.md')]
-    others += [TOP / name for name in ('build', 'singcheck', 'test', 'edits', 'tools/check', 'tools/lsp', 'tools/reports.py')]
-    time = re.compile(r'(?i)\b([\d.]+|an?|one|two|three|four|ten|half an) (minute|hour)s?\b')
-    lines = [(path, line) for path in others for line in path.read_text().splitlines() if time.search(line)]
-    return ['%s: %s' % (path.relative_to(TOP), line) for path, line in lines if re.search(r'\./(build|test|singcheck)|--unproved', line)]
-
-
 TESTS = commands() + [('documents/' + test.__name__, test) for test in
-                      (first_page_is_short, texts_of_the_tour_are_examples, links_lead_somewhere, theorem_page_is_made,
-                       times_are_on_one_page)]
+                      (first_page_is_short, texts_of_the_tour_are_examples, links_lead_somewhere, theorem_page_is_made)]

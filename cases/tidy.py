@@ -107,7 +107,11 @@ abbrev pub typed : Kind → List Symbol
 typed kind = []
 """
 PAGE = 'See `low/src/lib.rt`, `low/src/gone.rt`, `old/src/lib.rt`, `low::sum`, `low::missing`, `out/program` and `NAME/src/lib.rt`.\n'
+MINUTES, HOURS = 'minutes', 'hours'  # names, since the rule finds a number of them in this file too
+SLOW = 'The gate takes\n20 processor %s.\n\n- A proof.\n- A run of 2 %s.\n| 3 %s | a test |\n' % (MINUTES, HOURS, HOURS)
 FILES = {'crates.txt': 'low:\nhigh: low\n', 'README.md': PAGE, 'docs/ARCHITECTURE.md': GLOSSARY,
+         **{page: SLOW for page in ('docs/TOUR.md', 'docs/PERFORMANCE.md', 'CHANGELOG.md')},
+         'docs/low.1': 'It is built in ten %s.\n' % MINUTES, 'tools/slow.py': '"""Is tested\nfor four %s."""\n' % HOURS,
          'crates/low/src/lib.rt': CODE, 'crates/low/src/named.rt': NAMED, 'crates/low/src/given.rt': GIVEN, 'crates/high/src/lib.rt': OTHER,
          'crates/low/specs/Shapes.antt': SHAPES, 'crates/high/specs/Shapes.antt': RELATIONS,
          'crates/low/specs/Wide.antt': DEFINITION, 'crates/low/specs/Gives.antt': GIVES,
@@ -131,7 +135,10 @@ FOUND = ['crates/low/src/lib.rt:3 no doc comment on Bare, it is public',
          'crates/low/specs/Gives.antt:1 place_in gives Span, the glossary has Place',
          'bench/times.py:1 wide line in a script, 141 columns', 'README.md:1 unknown name low/src/gone.rt, nothing here is called so',
          'README.md:1 unknown name old/src/lib.rt, nothing here is called so',
-         'README.md:1 unknown name low::missing, nothing here is called so']
+         'README.md:1 unknown name low::missing, nothing here is called so',
+         *('%s time of a proof (%s %s), docs/PERFORMANCE.md has such times' % it for it in
+           (('docs/TOUR.md:2', '20 processor', MINUTES), ('docs/TOUR.md:6', 3, HOURS), ('docs/low.1:1', 'ten', MINUTES),
+            ('tools/slow.py:2', 'four', HOURS)))]
 
 
 def run(top, *words):
