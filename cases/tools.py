@@ -139,11 +139,13 @@ def report_not_whole(_):
 
 
 def run_of_a_schedule(program):
-    """What `replay` prints of a run is not a report, whole or not. The report that it prints in place of a run is one."""
+    """What `replay`, `run` and `explore` print of a run is not a report, whole or not. The report that is printed in place of one is."""
     words = [program, 'replay', 'examples/hand_over.sg', 'Desk.Main', 'examples/hand_over.schedule']
     printed = subprocess.run(words, cwd=TOP, capture_output=True, timeout=60).stdout
-    refused = b'show: this is a run, printed by replay; give a report of check, why or bounds\n'
-    runs = [printed, b'steps 0\nstop: fault F1 at 1:1 in process 0\nprocess 0 at 1:1, frames 1\n', b'steps 12\nstop: ']
+    refused = b'show: this is a run, printed by replay, run or explore; give a report of check, why or bounds\n'
+    runs = [printed, b'steps 0\nstop: fault F1 at 1:1 in process 0\nprocess 0 at 1:1, frames 1\n', b'steps 12\nstop: ',
+            b'P0 1:2 ended\nsteps 1\nstop: end of schedule\n', b'P0 1:2 starts P1: A.B\nP1 2:3 ended\nend: deadlock, after 2 events\n',
+            b'end: still running, after 0 events\n', b'no deadlock in all 4 worlds\n', b'no deadlock within 2 worlds\n']
     found = [found for report in runs for words in ([], ['--plain']) for found in differs(show(b'', report, *words), b'', refused, 3)]
     words = [program, 'replay', 'input.sg', 'K.Main', '/dev/null']
     report = subprocess.run(words, cwd=TOP / 'cases/text/trailing_comma', capture_output=True, timeout=60).stdout
